@@ -7,9 +7,9 @@ pub mod SplitPlacement
 pub mod Hints
 pub mod Cuts
 pub mod Weights
--- Admit
--- Place
--- Build
--- Entry
--- Lines
--- Promised
+pub mod Admit
+pub mod Place
+pub mod Build
+pub mod Entry
+pub mod Lines
+pub mod Promised
