@@ -1,0 +1,21 @@
+mod Cases
+pub mod Cuts
+pub mod Scans
+pub mod Counts
+pub mod Moves
+pub mod Fits
+pub mod Fuel
+pub mod Places
+pub mod Points
+pub mod Entries
+pub mod Classes
+pub mod ReadBack
+pub mod Admission
+pub mod Accepted
+pub mod Order
+pub mod Same
+pub mod Printed
+pub mod Runs
+pub mod Sets
+pub mod Owned
+pub mod Promises

@@ -1,0 +1,187 @@
+-- What a move says of the uses that it was made from: the use to turn is a class use; the start of a cut is a class use, and lies before the cut. Assumes nothing.
+use mathlib.Core.Path.{_≡_, refl, ap, sym, _∙_}
+use Prim.Native.Nat.{ℕ, zero, suc, _+_, _-_, _≤_, _<_}
+use native.Mathlib.Omega.{arith}
+use mathlib.Core.Bool.{Bool, true, false, cond, _&&_}
+use mathlib.Core.Option.{Option, none, some}
+use mathlib.Core.List.{List, [], _∷_, _++_, reverse}
+use lib.ListN.{length, getD, take, length-take, length-reverse}
+use lib.Seq.{getD-take, length-take-le}
+use lib.Dec.{leb, ltb, eqb}
+use lib.Ieee.{Float, lt}
+use borrow.Author.Tests.{ltb-true, ltb-false, leb-true, leb-false, eqb-true, eqb-false}
+use Rattle.definition.specs.Types.{BlockData, BlockparamIn, BlockparamOut, ClassDef, ClassUse, ConstraintConflict, FixedDef, FixedUse, GroupClassDef, GroupClassUse, Held, Job, State, Stop, TiedUse, TurnedDef, Use, UseKind}
+use Rattle.definition.specs.Uses.{isClassUse, isDef}
+use Rattle.definition.specs.SplitPlacement.{earliest, earlyCut, freqAt, keep, starts}
+use Rattle.definition.specs.Admit.{Move, Scan, admit, admitKind, cut, fails-at, fresh, fromEnd, fromStart, halt, later, move, noUse, onAdmit, parted, scan, through, turn, turning, useAt, whole}
+use Rattle.definition.proofs.Counts.{getD-reverse}
+
+-- ---- a scan fails at a class use
+
+kind-none : (job : Job) (st : State) (h : Held) (p : ℕ) (k : UseKind) → admitKind job st h p k ≡ none → isClassUse k ≡ true
+unfolding admitKind
+kind-none job st h p (FixedDef r) e = cc
+kind-none job st h p (FixedUse r) e = cc
+kind-none job st h p (TiedUse u d c i) e = cc
+kind-none job st h p ConstraintConflict e = cc
+kind-none job st h p (ClassUse s c) e = refl
+kind-none job st h p (ClassDef s c) e = refl
+kind-none job st h p (GroupClassUse s c i) e = refl
+kind-none job st h p (GroupClassDef s c i) e = refl
+kind-none job st h p (BlockparamIn q) e = cc
+kind-none job st h p BlockparamOut e = cc
+
+abbrev pub ClassAt : List Use → ℕ → Type 0
+ClassAt us n = (n < length us) × (isClassUse (useAt us n .kind) ≡ true)
+
+module _ (job : Job) (st : State) where
+  pub fails-class : (us : List Use) (h : Held) (n : ℕ) → scan job st us h ≡ fails-at n → ClassAt us n
+  unfolding scan admit
+  fails-class [] h n e = let z : _≡_ {A = ℕ} 0 1 = cc in absurd (omega arith)
+  fails-class (u ∷ us) h n e = go (admit job st h u) refl e (λ g m f. fails-class us g m f)
+    where
+      go : (o : Option Held) → admit job st h u ≡ o → onAdmit o (λ g. scan job st us g) ≡ fails-at n
+          → ((g : Held) (m : ℕ) → scan job st us g ≡ fails-at m → ClassAt us m) → ClassAt (u ∷ us) n
+      go none a f ih = let z : n ≡ 0 = cc in rw z (omega arith, kind-none job st h (u .inst) (u .kind) a)
+      go (some g) a f ih = back (scan job st us g) refl f
+        where
+          back : (r : Scan) → scan job st us g ≡ r → later r ≡ fails-at n → ClassAt (u ∷ us) n
+          back (through k) b c = let z : _≡_ {A = ℕ} 0 1 = cc in absurd (omega arith)
+          back (fails-at m) b c = let z : n ≡ suc m = cc in let q = ih g m b in rw z (omega arith, q .1)
+
+-- ---- the place of a cut
+
+abbrev Within : ℕ → ℕ → ℕ → Type 0
+Within lo hi x = (lo < x) × (x ≤ hi)
+
+abbrev AllWithin : ℕ → ℕ → List ℕ → Type 0
+AllWithin lo hi [] = Unit {0}
+AllWithin lo hi (x ∷ xs) = Within lo hi x × AllWithin lo hi xs
+
+either : (P : ℕ → Type 0) (b : Bool) (x y : ℕ) → P x → P y → P (cond b x y)
+either P true x y p q = p
+either P false x y p q = q
+
+earliest-in : (price : ℕ → Float) (lo hi c : ℕ) (ds : List ℕ) → Within lo hi c → AllWithin lo hi ds → Within lo hi (earliest price c ds)
+unfolding earliest
+earliest-in price lo hi c [] h k = h
+earliest-in price lo hi c (d ∷ ds) h k = earliest-in price lo hi _ ds (either (Within lo hi) (lt (price d) (price c)) d c (k .0) h) (k .1)
+
+keep-in : (lo hi : ℕ) (xs : List ℕ) → AllWithin lo hi (keep (λ i. ltb (suc lo) i && leb i hi) xs)
+unfolding keep
+keep-in lo hi [] = tt
+keep-in lo hi (x ∷ xs) = go (ltb (suc lo) x) (leb x hi) refl refl (keep-in lo hi xs)
+  where
+    go : (a b : Bool) → ltb (suc lo) x ≡ a → leb x hi ≡ b → AllWithin lo hi (keep (λ i. ltb (suc lo) i && leb i hi) xs)
+        → AllWithin lo hi (cond (a && b) (x ∷ keep (λ i. ltb (suc lo) i && leb i hi) xs) (keep (λ i. ltb (suc lo) i && leb i hi) xs))
+    go true true e f ih = let q : suc lo < x = ltb-true _ _ e in let r : x ≤ hi = leb-true _ _ f in ((omega arith, omega arith), ih)
+    go true false e f ih = ih
+    go false b e f ih = ih
+
+pub early-in : (bs : List BlockData) (a b : ℕ) → a < b → Within a b (earlyCut bs a b)
+unfolding earlyCut
+early-in bs a b h = earliest-in (λ i. freqAt bs i) a b (suc a) (keep (λ i. ltb (suc a) i && leb i b) (starts 0 bs)) (omega arith, omega arith) (keep-in a b (starts 0 bs))
+
+-- ---- moves
+
+pub record Clash (job : Job) (st : State) (top : ℕ) (us : List Use) (s e : ℕ) : Type 0 where
+  pub forward : scan job st us (fresh top) ≡ fails-at e
+  pub start : ClassAt us s
+  pub end : ClassAt us e
+  pub order : s ≤ e
+
+module _ (job : Job) (st : State) (top : ℕ) (us : List Use) where
+  -- the backward scan's start is a class use, at or before the end
+  start-of : (e j : ℕ) → scan job st us (fresh top) ≡ fails-at e → scan job st (reverse (take (suc e) us)) (fresh top) ≡ fails-at j → Clash job st top us (e - j) e
+  start-of e j f b =
+      let c = fails-class job st us (fresh top) e f in
+      let d = fails-class job st (reverse (take (suc e) us)) (fresh top) j b in
+      let l : length (take (suc e) us) ≡ suc e = length-take-le (suc e) us (omega arith) in
+      let m : j < length (take (suc e) us) = rw length-reverse at (d .0) in
+      let q : getD (reverse (take (suc e) us)) j noUse ≡ getD us (e - j) noUse =
+      getD-reverse (take (suc e) us) j noUse m ∙ ap (λ (i : ℕ). getD (take (suc e) us) i noUse) (omega arith) ∙ getD-take (suc e) us (e - j) noUse (omega arith) in
+      record { forward = f; start = (omega arith, rw q at (d .1)); end = c; order = omega arith }
+
+  turning-turn : (t n : ℕ) → turning us t ≡ turn n → n ≡ t
+  unfolding turning
+  turning-turn t n e = go (isDef (useAt us t .kind)) e
+    where
+      go : (b : Bool) → cond b (halt TurnedDef) (turn t) ≡ turn n → n ≡ t
+      go true f = cc
+      go false f = cc
+
+  turning-cut : (t p : ℕ) → turning us t ≡ cut p → ⊥
+  unfolding turning
+  turning-cut t p e = go (isDef (useAt us t .kind)) e
+    where
+      go : (b : Bool) → cond b (halt TurnedDef) (turn t) ≡ cut p → ⊥
+      go true f = let z : _≡_ {A = ℕ} 0 1 = cc in omega arith
+      go false f = let z : _≡_ {A = ℕ} 0 1 = cc in omega arith
+
+  -- where the start s and the end e lead
+  parted-turn : (s e n : ℕ) → Clash job st top us s e → parted job us s e ≡ turn n → ClassAt us n
+  unfolding parted
+  parted-turn s e n c f = go (eqb (useAt us s .inst) (useAt us e .inst)) f
+    where
+      go : (b : Bool) → cond b (turning us (cond (isDef (useAt us e .kind)) s e)) (cut (earlyCut (job .blocks) (useAt us s .inst) (useAt us e .inst))) ≡ turn n → ClassAt us n
+      go true g = rw (turning-turn _ n g) (either (ClassAt us) (isDef (useAt us e .kind)) s e (c .start) (c .end))
+      go false g = let z : _≡_ {A = ℕ} 0 1 = cc in absurd (omega arith)
+
+  parted-cut : (s e p : ℕ) → parted job us s e ≡ cut p → (useAt us s .inst ≡ useAt us e .inst → ⊥) × (p ≡ earlyCut (job .blocks) (useAt us s .inst) (useAt us e .inst))
+  unfolding parted
+  parted-cut s e p f = go (eqb (useAt us s .inst) (useAt us e .inst)) refl f
+    where
+      go : (b : Bool) → eqb (useAt us s .inst) (useAt us e .inst) ≡ b
+          → cond b (turning us (cond (isDef (useAt us e .kind)) s e)) (cut (earlyCut (job .blocks) (useAt us s .inst) (useAt us e .inst))) ≡ cut p
+          → (useAt us s .inst ≡ useAt us e .inst → ⊥) × (p ≡ earlyCut (job .blocks) (useAt us s .inst) (useAt us e .inst))
+      go true a g = absurd (turning-cut _ p g)
+      go false a g = (eqb-false _ _ a, cc)
+
+  pub move-turn : (n : ℕ) → move job st top us ≡ turn n → ClassAt us n
+  unfolding move
+  move-turn n m = go (scan job st us (fresh top)) refl m
+    where
+      go : (r : Scan) → scan job st us (fresh top) ≡ r → fromEnd job st top us r ≡ turn n → ClassAt us n
+      go (through h) a f = let z : _≡_ {A = ℕ} 0 1 = cc in absurd (omega arith)
+      go (fails-at e) a f = back (scan job st (reverse (take (suc e) us)) (fresh top)) refl f
+        where
+          back : (r : Scan) → scan job st (reverse (take (suc e) us)) (fresh top) ≡ r → fromStart job us e r ≡ turn n → ClassAt us n
+          back (through h) b g = let z : _≡_ {A = ℕ} 0 1 = cc in absurd (omega arith)
+          back (fails-at j) b g = parted-turn (e - j) e n (start-of e j a b) g
+
+  pub move-whole : (h : Held) → move job st top us ≡ whole h → scan job st us (fresh top) ≡ through h
+  unfolding move parted turning
+  move-whole h m = go (scan job st us (fresh top)) refl m
+    where
+      not-whole : (s e : ℕ) → parted job us s e ≡ whole h → ⊥
+      not-whole s e f = pick (eqb (useAt us s .inst) (useAt us e .inst)) (isDef (useAt us (cond (isDef (useAt us e .kind)) s e) .kind)) f
+        where
+          pick : (a b : Bool) → cond a (cond b (halt TurnedDef) (turn (cond (isDef (useAt us e .kind)) s e))) (cut (earlyCut (job .blocks) (useAt us s .inst) (useAt us e .inst))) ≡ whole h → ⊥
+          pick true true g = let z : _≡_ {A = ℕ} 0 1 = cc in omega arith
+          pick true false g = let z : _≡_ {A = ℕ} 0 1 = cc in omega arith
+          pick false b g = let z : _≡_ {A = ℕ} 0 1 = cc in omega arith
+
+      go : (r : Scan) → scan job st us (fresh top) ≡ r → fromEnd job st top us r ≡ whole h → scan job st us (fresh top) ≡ through h
+      go (through k) a f = let q : k ≡ h = cc in a ∙ ap through q
+      go (fails-at e) a f = absurd (back (scan job st (reverse (take (suc e) us)) (fresh top)) f)
+        where
+          back : (r : Scan) → fromStart job us e r ≡ whole h → ⊥
+          back (through k) g = let z : _≡_ {A = ℕ} 0 1 = cc in omega arith
+          back (fails-at j) g = not-whole (e - j) e g
+
+  abbrev pub CutAt : ℕ → Type 0
+  CutAt p =
+      (s : ℕ) × (e : ℕ) × Clash job st top us s e × (useAt us s .inst ≡ useAt us e .inst → ⊥)
+      × (p ≡ earlyCut (job .blocks) (useAt us s .inst) (useAt us e .inst))
+
+  pub move-cut : (p : ℕ) → move job st top us ≡ cut p → CutAt p
+  unfolding move
+  move-cut p m = go (scan job st us (fresh top)) refl m
+    where
+      go : (r : Scan) → scan job st us (fresh top) ≡ r → fromEnd job st top us r ≡ cut p → CutAt p
+      go (through h) a f = let z : _≡_ {A = ℕ} 0 1 = cc in absurd (omega arith)
+      go (fails-at e) a f = back (scan job st (reverse (take (suc e) us)) (fresh top)) refl f
+        where
+          back : (r : Scan) → scan job st (reverse (take (suc e) us)) (fresh top) ≡ r → fromStart job us e r ≡ cut p → CutAt p
+          back (through h) b g = let z : _≡_ {A = ℕ} 0 1 = cc in absurd (omega arith)
+          back (fails-at j) b g = let q = parted-cut (e - j) e p g in (e - j, e, start-of e j a b, q .0, q .1)

@@ -1,0 +1,402 @@
+-- The own pieces of a set in order: a list that the run makes as it goes. It is counted as the pieces in the tables are, its pieces follow each other,
+-- and its uses stand for those of the input, place by place. Assumes nothing.
+use mathlib.Core.Path.{_≡_, refl, ap, sym, _∙_, subst}
+use mathlib.Core.Logic.{inl, inr}
+use Prim.Native.Nat.{ℕ, zero, suc, _+_, _-_, _*_, _≤_, _<_}
+use native.Mathlib.Nat.{zero-add}
+use native.Mathlib.Omega.{arith}
+use mathlib.Core.Bool.{Bool, true, false, cond, _&&_, _||_}
+use mathlib.Core.Option.{Option}
+use mathlib.Core.List.{List, [], _∷_, _++_, append-assoc, append-nil}
+use lib.ListN.{length, getD, length-append, List·getD-append}
+use lib.Seq.{getD-append-add}
+use lib.Dec.{leb, ltb, eqb}
+use borrow.Author.Tests.{ltb-true, ltb-false, eqb-true, eqb-false, eq-eqb, ne-eqb}
+use Rattle.definition.specs.Types.{Held, Hint, Job, Origin, Piece, Register, Room, Segment, State, Turned, Use, done}
+use Rattle.definition.specs.RegInfo.{setOf, topOf}
+use Rattle.definition.specs.Uses.{isClassUse}
+use Rattle.definition.specs.Cuts.{leftCut, leftOf, rightCut, rightOf}
+use Rattle.definition.specs.Admit.{Move, cut, fresh, halt, move, noUse, turn, useAt, whole}
+use Rattle.definition.specs.Place.{place, total, usesOf}
+use Rattle.definition.specs.Build.{Built, Result, asOwn, build, buildSet, buildSets, classUses, empty, onto, placeFront, runs, sameInst, sameSet, step, steps, turnAt, turnIn, turnedAt, turnedUse}
+use Rattle.definition.specs.Entry.{behind, chained}
+use Rattle.definition.specs.Promised.{Follows, Listed, StandsFor, ofSet, under, valued}
+use Rattle.definition.proofs.Cuts.{uses-cut}
+use Rattle.definition.proofs.Moves.{ClassAt, move-whole, move-turn}
+use Rattle.definition.proofs.Fits.{SegsFit, turn-fit, right-fit}
+use Rattle.definition.proofs.Places.{total-append, counted, Groups, placed, scan-target, All, all-append}
+use Rattle.definition.proofs.Points.{bind-done, ofOwn, own-total, front-grown, conflicts-grown}
+use Rattle.definition.proofs.Entries.{and-both, Good, next-to, from-on}
+
+-- ---- uses, place by place
+
+listed-refl : (xs : List (ℕ × Use)) → Listed xs xs
+listed-refl [] = tt
+listed-refl (x ∷ xs) = ((refl, inl refl), listed-refl xs)
+
+stands-trans : (a b c : ℕ × Use) → StandsFor a b → StandsFor b c → StandsFor a c
+stands-trans a b c (e, inl f) (g, inl h) = (g ∙ e, inl (h ∙ f))
+stands-trans a b c (e, inl f) (g, inr h) = (g ∙ e, inr (subst (λ (u : Use). isClassUse (u .kind) ≡ true) f (h .0), h .1 ∙ ap turnedUse f))
+stands-trans a b c (e, inr f) (g, inl h) = (g ∙ e, inr (f .0, h ∙ f .1))
+stands-trans a b c (e, inr f) (g, inr h) =
+    let q : isClassUse (turnedUse (a .1) .kind) ≡ true = subst (λ (u : Use). isClassUse (u .kind) ≡ true) (f .1) (h .0) in
+    let z : _≡_ {A = ℕ} 0 1 = cc in absurd (omega arith)
+
+listed-trans : (xs ys zs : List (ℕ × Use)) → Listed xs ys → Listed ys zs → Listed xs zs
+listed-trans [] [] [] h k = tt
+listed-trans [] [] (z ∷ zs) h k = absurd k
+listed-trans [] (y ∷ ys) zs h k = absurd h
+listed-trans (x ∷ xs) [] zs h k = absurd h
+listed-trans (x ∷ xs) (y ∷ ys) [] h k = absurd k
+listed-trans (x ∷ xs) (y ∷ ys) (z ∷ zs) h k = (stands-trans x y z (h .0) (k .0), listed-trans xs ys zs (h .1) (k .1))
+
+listed-append : (xs ys vs ws : List (ℕ × Use)) → Listed xs ys → Listed vs ws → Listed (xs ++ vs) (ys ++ ws)
+listed-append [] [] vs ws h k = k
+listed-append [] (y ∷ ys) vs ws h k = absurd h
+listed-append (x ∷ xs) [] vs ws h k = absurd h
+listed-append (x ∷ xs) (y ∷ ys) vs ws h k = (h .0, listed-append xs ys vs ws (h .1) k)
+
+under-append : (v : ℕ) (us ws : List Use) → under v (us ++ ws) ≡ under v us ++ under v ws
+under-append v [] ws = refl
+under-append v (u ∷ us) ws = ap (λ (l : List (ℕ × Use)). (v, u) ∷ l) (under-append v us ws)
+
+valued-append : (ss rs : List Segment) → valued (ss ++ rs) ≡ valued ss ++ valued rs
+unfolding valued
+valued-append [] rs = refl
+valued-append (s ∷ ss) rs = ap (λ (l : List (ℕ × Use)). under (s .value) (s .uses) ++ l) (valued-append ss rs) ∙ sym (append-assoc (under (s .value) (s .uses)) (valued ss) (valued rs))
+
+-- ---- a cut keeps them; a turn marks one
+
+module _ (hs : List Hint) (p : ℕ) where
+  cut-valued : (ss : List Segment) → valued (leftCut hs p ss) ++ valued (rightCut hs p ss) ≡ valued ss
+  unfolding valued leftCut rightCut leftOf rightOf
+  cut-valued [] = refl
+  cut-valued (s ∷ ss) = go (leb (s .to) (4 * p)) (ltb (s .«from») (4 * p)) refl refl (cut-valued ss)
+    where
+      go : (a b : Bool) → leb (s .to) (4 * p) ≡ a → ltb (s .«from») (4 * p) ≡ b
+          → valued (leftCut hs p ss) ++ valued (rightCut hs p ss) ≡ valued ss
+          → valued (leftCut hs p (s ∷ ss)) ++ valued (rightCut hs p (s ∷ ss)) ≡ under (s .value) (s .uses) ++ valued ss
+      go true b e f ih = rw (e, leftCut, rightCut) (rw (append-assoc, ih))
+      go false true e f ih = rw (e, f, leftCut, rightCut) (rw (append-nil, ← append-assoc, ← under-append, uses-cut))
+      go false false e f ih = rw (e, f, leftCut, rightCut)
+
+under-turn : (v n : ℕ) (us : List Use) → ClassAt us n → Listed (under v us) (under v (turnIn n us))
+unfolding turnIn
+under-turn v n [] c = absurd (omega arith)
+under-turn v zero (u ∷ us) c = ((refl, inr (c .1, refl)), listed-refl (under v us))
+under-turn v (suc n) (u ∷ us) c = ((refl, inl refl), under-turn v n us (omega arith, c .1))
+
+turn-listed : (n : ℕ) (ss : List Segment) → ClassAt (usesOf ss) n → Listed (valued ss) (valued (turnAt n ss))
+unfolding valued turnAt usesOf
+turn-listed n [] c = absurd (omega arith)
+turn-listed n (s ∷ ss) c = go (ltb n (length (s .uses))) refl (λ d. turn-listed (n - length (s .uses)) ss d)
+  where
+    go : (b : Bool) → ltb n (length (s .uses)) ≡ b → (ClassAt (usesOf ss) (n - length (s .uses)) → Listed (valued ss) (valued (turnAt (n - length (s .uses)) ss)))
+        → Listed (under (s .value) (s .uses) ++ valued ss) (valued (turnAt n (s ∷ ss)))
+    go true e ih =
+        let l : n < length (s .uses) = ltb-true _ _ e in
+        let q : useAt (s .uses ++ usesOf ss) n ≡ useAt (s .uses) n = List·getD-append (s .uses) (usesOf ss) noUse n l in
+        let c′ : ClassAt (s .uses) n = (l, subst (λ (u : Use). isClassUse (u .kind) ≡ true) q (c .1)) in
+        rw (e, turnAt) (listed-append (under (s .value) (s .uses)) (under (s .value) (turnIn n (s .uses))) (valued ss) (valued ss) (under-turn (s .value) n (s .uses) c′) (listed-refl (valued ss)))
+    go false e ih =
+        let l : length (s .uses) ≤ n = ltb-false _ _ e in
+        let q : useAt (s .uses ++ usesOf ss) n ≡ useAt (usesOf ss) (n - length (s .uses)) =
+        ap (λ (i : ℕ). getD (s .uses ++ usesOf ss) i noUse) (omega arith) ∙ getD-append-add (s .uses) (usesOf ss) (n - length (s .uses)) noUse in
+        let c′ : ClassAt (usesOf ss) (n - length (s .uses)) = (omega (arith, length-append (s .uses) (usesOf ss)), subst (λ (u : Use). isClassUse (u .kind) ≡ true) q (c .1)) in
+        rw (e, turnAt) (listed-append (under (s .value) (s .uses)) (under (s .value) (s .uses)) (valued ss) (valued (turnAt (n - length (s .uses)) ss)) (listed-refl (under (s .value) (s .uses))) (ih c′))
+
+-- ---- segments that follow each other
+
+fit-follows : (q : ℕ) (ss : List Segment) → SegsFit q ss → Follows q ss
+fit-follows q [] h = tt
+fit-follows q (s ∷ ss) h = (h .0, h .1, fit-follows (s .to) ss (h .3))
+
+-- the part before a cut, and what is made of the part behind it
+cut-follows : (hs : List Hint) (p : ℕ) (made : List Segment) (ss : List Segment) (q : ℕ) → SegsFit q ss → ((r : ℕ) → SegsFit r (rightCut hs p ss) → Follows r made)
+    → Follows q (leftCut hs p ss ++ made)
+unfolding leftCut rightCut leftOf
+cut-follows hs p made [] q h f = f q tt
+cut-follows hs p made (s ∷ ss) q h f = go (leb (s .to) (4 * p)) (ltb (s .«from») (4 * p)) refl refl f (λ f′. cut-follows hs p made ss (s .to) (h .3) f′)
+  where
+    go : (a b : Bool) → leb (s .to) (4 * p) ≡ a → ltb (s .«from») (4 * p) ≡ b → ((r : ℕ) → SegsFit r (rightCut hs p (s ∷ ss)) → Follows r made)
+        → (((r : ℕ) → SegsFit r (rightCut hs p ss) → Follows r made) → Follows (s .to) (leftCut hs p ss ++ made)) → Follows q (leftCut hs p (s ∷ ss) ++ made)
+    go true b e g f ih =
+        let same : rightCut hs p (s ∷ ss) ≡ rightCut hs p ss = rw (e, rightCut) in
+        rw (e, leftCut) (h .0, h .1, ih (λ r k. f r (rw same k)))
+    go false true e g f ih = rw (e, g, leftCut) (h .0, ltb-true _ _ g, f (4 * p) (right-fit hs p (s ∷ ss) q h))
+    go false false e g f ih =
+        let same : rightCut hs p (s ∷ ss) ≡ s ∷ ss = rw (e, g, rightCut) in
+        rw (e, g, leftCut) (f q (rw same h))
+
+-- ---- the values that the segments are of
+
+abbrev pub AllOf : Job → ℕ → List Segment → Type 0
+AllOf job u ss = All (λ s. setOf job (s .value) ≡ u) ss
+
+cut-of : (job : Job) (u : ℕ) (hs : List Hint) (p : ℕ) (ss : List Segment) → AllOf job u ss → AllOf job u (leftCut hs p ss) × AllOf job u (rightCut hs p ss)
+unfolding leftCut rightCut leftOf rightOf
+cut-of job u hs p [] a = (tt, tt)
+cut-of job u hs p (s ∷ ss) a = go (leb (s .to) (4 * p)) (ltb (s .«from») (4 * p)) refl refl (cut-of job u hs p ss (a .1))
+  where
+    go : (b c : Bool) → leb (s .to) (4 * p) ≡ b → ltb (s .«from») (4 * p) ≡ c → AllOf job u (leftCut hs p ss) × AllOf job u (rightCut hs p ss)
+        → AllOf job u (leftCut hs p (s ∷ ss)) × AllOf job u (rightCut hs p (s ∷ ss))
+    go true c e f ih = rw (e, leftCut, rightCut) ((a .0, ih .0), ih .1)
+    go false true e f ih = rw (e, f, leftCut, rightCut) ((a .0, tt), (a .0, a .1))
+    go false false e f ih = rw (e, f, leftCut, rightCut) (tt, a)
+
+turn-of : (job : Job) (u n : ℕ) (ss : List Segment) → AllOf job u ss → AllOf job u (turnAt n ss)
+unfolding turnAt
+turn-of job u n [] a = tt
+turn-of job u n (s ∷ ss) a = go (ltb n (length (s .uses))) refl (turn-of job u (n - length (s .uses)) ss (a .1))
+  where
+    go : (b : Bool) → ltb n (length (s .uses)) ≡ b → AllOf job u (turnAt (n - length (s .uses)) ss) → AllOf job u (turnAt n (s ∷ ss))
+    go true e ih = rw (e, turnAt) a
+    go false e ih = rw (e, turnAt) (a .0, ih)
+
+-- ---- what a run over segments makes
+
+pub record Made (job : Job) (st : State) (ss : List Segment) (st′ : State) : Type 0 where
+  -- the own pieces that it adds, in order
+  pub pieces : List Segment
+  pub counts : (ν : Segment → ℕ) → counted (ofOwn ν) (st′ .registers) ≡ counted (ofOwn ν) (st .registers) + total ν pieces
+  pub follow : (q : ℕ) → SegsFit q ss → Follows q pieces
+  pub listed : Listed (valued ss) (valued pieces)
+  pub led : (u : ℕ) → AllOf job u ss → AllOf job u pieces
+  pub groups : Groups st′
+
+module _ (job : Job) (room : Room) (set′ top : ℕ) where
+  steps-made : (f : ℕ) (st : State) (ss : List Segment) (ts : List Turned) (b : Built) → Groups st → steps f job room set′ top st ss ts ≡ done b → Made job st ss (b .state)
+  unfolding steps fresh
+  steps-made zero st ss ts b gs e = let z : _≡_ {A = ℕ} 0 1 = cc in absurd (omega arith)
+  steps-made (suc f) st ss ts b gs e = go (move job st top (usesOf ss)) refl e (λ st′ ss′ ts′ gs′ e′. steps-made f st′ ss′ ts′ b gs′ e′)
+    where
+      go : (m : Move) → move job st top (usesOf ss) ≡ m → step job room set′ top st ss ts (λ st′ ss′ ts′. steps f job room set′ top st′ ss′ ts′) m ≡ done b
+          → ((st′ : State) (ss′ : List Segment) (ts′ : List Turned) → Groups st′ → steps f job room set′ top st′ ss′ ts′ ≡ done b → Made job st′ ss′ (b .state))
+          → Made job st ss (b .state)
+      go (whole h) m a ih =
+          let p = bind-done (place job room set′ h (asOwn ss) st) _ b a in
+          let t = scan-target job st gs (usesOf ss) (fresh top) h tt (move-whole job st top (usesOf ss) h m) in
+          let s : p .0 ≡ b .state = cc in
+          subst (Made job st ss) s (record {
+            pieces = ss;
+            counts = λ ν. rw (← own-total ν ss) (placed (ofOwn ν) job room set′ h (asOwn ss) st gs (p .0) t (p .1) .0);
+            follow = λ q h. fit-follows q ss h;
+            listed = listed-refl (valued ss);
+            led = λ u a. a;
+            groups = placed (ofOwn (λ _. 0)) job room set′ h (asOwn ss) st gs (p .0) t (p .1) .1;
+          })
+      go (turn n) m a ih =
+          let i = ih st (turnAt n ss) (ts ++ (turnedAt n ss ∷ [])) gs a in
+          record {
+            pieces = i .pieces;
+            counts = i .counts;
+            follow = λ q h. i .follow q (turn-fit ss n q h);
+            listed = listed-trans (valued ss) (valued (turnAt n ss)) (valued (i .pieces)) (turn-listed n ss (move-turn job st top (usesOf ss) n m)) (i .listed);
+            led = λ u a. i .led u (turn-of job u n ss a);
+            groups = i .groups;
+          }
+      go (cut p) m a ih =
+          let l = leftCut (job .hints) p ss in
+          let r = bind-done (placeFront job room set′ top l st) _ b a in
+          let g = front-grown (λ _. 0) job room set′ top l st (r .0) gs (r .1) in
+          let i = ih (r .0) (rightCut (job .hints) p ss) ts (g .1) (r .2) in
+          record {
+            pieces = l ++ i .pieces;
+            counts = λ ν. omega (arith, front-grown ν job room set′ top l st (r .0) gs (r .1) .0, i .counts ν, total-append ν l (i .pieces));
+            follow = λ q h. cut-follows (job .hints) p (i .pieces) ss q h (i .follow);
+            listed = rw (← cut-valued (job .hints) p ss, valued-append)
+                (listed-append (valued l) (valued l) (valued (rightCut (job .hints) p ss)) (valued (i .pieces)) (listed-refl (valued l)) (i .listed));
+            led = λ u a. let c = cut-of job u (job .hints) p ss a in all-append (λ s. setOf job (s .value) ≡ u) l (i .pieces) (c .0) (i .led u (c .1));
+            groups = i .groups;
+          }
+      go (halt s) m a ih = let z : _≡_ {A = ℕ} 0 1 = cc in absurd (omega arith)
+
+set-made : (job : Job) (room : Room) (s : Segment) (ss : List Segment) (st st′ : State) → Groups st → buildSet job room (s ∷ ss) st ≡ done st′ → Made job st (s ∷ ss) st′
+unfolding buildSet
+set-made job room s ss st st′ gs e =
+    let set″ = setOf job (s .value) in
+    let top = topOf job (s .value) in
+    let n = suc (classUses (usesOf (s ∷ ss))) in
+    let b = bind-done (steps n job room set″ top st (s ∷ ss) []) _ st′ e in
+    let m = steps-made job room set″ top n st (s ∷ ss) [] (b .0) gs (b .1) in
+    let cs = runs sameInst (b .0 .turned) in
+    record {
+      pieces = m .pieces;
+      counts = λ ν. omega (arith, m .counts ν, conflicts-grown ν job room set″ top cs (b .0 .state) st′ (m .groups) (b .2) .0);
+      follow = m .follow;
+      listed = m .listed;
+      led = m .led;
+      groups = conflicts-grown (λ _. 0) job room set″ top cs (b .0 .state) st′ (m .groups) (b .2) .1;
+    }
+
+-- ---- the sets rise
+
+abbrev pub Rise : Job → ℕ → List (List Segment) → Type 0
+Rise job t [] = Unit {0}
+Rise job t ([] ∷ rs) = Rise job t rs
+Rise job t ((c ∷ cs) ∷ rs) = (t ≤ setOf job (c .value)) × AllOf job (setOf job (c .value)) cs × SegsFit 0 (c ∷ cs) × Rise job (suc (setOf job (c .value))) rs
+
+onto-first : {A : Type 0} (alike : A → A → Bool) (a : A) (rs : List (List A)) → (xs : List A) × (ys : List (List A)) × (onto alike a rs ≡ (a ∷ xs) ∷ ys)
+onto-first alike a [] = ([], [], refl)
+onto-first alike a ([] ∷ cs) = ([], cs, refl)
+onto-first {A} alike a ((c ∷ cs) ∷ ds) = go (alike a c)
+  where
+    go : (b : Bool) → (xs : List A) × (ys : List (List A)) × (cond b ((a ∷ c ∷ cs) ∷ ds) ((a ∷ []) ∷ (c ∷ cs) ∷ ds) ≡ (a ∷ xs) ∷ ys)
+    go true = (c ∷ cs, ds, refl)
+    go false = ([], (c ∷ cs) ∷ ds, refl)
+
+-- a segment behind another one is of the same set or of a higher one
+behind-set : (job : Job) (s t : Segment) → behind job s t ≡ true → setOf job (s .value) ≤ setOf job (t .value)
+unfolding behind
+behind-set job s t e = go (ltb (setOf job (s .value)) (setOf job (t .value))) refl e
+  where
+    go : (b : Bool) → ltb (setOf job (s .value)) (setOf job (t .value)) ≡ b → (b || (sameSet job s t && leb (s .to) (t .«from»))) ≡ true → setOf job (s .value) ≤ setOf job (t .value)
+    go true a d = let l : setOf job (s .value) < setOf job (t .value) = ltb-true _ _ a in omega arith
+    go false a d = let q : setOf job (s .value) ≡ setOf job (t .value) = eqb-true _ _ (and-both (sameSet job s t) (leb (s .to) (t .«from»)) d .0) in omega arith
+
+pub runs-rise : (job : Job) (s : Segment) (ss : List Segment) → All (Good job) (s ∷ ss) → chained (behind job) (s ∷ ss) ≡ true → Rise job (setOf job (s .value)) (runs (sameSet job) (s ∷ ss))
+unfolding runs chained
+runs-rise job s [] g c = (omega arith, tt, (omega arith, g .0 .0, g .0 .1, tt), tt)
+runs-rise job s (t ∷ ss) g c =
+    let d = and-both (behind job s t) (chained (behind job) (t ∷ ss)) c in
+    let o = onto-first (sameSet job) t (runs (sameSet job) ss) in
+    let ih : Rise job (setOf job (t .value)) ((t ∷ o .0) ∷ o .1) = subst (Rise job (setOf job (t .value))) (o .2) (runs-rise job t ss (g .1) (d .1)) in
+    subst (λ (l : List (List Segment)). Rise job (setOf job (s .value)) (onto (sameSet job) s l)) (sym (o .2)) (go (o .0) (o .1) (d .0) ih (sameSet job s t) refl)
+  where
+    go : (xs : List Segment) (ys : List (List Segment)) → behind job s t ≡ true → Rise job (setOf job (t .value)) ((t ∷ xs) ∷ ys) → (b : Bool) → sameSet job s t ≡ b
+        → Rise job (setOf job (s .value)) (cond b ((s ∷ t ∷ xs) ∷ ys) ((s ∷ []) ∷ (t ∷ xs) ∷ ys))
+    go xs ys e r true f =
+        let q : setOf job (s .value) ≡ setOf job (t .value) = eqb-true _ _ f in
+        (omega arith, (sym q, rw q (r .1)), (omega arith, g .0 .0, g .0 .1, from-on job (s .to) t xs (next-to job s t e f) (r .2)), rw q (r .3))
+    go xs ys e r false f =
+        let n : setOf job (s .value) ≡ setOf job (t .value) → ⊥ = eqb-false _ _ f in
+        let l = behind-set job s t e in
+        (omega arith, tt, (omega arith, g .0 .0, g .0 .1, tt), (omega arith, r .1, r .2, r .3))
+
+-- ---- what is of the set s
+
+abbrev pub ledBy : Job → ℕ → (Segment → ℕ) → Segment → ℕ
+ledBy job s ν x = cond (eqb (setOf job (x .value)) s) (ν x) 0
+
+module _ (job : Job) (s : ℕ) where
+  of-append : (xs ys : List Segment) → ofSet job s (xs ++ ys) ≡ ofSet job s xs ++ ofSet job s ys
+  unfolding ofSet
+  of-append [] ys = refl
+  of-append (x ∷ xs) ys = go (eqb (setOf job (x .value)) s) (of-append xs ys)
+    where
+      go : (b : Bool) → ofSet job s (xs ++ ys) ≡ ofSet job s xs ++ ofSet job s ys
+          → cond b (x ∷ ofSet job s (xs ++ ys)) (ofSet job s (xs ++ ys)) ≡ cond b (x ∷ ofSet job s xs) (ofSet job s xs) ++ ofSet job s ys
+      go true ih = ap (λ (l : List Segment). x ∷ l) ih
+      go false ih = ih
+
+  of-same : (xs : List Segment) → AllOf job s xs → ofSet job s xs ≡ xs
+  unfolding ofSet
+  of-same [] a = refl
+  of-same (x ∷ xs) a = rw (eq-eqb _ _ (a .0)) (ap (λ (l : List Segment). x ∷ l) (of-same xs (a .1)))
+
+  of-other : (u : ℕ) (xs : List Segment) → (u ≡ s → ⊥) → AllOf job u xs → ofSet job s xs ≡ []
+  unfolding ofSet
+  of-other u [] n a = refl
+  of-other u (x ∷ xs) n a = rw (ne-eqb _ _ (λ e. n (sym (a .0) ∙ e))) (of-other u xs n (a .1))
+
+  pub of-total : (ν : Segment → ℕ) (xs : List Segment) → total (ledBy job s ν) xs ≡ total ν (ofSet job s xs)
+  unfolding ofSet total
+  of-total ν [] = refl
+  of-total ν (x ∷ xs) = go (eqb (setOf job (x .value)) s) (of-total ν xs)
+    where
+      go : (b : Bool) → total (ledBy job s ν) xs ≡ total ν (ofSet job s xs) → cond b (ν x) 0 + total (ledBy job s ν) xs ≡ total ν (cond b (x ∷ ofSet job s xs) (ofSet job s xs))
+      go true ih = omega arith
+      go false ih = omega arith
+
+abbrev pub joined : List (List Segment) → List Segment
+joined [] = []
+joined (r ∷ rs) = r ++ joined rs
+
+-- what a run over sets makes of the set s
+pub record MadeOf (job : Job) (s : ℕ) (st : State) (ss : List Segment) (st′ : State) : Type 0 where
+  pub pieces : List Segment
+  pub counts : (ν : Segment → ℕ) → counted (ofOwn (ledBy job s ν)) (st′ .registers) ≡ counted (ofOwn (ledBy job s ν)) (st .registers) + total ν pieces
+  pub follow : Follows 0 pieces
+  pub listed : Listed (valued (ofSet job s ss)) (valued pieces)
+
+sets-made : (job : Job) (room : Room) (s : ℕ) (rest : List (List Segment)) (t : ℕ) (st st′ : State) → Groups st → Rise job t rest → buildSets job room rest st ≡ done st′
+    → (m : MadeOf job s st (joined rest) st′) × (s < t → m .pieces ≡ [])
+unfolding buildSets buildSet ofSet valued total
+sets-made job room s [] t st st′ gs r e =
+    let q : st ≡ st′ = cc in
+    subst (λ (x : State). (m : MadeOf job s st [] x) × (s < t → m .pieces ≡ [])) q (record { pieces = []; counts = λ ν. omega arith; follow = tt; listed = tt }, λ l. refl)
+sets-made job room s ([] ∷ rest) t st st′ gs r e = sets-made job room s rest t st st′ gs r e
+sets-made job room s ((c ∷ cs) ∷ rest) t st st′ gs r e =
+    let b = bind-done (buildSet job room (c ∷ cs) st) _ st′ e in
+    let m = set-made job room c cs st (b .0) gs (b .1) in
+    go (b .0) m (sets-made job room s rest (suc (setOf job (c .value))) (b .0) st′ (m .groups) (r .3) (b .2)) (eqb (setOf job (c .value)) s) refl
+  where
+    u : ℕ
+    u = setOf job (c .value)
+
+    all : AllOf job (setOf job (c .value)) (c ∷ cs)
+    all = (refl, r .1)
+
+    go : (st″ : State) (m : Made job st (c ∷ cs) st″) → (k : MadeOf job s st″ (joined rest) st′) × (s < suc (setOf job (c .value)) → k .pieces ≡ [])
+        → (b : Bool) → eqb (setOf job (c .value)) s ≡ b → (k : MadeOf job s st (joined ((c ∷ cs) ∷ rest)) st′) × (s < t → k .pieces ≡ [])
+    go st″ m k true f =
+        let q : setOf job (c .value) ≡ s = eqb-true _ _ f in
+        let none′ : k .0 .pieces ≡ [] = k .1 (omega arith) in
+        let a : AllOf job s (m .pieces) = rw q at (m .led (setOf job (c .value)) all) in
+        let front : ofSet job s (c ∷ cs) ≡ c ∷ cs = of-same job s (c ∷ cs) (q, subst (λ (i : ℕ). AllOf job i cs) q (r .1)) in (
+          record {
+            pieces = m .pieces ++ k .0 .pieces;
+            counts = λ ν. omega (arith, m .counts (ledBy job s ν), k .0 .counts ν, of-total job s ν (m .pieces), ap (total ν) (of-same job s (m .pieces) a), total-append ν (m .pieces) (k .0 .pieces));
+            follow = rw (none′, append-nil) (m .follow 0 (r .2));
+            listed = rw (of-append job s (c ∷ cs) (joined rest), front, valued-append (c ∷ cs) (ofSet job s (joined rest)), valued-append (m .pieces) (k .0 .pieces))
+                (listed-append (valued (c ∷ cs)) (valued (m .pieces)) (valued (ofSet job s (joined rest))) (valued (k .0 .pieces)) (m .listed) (k .0 .listed));
+          },
+          λ l. absurd (omega (arith, r .0)),
+        )
+    go st″ m k false f =
+        let n : setOf job (c .value) ≡ s → ⊥ = eqb-false _ _ f in
+        let front : ofSet job s (c ∷ cs) ≡ [] = of-other job s (setOf job (c .value)) (c ∷ cs) n all in (
+          record {
+            pieces = k .0 .pieces;
+            counts = λ ν. omega (arith, m .counts (ledBy job s ν), k .0 .counts ν, of-total job s ν (m .pieces), ap (total ν) (of-other job s (setOf job (c .value)) (m .pieces) n (m .led (setOf job (c .value)) all)));
+            follow = k .0 .follow;
+            listed = rw (of-append job s (c ∷ cs) (joined rest), front) (k .0 .listed);
+          },
+          λ l. k .1 (omega (arith, r .0)),
+        )
+
+joined-runs : (alike : Segment → Segment → Bool) (ss : List Segment) → joined (runs alike ss) ≡ ss
+unfolding runs
+joined-runs alike [] = refl
+joined-runs alike (s ∷ ss) = put (runs alike ss) ∙ ap (λ (l : List Segment). s ∷ l) (joined-runs alike ss)
+  where
+    put : (rs : List (List Segment)) → joined (onto alike s rs) ≡ s ∷ joined rs
+    put [] = refl
+    put ([] ∷ rs) = refl
+    put ((r ∷ rs) ∷ rest) = go (alike s r)
+      where
+        go : (b : Bool) → joined (cond b ((s ∷ r ∷ rs) ∷ rest) ((s ∷ []) ∷ (r ∷ rs) ∷ rest)) ≡ s ∷ r ∷ rs ++ joined rest
+        go true = refl
+        go false = refl
+
+-- a result: the own pieces of set s in order
+pub record InOrder (job : Job) (s : ℕ) (rs : List Register) : Type 0 where
+  pub pieces : List Segment
+  pub counts : (ν : Segment → ℕ) → counted (ofOwn (ledBy job s ν)) rs ≡ total ν pieces
+  pub follow : Follows 0 pieces
+  pub listed : Listed (valued (ofSet job s (job .segments))) (valued pieces)
+
+pub built-in-order : (job : Job) (room : Room) (res : Result) (s t : ℕ) → Rise job t (runs (sameSet job) (job .segments)) → build job room ≡ done res → InOrder job s (res .registers)
+unfolding build counted total
+built-in-order job room res s t r e =
+    let rs = runs (sameSet job) (job .segments) in
+    let b = bind-done (buildSets job room rs empty) _ res e in
+    let m = sets-made job room s rs t empty (b .0) tt r (b .1) .0 in
+    let q : b .0 .registers ≡ res .registers = cc in
+    let j : joined rs ≡ job .segments = joined-runs (sameSet job) (job .segments) in
+    record {
+      pieces = m .pieces;
+      counts = λ ν. ap (λ (l : List Register). counted (ofOwn (ledBy job s ν)) l) (sym q) ∙ (m .counts ν ∙ zero-add (total ν (m .pieces)));
+      follow = m .follow;
+      listed = subst (λ (l : List Segment). Listed (valued (ofSet job s l)) (valued (m .pieces))) j (m .listed);
+    }
