@@ -22,6 +22,7 @@ use Rattle.definition.proofs.Cuts.{cut-uses}
 use Rattle.definition.proofs.Scans.{Admits, scan-before}
 use Rattle.definition.proofs.Counts.{classUses-append, classUses-at, classUses-turn, uses-turn}
 use Rattle.definition.proofs.Moves.{Clash, CutAt, move-turn, move-cut, early-in}
+use Rattle.definition.proofs.Places.{bind-cong}
 use Rattle.definition.proofs.Fits.{UsesFit, SegsFit, Rising, rising, rising-from, rising-le, turn-fit, right-fit}
 
 -- ---- class uses in the part before a cut lie before it
@@ -151,10 +152,6 @@ turn-falls job st top ss n m =
     rw uses-turn (classUses-turn (usesOf ss) n (c .0) (c .1))
 
 -- ---- the count of steps
-
-bind-cong : {A B : Type 0} (o : Out A) (f g : A → Out B) → ((a : A) → f a ≡ g a) → (o >>= f) ≡ (o >>= g)
-bind-cong (done a) f g e = e a
-bind-cong (refused r) f g e = refl
 
 module _ (job : Job) (room : Room) (set′ : ValueSet) (top : RegClass) where
   -- with more steps than class uses, one step more changes nothing

@@ -17,6 +17,17 @@ use Rattle.definition.specs.Admit.{Scan, admit, admitClass, admitGroup, 
 use Rattle.definition.specs.Place.{_>>=_, alone, aloneState, firstFrom, gate, groupWeight, hasRoom, inserted, isNone, join, joinState, lastTo, lead, leadState, made, mapUses, merge, mergeState, orElse, overlaps, place, placeBy, placeGroup, segsOf, spread, total, update, usesOf, withPieces, withWeight}
 use Rattle.definition.specs.Build.{Round, asOwn, lastFirst, lastFirst′, try}
 
+-- ---- one answer after another
+
+-- a run of two that is done: so was the first
+pub bind-done : {A B : Type 0} (o : Out A) (k : A → Out B) (b : B) → (o >>= k) ≡ done b → (a : A) × (o ≡ done a) × (k a ≡ done b)
+bind-done (done a) k b e = (a, refl, e)
+bind-done (refused r) k b e = let z : _≡_ {A = ℕ} 0 1 = cc in absurd (omega arith)
+
+pub bind-cong : {A B : Type 0} (o : Out A) (f g : A → Out B) → ((a : A) → f a ≡ g a) → (o >>= f) ≡ (o >>= g)
+bind-cong (done a) f g e = e a
+bind-cong (refused r) f g e = refl
+
 -- ---- sums over lists
 
 pub total-append : {A : Type 0} (f : A → ℕ) (xs ys : List A) → total f (xs ++ ys) ≡ total f xs + total f ys
