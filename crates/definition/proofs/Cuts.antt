@@ -1,4 +1,4 @@
--- (a) A cut keeps the uses, in order, and each point exactly as often as before. Nothing is asked of the segments. Assumes nothing.
+-- A cut keeps the uses, in order, and each value's points exactly as often as before. Nothing is asked of the segments. Assumes nothing.
 use mathlib.Core.Path.{_≡_, refl, ap, sym, _∙_}
 use Prim.Native.Nat.{ℕ, zero, suc, _+_, _*_, _≤_, _<_}
 use native.Mathlib.Omega.{arith}
@@ -6,43 +6,55 @@ use mathlib.Core.Bool.{Bool, true, false, cond, _&&_}
 use mathlib.Core.List.{List, [], _∷_, _++_, append-assoc, append-nil}
 use lib.Dec.{leb, ltb, eqb}
 use borrow.Author.Tests.{ltb-true, ltb-false, leb-true, leb-false, lt-ltb, le-ltb, le-leb, lt-leb}
-use Rattle.definition.specs.Types.{Hint, Segment, Use}
+use Rattle.definition.specs.Types.{Hint, Inst, Segment, Use, Value}
 use Rattle.definition.specs.Cuts.{leftCut, leftOf, rightCut, rightOf, usesBefore, usesFrom}
-use Rattle.definition.specs.Place.{usesOf}
+use Rattle.definition.specs.Place.{total, usesOf}
 use Rattle.definition.specs.Build.{one}
+use Rattle.definition.specs.Promised.{held, holds}
 
 -- ---- the uses
 
-pub uses-cut : (p : ℕ) (us : List Use) → usesBefore p us ++ usesFrom p us ≡ us
+pub uses-cut : (p : Inst) (us : List Use) → usesBefore p us ++ usesFrom p us ≡ us
 unfolding usesBefore usesFrom
 uses-cut p [] = refl
-uses-cut p (u ∷ us) = go (ltb (u .inst) p) refl (uses-cut p us)
+uses-cut p (u ∷ us) = go (ltb (u .pos .0) (p .0)) refl (uses-cut p us)
   where
-    go : (b : Bool) → ltb (u .inst) p ≡ b → usesBefore p us ++ usesFrom p us ≡ us → usesBefore p (u ∷ us) ++ usesFrom p (u ∷ us) ≡ u ∷ us
+    go : (b : Bool) → ltb (u .pos .0) (p .0) ≡ b → usesBefore p us ++ usesFrom p us ≡ us → usesBefore p (u ∷ us) ++ usesFrom p (u ∷ us) ≡ u ∷ us
     go true e ih = rw (e, usesBefore, usesFrom) (ap (λ (l : List Use). u ∷ l) ih)
     go false e ih = rw (e, usesBefore, usesFrom)
 
-module _ (hs : List Hint) (p : ℕ) where
+module _ (hs : List Hint) (p : Inst) where
   pub cut-uses : (ss : List Segment) → usesOf (leftCut hs p ss) ++ usesOf (rightCut hs p ss) ≡ usesOf ss
   unfolding usesOf leftCut rightCut leftOf rightOf
   cut-uses [] = refl
-  cut-uses (s ∷ ss) = go (leb (s .to) (4 * p)) (ltb (s .«from») (4 * p)) refl refl (cut-uses ss)
+  cut-uses (s ∷ ss) = go (leb (s .to .0) (4 * p .0)) (ltb (s .«from» .0) (4 * p .0)) refl refl (cut-uses ss)
     where
-      go : (a b : Bool) → leb (s .to) (4 * p) ≡ a → ltb (s .«from») (4 * p) ≡ b
+      go : (a b : Bool) → leb (s .to .0) (4 * p .0) ≡ a → ltb (s .«from» .0) (4 * p .0) ≡ b
           → usesOf (leftCut hs p ss) ++ usesOf (rightCut hs p ss) ≡ usesOf ss
           → usesOf (leftCut hs p (s ∷ ss)) ++ usesOf (rightCut hs p (s ∷ ss)) ≡ s .uses ++ usesOf ss
       go true b e f ih = rw (e, leftCut, rightCut) (rw (append-assoc, ih))
       go false true e f ih = rw (e, f, leftCut, rightCut) (rw (append-nil, ← append-assoc, uses-cut))
       go false false e f ih = rw (e, f, leftCut, rightCut)
 
--- ---- the points: how many segments of value v have the point x
+-- ---- what is counted of segments: where each segment's two halves count as the whole, so do the two sides of a cut
 
-abbrev pub has : ℕ → ℕ → Segment → Bool
-has v x s = eqb (s .value) v && leb (s .«from») x && ltb x (s .to)
+abbrev pub PartedBy : (Segment → ℕ) → List Hint → Inst → Type 0
+PartedBy ν hs p = (s : Segment) → s .«from» .0 < 4 * p .0 → 4 * p .0 < s .to .0 → ν (leftOf hs p s) + ν (rightOf hs p s) ≡ ν s
 
-unfoldable pub times : ℕ → ℕ → List Segment → ℕ
-times v x [] = 0
-times v x (s ∷ ss) = one (has v x s) + times v x ss
+module _ (ν : Segment → ℕ) (hs : List Hint) (p : Inst) (part : PartedBy ν hs p) where
+  pub cut-total : (ss : List Segment) → total ν (leftCut hs p ss) + total ν (rightCut hs p ss) ≡ total ν ss
+  unfolding total leftCut rightCut
+  cut-total [] = refl
+  cut-total (s ∷ ss) = go (leb (s .to .0) (4 * p .0)) (ltb (s .«from» .0) (4 * p .0)) refl refl (cut-total ss)
+    where
+      go : (a b : Bool) → leb (s .to .0) (4 * p .0) ≡ a → ltb (s .«from» .0) (4 * p .0) ≡ b
+          → total ν (leftCut hs p ss) + total ν (rightCut hs p ss) ≡ total ν ss
+          → total ν (leftCut hs p (s ∷ ss)) + total ν (rightCut hs p (s ∷ ss)) ≡ ν s + total ν ss
+      go true b e f ih = rw (e, leftCut, rightCut) (omega arith)
+      go false true e f ih = let q = part s (ltb-true _ _ f) (leb-false _ _ e) in rw (e, f, leftCut, rightCut) (omega arith)
+      go false false e f ih = rw (e, f, leftCut, rightCut) (omega arith)
+
+-- ---- the points
 
 -- of [a, m) and [m, b) a point of [a, b) is in exactly one
 pub halves : (c : Bool) (a m b x : ℕ) → a < m → m < b → one (c && leb a x && ltb x m) + one (c && leb m x && ltb x b) ≡ one (c && leb a x && ltb x b)
@@ -55,17 +67,10 @@ halves true a m b x h k = go (ltb x m) refl
         simp (lt-ltb x m i, lt-ltb x b (omega arith), lt-leb m x i) (omega arith)
     go false e = let i = ltb-false x m e in simp (le-ltb x m i, le-leb m x i, le-leb a x (omega arith)) (omega arith)
 
-module _ (hs : List Hint) (p v x : ℕ) where
-  pub cut-points : (ss : List Segment) → times v x (leftCut hs p ss) + times v x (rightCut hs p ss) ≡ times v x ss
-  unfolding times leftCut rightCut leftOf rightOf
-  cut-points [] = refl
-  cut-points (s ∷ ss) = go (leb (s .to) (4 * p)) (ltb (s .«from») (4 * p)) refl refl (cut-points ss)
-    where
-      go : (a b : Bool) → leb (s .to) (4 * p) ≡ a → ltb (s .«from») (4 * p) ≡ b
-          → times v x (leftCut hs p ss) + times v x (rightCut hs p ss) ≡ times v x ss
-          → times v x (leftCut hs p (s ∷ ss)) + times v x (rightCut hs p (s ∷ ss)) ≡ one (has v x s) + times v x ss
-      go true b e f ih = rw (e, leftCut, rightCut) (omega arith)
-      go false true e f ih =
-          let one-of = halves (eqb (s .value) v) (s .«from») (4 * p) (s .to) x (ltb-true _ _ f) (leb-false _ _ e) in
-          rw (e, f, leftCut, rightCut) (omega arith)
-      go false false e f ih = rw (e, f, leftCut, rightCut) (omega arith)
+pub point-parted : (v : Value) (x : ℕ) (hs : List Hint) (p : Inst) → PartedBy (λ s. one (holds v x s)) hs p
+unfolding leftOf rightOf
+point-parted v x hs p s a b = halves (eqb (s .value .0) (v .0)) (s .«from» .0) (4 * p .0) (s .to .0) x a b
+
+pub cut-points : (v : Value) (x : ℕ) (hs : List Hint) (p : Inst) (ss : List Segment) → held v x (leftCut hs p ss) + held v x (rightCut hs p ss) ≡ held v x ss
+unfolding held
+cut-points v x hs p ss = cut-total (λ s. one (holds v x s)) hs p (point-parted v x hs p) ss

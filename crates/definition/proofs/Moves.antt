@@ -10,7 +10,7 @@ use lib.Seq.{getD-take, length-take-le}
 use lib.Dec.{leb, ltb, eqb}
 use lib.Ieee.{Float, lt}
 use borrow.Author.Tests.{ltb-true, ltb-false, leb-true, leb-false, eqb-true, eqb-false}
-use Rattle.definition.specs.Types.{BlockData, BlockparamIn, BlockparamOut, ClassDef, ClassUse, ConstraintConflict, FixedDef, FixedUse, GroupClassDef, GroupClassUse, Held, Job, State, Stop, TiedUse, TurnedDef, Use, UseKind}
+use Rattle.definition.specs.Types.{BlockData, BlockparamIn, BlockparamOut, ClassDef, ClassUse, ConstraintConflict, FixedDef, FixedUse, GroupClassDef, GroupClassUse, Held, Inst, Job, RegClass, State, Stop, TiedUse, TurnedDef, Use, UseKind, inst}
 use Rattle.definition.specs.Uses.{isClassUse, isDef}
 use Rattle.definition.specs.SplitPlacement.{earliest, earlyCut, freqAt, keep, starts}
 use Rattle.definition.specs.Admit.{Move, Scan, admit, admitKind, cut, fails-at, fresh, fromEnd, fromStart, halt, later, move, noUse, onAdmit, parted, scan, through, turn, turning, useAt, whole}
@@ -18,7 +18,7 @@ use Rattle.definition.proofs.Counts.{getD-reverse}
 
 -- ---- a scan fails at a class use
 
-kind-none : (job : Job) (st : State) (h : Held) (p : ℕ) (k : UseKind) → admitKind job st h p k ≡ none → isClassUse k ≡ true
+kind-none : (job : Job) (st : State) (h : Held) (p : Inst) (k : UseKind) → admitKind job st h p k ≡ none → isClassUse k ≡ true
 unfolding admitKind
 kind-none job st h p (FixedDef r) e = cc
 kind-none job st h p (FixedUse r) e = cc
@@ -42,7 +42,7 @@ module _ (job : Job) (st : State) where
     where
       go : (o : Option Held) → admit job st h u ≡ o → onAdmit o (λ g. scan job st us g) ≡ fails-at n
           → ((g : Held) (m : ℕ) → scan job st us g ≡ fails-at m → ClassAt us m) → ClassAt (u ∷ us) n
-      go none a f ih = let z : n ≡ 0 = cc in rw z (omega arith, kind-none job st h (u .inst) (u .kind) a)
+      go none a f ih = let z : n ≡ 0 = cc in rw z (omega arith, kind-none job st h (u .pos) (u .kind) a)
       go (some g) a f ih = back (scan job st us g) refl f
         where
           back : (r : Scan) → scan job st us g ≡ r → later r ≡ fails-at n → ClassAt (u ∷ us) n
@@ -84,13 +84,13 @@ early-in bs a b h = earliest-in (λ i. freqAt bs i) a b (suc a) (keep (λ i. ltb
 
 -- ---- moves
 
-pub record Clash (job : Job) (st : State) (top : ℕ) (us : List Use) (s e : ℕ) : Type 0 where
+pub record Clash (job : Job) (st : State) (top : RegClass) (us : List Use) (s e : ℕ) : Type 0 where
   pub forward : scan job st us (fresh top) ≡ fails-at e
   pub start : ClassAt us s
   pub end : ClassAt us e
   pub order : s ≤ e
 
-module _ (job : Job) (st : State) (top : ℕ) (us : List Use) where
+module _ (job : Job) (st : State) (top : RegClass) (us : List Use) where
   -- the backward scan's start is a class use, at or before the end
   start-of : (e j : ℕ) → scan job st us (fresh top) ≡ fails-at e → scan job st (reverse (take (suc e) us)) (fresh top) ≡ fails-at j → Clash job st top us (e - j) e
   start-of e j f b =
@@ -110,7 +110,7 @@ module _ (job : Job) (st : State) (top : ℕ) (us : List Use) where
       go true f = cc
       go false f = cc
 
-  turning-cut : (t p : ℕ) → turning us t ≡ cut p → ⊥
+  turning-cut : (t : ℕ) (p : Inst) → turning us t ≡ cut p → ⊥
   unfolding turning
   turning-cut t p e = go (isDef (useAt us t .kind)) e
     where
@@ -121,19 +121,19 @@ module _ (job : Job) (st : State) (top : ℕ) (us : List Use) where
   -- where the start s and the end e lead
   parted-turn : (s e n : ℕ) → Clash job st top us s e → parted job us s e ≡ turn n → ClassAt us n
   unfolding parted
-  parted-turn s e n c f = go (eqb (useAt us s .inst) (useAt us e .inst)) f
+  parted-turn s e n c f = go (eqb (useAt us s .pos .0) (useAt us e .pos .0)) f
     where
-      go : (b : Bool) → cond b (turning us (cond (isDef (useAt us e .kind)) s e)) (cut (earlyCut (job .blocks) (useAt us s .inst) (useAt us e .inst))) ≡ turn n → ClassAt us n
+      go : (b : Bool) → cond b (turning us (cond (isDef (useAt us e .kind)) s e)) (cut (inst (earlyCut (job .blocks) (useAt us s .pos .0) (useAt us e .pos .0)))) ≡ turn n → ClassAt us n
       go true g = rw (turning-turn _ n g) (either (ClassAt us) (isDef (useAt us e .kind)) s e (c .start) (c .end))
       go false g = let z : _≡_ {A = ℕ} 0 1 = cc in absurd (omega arith)
 
-  parted-cut : (s e p : ℕ) → parted job us s e ≡ cut p → (useAt us s .inst ≡ useAt us e .inst → ⊥) × (p ≡ earlyCut (job .blocks) (useAt us s .inst) (useAt us e .inst))
+  parted-cut : (s e : ℕ) (p : Inst) → parted job us s e ≡ cut p → (useAt us s .pos .0 ≡ useAt us e .pos .0 → ⊥) × (p .0 ≡ earlyCut (job .blocks) (useAt us s .pos .0) (useAt us e .pos .0))
   unfolding parted
-  parted-cut s e p f = go (eqb (useAt us s .inst) (useAt us e .inst)) refl f
+  parted-cut s e p f = go (eqb (useAt us s .pos .0) (useAt us e .pos .0)) refl f
     where
-      go : (b : Bool) → eqb (useAt us s .inst) (useAt us e .inst) ≡ b
-          → cond b (turning us (cond (isDef (useAt us e .kind)) s e)) (cut (earlyCut (job .blocks) (useAt us s .inst) (useAt us e .inst))) ≡ cut p
-          → (useAt us s .inst ≡ useAt us e .inst → ⊥) × (p ≡ earlyCut (job .blocks) (useAt us s .inst) (useAt us e .inst))
+      go : (b : Bool) → eqb (useAt us s .pos .0) (useAt us e .pos .0) ≡ b
+          → cond b (turning us (cond (isDef (useAt us e .kind)) s e)) (cut (inst (earlyCut (job .blocks) (useAt us s .pos .0) (useAt us e .pos .0)))) ≡ cut p
+          → (useAt us s .pos .0 ≡ useAt us e .pos .0 → ⊥) × (p .0 ≡ earlyCut (job .blocks) (useAt us s .pos .0) (useAt us e .pos .0))
       go true a g = absurd (turning-cut _ p g)
       go false a g = (eqb-false _ _ a, cc)
 
@@ -154,9 +154,9 @@ module _ (job : Job) (st : State) (top : ℕ) (us : List Use) where
   move-whole h m = go (scan job st us (fresh top)) refl m
     where
       not-whole : (s e : ℕ) → parted job us s e ≡ whole h → ⊥
-      not-whole s e f = pick (eqb (useAt us s .inst) (useAt us e .inst)) (isDef (useAt us (cond (isDef (useAt us e .kind)) s e) .kind)) f
+      not-whole s e f = pick (eqb (useAt us s .pos .0) (useAt us e .pos .0)) (isDef (useAt us (cond (isDef (useAt us e .kind)) s e) .kind)) f
         where
-          pick : (a b : Bool) → cond a (cond b (halt TurnedDef) (turn (cond (isDef (useAt us e .kind)) s e))) (cut (earlyCut (job .blocks) (useAt us s .inst) (useAt us e .inst))) ≡ whole h → ⊥
+          pick : (a b : Bool) → cond a (cond b (halt TurnedDef) (turn (cond (isDef (useAt us e .kind)) s e))) (cut (inst (earlyCut (job .blocks) (useAt us s .pos .0) (useAt us e .pos .0)))) ≡ whole h → ⊥
           pick true true g = let z : _≡_ {A = ℕ} 0 1 = cc in omega arith
           pick true false g = let z : _≡_ {A = ℕ} 0 1 = cc in omega arith
           pick false b g = let z : _≡_ {A = ℕ} 0 1 = cc in omega arith
@@ -169,12 +169,12 @@ module _ (job : Job) (st : State) (top : ℕ) (us : List Use) where
           back (through k) g = let z : _≡_ {A = ℕ} 0 1 = cc in omega arith
           back (fails-at j) g = not-whole (e - j) e g
 
-  abbrev pub CutAt : ℕ → Type 0
+  abbrev pub CutAt : Inst → Type 0
   CutAt p =
-      (s : ℕ) × (e : ℕ) × Clash job st top us s e × (useAt us s .inst ≡ useAt us e .inst → ⊥)
-      × (p ≡ earlyCut (job .blocks) (useAt us s .inst) (useAt us e .inst))
+      (s : ℕ) × (e : ℕ) × Clash job st top us s e × (useAt us s .pos .0 ≡ useAt us e .pos .0 → ⊥)
+      × (p .0 ≡ earlyCut (job .blocks) (useAt us s .pos .0) (useAt us e .pos .0))
 
-  pub move-cut : (p : ℕ) → move job st top us ≡ cut p → CutAt p
+  pub move-cut : (p : Inst) → move job st top us ≡ cut p → CutAt p
   unfolding move
   move-cut p m = go (scan job st us (fresh top)) refl m
     where

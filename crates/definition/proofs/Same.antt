@@ -7,11 +7,11 @@ use mathlib.Core.List.{List, [], _∷_}
 use lib.ListN.{getD}
 use lib.Dec.{leb, eqb}
 use borrow.Author.Tests.{leb-true, leb-false, eqb-true, eq-eqb, le-leb, lt-leb}
-use Rattle.definition.specs.Types.{BlockparamIn, BlockparamOut, ClassDef, ClassUse, ConstraintConflict, FixedDef, FixedUse, GroupClassDef, GroupClassUse, Segment, TiedUse, Use, UseFlags, UseKind}
+use Rattle.definition.specs.Types.{BlockparamIn, BlockparamOut, ClassDef, ClassUse, ConstraintConflict, FixedDef, FixedUse, GroupClassDef, GroupClassUse, Inst, PhysReg, Segment, TiedUse, Use, UseFlags, UseKind, cls, inst, point, val}
 use Rattle.definition.specs.Uses.{isClassUse}
 use Rattle.definition.specs.Place.{total}
 use Rattle.definition.specs.Build.{one, turnedUse}
-use Rattle.definition.specs.Lines.{numbersOf}
+use Rattle.definition.specs.Lines.{numbersOf, useNumbers}
 use Rattle.definition.specs.Promised.{Follows, byFirst, isMark, putIn, same, sameUse}
 use Rattle.definition.proofs.Entries.{and-both}
 use Rattle.definition.proofs.Points.{Steady}
@@ -19,16 +19,19 @@ use Rattle.definition.proofs.ReadBack.{Test}
 
 -- ---- a use is known by the numbers of its line
 
+abbrev phys : ℕ → PhysReg
+phys n = record { 0 = n }
+
 kindFrom : ℕ → ℕ → ℕ → ℕ → ℕ → UseKind
 kindFrom t a b c d =
-    cond (eqb t 0) (FixedDef a) (cond (eqb t 1) (FixedUse a) (cond (eqb t 2) (TiedUse a b c d) (cond (eqb t 3) ConstraintConflict
-    (cond (eqb t 4) (ClassUse a b) (cond (eqb t 5) (ClassDef a b) (cond (eqb t 6) (GroupClassUse a b c) (cond (eqb t 7) (GroupClassDef a b c)
+    cond (eqb t 0) (FixedDef (phys a)) (cond (eqb t 1) (FixedUse (phys a)) (cond (eqb t 2) (TiedUse a b (cls c) d) (cond (eqb t 3) ConstraintConflict
+    (cond (eqb t 4) (ClassUse a (cls b)) (cond (eqb t 5) (ClassDef a (cls b)) (cond (eqb t 6) (GroupClassUse a (cls b) c) (cond (eqb t 7) (GroupClassDef a (cls b) c)
     (cond (eqb t 8) (BlockparamIn a) BlockparamOut))))))))
 
 useFrom : List ℕ → Use
-useFrom ns = record { kind = kindFrom (getD ns 0 0) (getD ns 2 0) (getD ns 3 0) (getD ns 4 0) (getD ns 5 0); inst = getD ns 1 0 }
+useFrom ns = record { pos = inst (getD ns 1 0); kind = kindFrom (getD ns 0 0) (getD ns 2 0) (getD ns 3 0) (getD ns 4 0) (getD ns 5 0) }
 
-from-numbers : (k : UseKind) (p : ℕ) → useFrom (numbersOf k p) ≡ record { kind = k; inst = p }
+from-numbers : (k : UseKind) (p : Inst) → useFrom (numbersOf k (p .0)) ≡ record { pos = p; kind = k }
 unfolding useFrom kindFrom
 from-numbers (FixedDef r) p = refl
 from-numbers (FixedUse r) p = refl
@@ -54,15 +57,15 @@ same-refl (x ∷ xs) = rw (eq-eqb x x refl) (same-refl xs)
 -- the test is passed by the use itself and by no other
 pub same-use : (w u : Use) → sameUse w u ≡ true → w ≡ u
 unfolding sameUse
-same-use w u e = sym (from-numbers (w .kind) (w .inst)) ∙ ap useFrom (same-eq _ _ e) ∙ from-numbers (u .kind) (u .inst)
+same-use w u e = sym (from-numbers (w .kind) (w .pos)) ∙ ap useFrom (same-eq _ _ e) ∙ from-numbers (u .kind) (u .pos)
 
 pub use-same : (w : Use) → sameUse w w ≡ true
 unfolding sameUse
-use-same w = same-refl (numbersOf (w .kind) (w .inst))
+use-same w = same-refl (useNumbers w)
 
 -- ---- the test as the counts of `ReadBack` and `Points` want it
 
-pub class-test : (k : UseKind) (i : ℕ) → isClassUse k ≡ true → Test (sameUse (record { kind = k; inst = i }))
+pub class-test : (k : UseKind) (i : Inst) → isClassUse k ≡ true → Test (sameUse (record { pos = i; kind = k }))
 unfolding sameUse
 class-test (FixedDef r) i e = let z : _≡_ {A = ℕ} 0 1 = cc in absurd (omega arith)
 class-test (FixedUse r) i e = let z : _≡_ {A = ℕ} 0 1 = cc in absurd (omega arith)
@@ -164,9 +167,9 @@ lists-alike one′ (x ∷ xs) (y ∷ ys) e = rw (one′ x y (λ f. e (headOr f 0
 
 uses-alike : (x y : Use) → Alike x y → x ≡ y
 uses-alike x y e =
-    sym (from-numbers (x .kind) (x .inst))
-    ∙ ap useFrom (lists-alike (λ a b h. h (λ n. n)) (numbersOf (x .kind) (x .inst)) (numbersOf (y .kind) (y .inst)) (λ f. e (λ u. f (numbersOf (u .kind) (u .inst)))))
-    ∙ from-numbers (y .kind) (y .inst)
+    sym (from-numbers (x .kind) (x .pos))
+    ∙ ap useFrom (lists-alike (λ a b h. h (λ n. n)) (useNumbers x) (useNumbers y) (λ f. e (λ u. f (useNumbers u))))
+    ∙ from-numbers (y .kind) (y .pos)
 
 bools-alike : (a b : Bool) → one a ≡ one b → a ≡ b
 bools-alike true true e = refl
@@ -176,20 +179,20 @@ bools-alike false false e = refl
 
 segments-alike : (x y : Segment) → Alike x y → x ≡ y
 segments-alike x y e =
-    let a : x .value ≡ y .value = e (λ s. s .value) in
-    let b : x .«from» ≡ y .«from» = e (λ s. s .«from») in
-    let c : x .to ≡ y .to = e (λ s. s .to) in
+    let a : x .value .0 ≡ y .value .0 = e (λ s. s .value .0) in
+    let b : x .«from» .0 ≡ y .«from» .0 = e (λ s. s .«from» .0) in
+    let c : x .to .0 ≡ y .to .0 = e (λ s. s .to .0) in
     let l : x .flags .livein ≡ y .flags .livein = bools-alike _ _ (e (λ s. one (s .flags .livein))) in
     let m : x .flags .liveout ≡ y .flags .liveout = bools-alike _ _ (e (λ s. one (s .flags .liveout))) in
     let n : x .flags .fixedhint ≡ y .flags .fixedhint = bools-alike _ _ (e (λ s. one (s .flags .fixedhint))) in
     let o : x .flags .fixeddef ≡ y .flags .fixeddef = bools-alike _ _ (e (λ s. one (s .flags .fixeddef))) in
     let d : x .uses ≡ y .uses = lists-alike uses-alike (x .uses) (y .uses) (λ f. e (λ s. f (s .uses))) in
-    made (x .value) (y .value) (x .«from») (y .«from») (x .to) (y .to) (x .flags .livein) (y .flags .livein) (x .flags .liveout) (y .flags .liveout)
+    made (x .value .0) (y .value .0) (x .«from» .0) (y .«from» .0) (x .to .0) (y .to .0) (x .flags .livein) (y .flags .livein) (x .flags .liveout) (y .flags .liveout)
     (x .flags .fixedhint) (y .flags .fixedhint) (x .flags .fixeddef) (y .flags .fixeddef) (x .uses) (y .uses) a b c l m n o d
   where
     made : (v v′ f f′ t t′ : ℕ) (l l′ m m′ n n′ o o′ : Bool) (us us′ : List Use) → v ≡ v′ → f ≡ f′ → t ≡ t′ → l ≡ l′ → m ≡ m′ → n ≡ n′ → o ≡ o′ → us ≡ us′
-        → _≡_ {A = Segment} (record { value = v; «from» = f; to = t; flags = record { livein = l; liveout = m; fixedhint = n; fixeddef = o }; uses = us })
-        (record { value = v′; «from» = f′; to = t′; flags = record { livein = l′; liveout = m′; fixedhint = n′; fixeddef = o′ }; uses = us′ })
+        → _≡_ {A = Segment} (record { value = val v; «from» = point f; to = point t; flags = record { livein = l; liveout = m; fixedhint = n; fixeddef = o }; uses = us })
+        (record { value = val v′; «from» = point f′; to = point t′; flags = record { livein = l′; liveout = m′; fixedhint = n′; fixeddef = o′ }; uses = us′ })
     made v v′ f f′ t t′ l l′ m m′ n n′ o o′ us us′ a b c d e g h k = rw (a, b, c, d, e, g, h, k)
 
 -- ---- in order of their first points
@@ -197,9 +200,9 @@ segments-alike x y e =
 put-total : (ν : Segment → ℕ) (s : Segment) (ts : List Segment) → total ν (putIn s ts) ≡ ν s + total ν ts
 unfolding putIn total
 put-total ν s [] = refl
-put-total ν s (t ∷ ts) = go (leb (s .«from») (t .«from»)) refl (put-total ν s ts)
+put-total ν s (t ∷ ts) = go (leb (s .«from» .0) (t .«from» .0)) refl (put-total ν s ts)
   where
-    go : (b : Bool) → leb (s .«from») (t .«from») ≡ b → total ν (putIn s ts) ≡ ν s + total ν ts → total ν (putIn s (t ∷ ts)) ≡ ν s + (ν t + total ν ts)
+    go : (b : Bool) → leb (s .«from» .0) (t .«from» .0) ≡ b → total ν (putIn s ts) ≡ ν s + total ν ts → total ν (putIn s (t ∷ ts)) ≡ ν s + (ν t + total ν ts)
     go true e ih = rw (e, putIn)
     go false e ih = rw (e, putIn) (omega arith)
 
@@ -210,16 +213,16 @@ first-total ν (s ∷ ss) = omega (arith, put-total ν s (byFirst ss), first-tot
 
 abbrev Sorted : ℕ → List Segment → Type 0
 Sorted q [] = Unit {0}
-Sorted q (s ∷ ss) = (q ≤ s .«from») × Sorted (s .«from») ss
+Sorted q (s ∷ ss) = (q ≤ s .«from» .0) × Sorted (s .«from» .0) ss
 
-put-sorted : (q : ℕ) (s : Segment) (ts : List Segment) → q ≤ s .«from» → Sorted q ts → Sorted q (putIn s ts)
+put-sorted : (q : ℕ) (s : Segment) (ts : List Segment) → q ≤ s .«from» .0 → Sorted q ts → Sorted q (putIn s ts)
 unfolding putIn
 put-sorted q s [] l h = (l, tt)
-put-sorted q s (t ∷ ts) l h = go (leb (s .«from») (t .«from»)) refl (λ k. put-sorted (t .«from») s ts k (h .1))
+put-sorted q s (t ∷ ts) l h = go (leb (s .«from» .0) (t .«from» .0)) refl (λ k. put-sorted (t .«from» .0) s ts k (h .1))
   where
-    go : (b : Bool) → leb (s .«from») (t .«from») ≡ b → (t .«from» ≤ s .«from» → Sorted (t .«from») (putIn s ts)) → Sorted q (putIn s (t ∷ ts))
+    go : (b : Bool) → leb (s .«from» .0) (t .«from» .0) ≡ b → (t .«from» .0 ≤ s .«from» .0 → Sorted (t .«from» .0) (putIn s ts)) → Sorted q (putIn s (t ∷ ts))
     go true e ih = rw (e, putIn) (l, (leb-true _ _ e, h .1))
-    go false e ih = let k : t .«from» < s .«from» = leb-false _ _ e in rw (e, putIn) (h .0, ih (omega arith))
+    go false e ih = let k : t .«from» .0 < s .«from» .0 = leb-false _ _ e in rw (e, putIn) (h .0, ih (omega arith))
 
 first-sorted : (ss : List Segment) → Sorted 0 (byFirst ss)
 unfolding byFirst
@@ -227,20 +230,20 @@ first-sorted [] = tt
 first-sorted (s ∷ ss) = put-sorted 0 s (byFirst ss) (omega arith) (first-sorted ss)
 
 -- those that start by k, where all start later
-sorted-none : (k q : ℕ) (ss : List Segment) → k < q → Sorted q ss → total (λ s. one (leb (s .«from») k)) ss ≡ 0
+sorted-none : (k q : ℕ) (ss : List Segment) → k < q → Sorted q ss → total (λ s. one (leb (s .«from» .0) k)) ss ≡ 0
 unfolding total
 sorted-none k q [] l h = refl
-sorted-none k q (s ∷ ss) l h = rw (lt-leb (s .«from») k (omega (arith, h .0))) (omega (arith, sorted-none k (s .«from») ss (omega (arith, h .0)) (h .1)))
+sorted-none k q (s ∷ ss) l h = rw (lt-leb (s .«from» .0) k (omega (arith, h .0))) (omega (arith, sorted-none k (s .«from» .0) ss (omega (arith, h .0)) (h .1)))
 
 follows-sorted : (q : ℕ) (ss : List Segment) → Follows q ss → Sorted q ss
 follows-sorted q [] h = tt
-follows-sorted q (s ∷ ss) h = (h .0, lower (s .to) (s .«from») ss (omega (arith, h .1)) (follows-sorted (s .to) ss (h .2)))
+follows-sorted q (s ∷ ss) h = (h .0, lower (s .to .0) (s .«from» .0) ss (omega (arith, h .1)) (follows-sorted (s .to .0) ss (h .2)))
   where
     lower : (a b : ℕ) (ts : List Segment) → b ≤ a → Sorted a ts → Sorted b ts
     lower a b [] l k = tt
     lower a b (t ∷ ts) l k = (omega (arith, k .0), k .1)
 
-follows-none : (k q : ℕ) (ss : List Segment) → k < q → Follows q ss → total (λ s. one (leb (s .«from») k)) ss ≡ 0
+follows-none : (k q : ℕ) (ss : List Segment) → k < q → Follows q ss → total (λ s. one (leb (s .«from» .0) k)) ss ≡ 0
 follows-none k q ss l h = sorted-none k q ss l (follows-sorted q ss h)
 
 zero-total : (P : Segment → Bool) (ν : Segment → ℕ) (ss : List Segment) → total (λ s. one (P s)) ss ≡ 0 → total (λ s. cond (P s) (ν s) 0) ss ≡ 0
@@ -258,35 +261,35 @@ unfolding total
 sorted-is [] [] p q h k e = refl
 sorted-is [] (y ∷ ys) p q h k e = let z : 0 ≡ 1 + total (λ _. 1) ys = e (λ _. 1) in absurd (omega arith)
 sorted-is (x ∷ xs) [] p q h k e = let z : 1 + total (λ _. 1) xs ≡ 0 = e (λ _. 1) in absurd (omega arith)
-sorted-is (x ∷ xs) (y ∷ ys) p q h k e = go (leb (x .«from») (y .«from»)) refl (λ f. sorted-is xs ys (x .«from») (y .to) (h .1) (k .2) f)
+sorted-is (x ∷ xs) (y ∷ ys) p q h k e = go (leb (x .«from» .0) (y .«from» .0)) refl (λ f. sorted-is xs ys (x .«from» .0) (y .to .0) (h .1) (k .2) f)
   where
-    behind : total (λ s. one (leb (s .«from») (y .«from»))) ys ≡ 0
-    behind = follows-none (y .«from») (y .to) ys (k .1) (k .2)
+    behind : total (λ s. one (leb (s .«from» .0) (y .«from» .0))) ys ≡ 0
+    behind = follows-none (y .«from» .0) (y .to .0) ys (k .1) (k .2)
 
-    first : leb (y .«from») (y .«from») ≡ true
-    first = le-leb (y .«from») (y .«from») (omega arith)
+    first : leb (y .«from» .0) (y .«from» .0) ≡ true
+    first = le-leb (y .«from» .0) (y .«from» .0) (omega arith)
 
-    once : one (leb (x .«from») (y .«from»)) + total (λ s. one (leb (s .«from») (y .«from»))) xs ≡ 1
-    once = e (λ s. one (leb (s .«from») (y .«from»))) ∙ rw first (omega (arith, behind))
+    once : one (leb (x .«from» .0) (y .«from» .0)) + total (λ s. one (leb (s .«from» .0) (y .«from» .0))) xs ≡ 1
+    once = e (λ s. one (leb (s .«from» .0) (y .«from» .0))) ∙ rw first (omega (arith, behind))
 
-    go : (b : Bool) → leb (x .«from») (y .«from») ≡ b → (((ν : Segment → ℕ) → total ν xs ≡ total ν ys) → xs ≡ ys) → x ∷ xs ≡ y ∷ ys
+    go : (b : Bool) → leb (x .«from» .0) (y .«from» .0) ≡ b → (((ν : Segment → ℕ) → total ν xs ≡ total ν ys) → xs ≡ ys) → x ∷ xs ≡ y ∷ ys
     go false a ih =
-        let l : y .«from» < x .«from» = leb-false _ _ a in
-        let n : total (λ s. one (leb (s .«from») (y .«from»))) xs ≡ 0 = sorted-none (y .«from») (x .«from») xs l (h .1) in
-        let o : 0 + total (λ s. one (leb (s .«from») (y .«from»))) xs ≡ 1 = subst (λ (b : Bool). one b + total (λ s. one (leb (s .«from») (y .«from»))) xs ≡ 1) a once in
+        let l : y .«from» .0 < x .«from» .0 = leb-false _ _ a in
+        let n : total (λ s. one (leb (s .«from» .0) (y .«from» .0))) xs ≡ 0 = sorted-none (y .«from» .0) (x .«from» .0) xs l (h .1) in
+        let o : 0 + total (λ s. one (leb (s .«from» .0) (y .«from» .0))) xs ≡ 1 = subst (λ (b : Bool). one b + total (λ s. one (leb (s .«from» .0) (y .«from» .0))) xs ≡ 1) a once in
         absurd (omega arith)
     go true a ih =
-        let o : 1 + total (λ s. one (leb (s .«from») (y .«from»))) xs ≡ 1 = subst (λ (b : Bool). one b + total (λ s. one (leb (s .«from») (y .«from»))) xs ≡ 1) a once in
-        let n : total (λ s. one (leb (s .«from») (y .«from»))) xs ≡ 0 = omega arith in
+        let o : 1 + total (λ s. one (leb (s .«from» .0) (y .«from» .0))) xs ≡ 1 = subst (λ (b : Bool). one b + total (λ s. one (leb (s .«from» .0) (y .«from» .0))) xs ≡ 1) a once in
+        let n : total (λ s. one (leb (s .«from» .0) (y .«from» .0))) xs ≡ 0 = omega arith in
         let heads : (ν : Segment → ℕ) → ν x ≡ ν y =
-        λ ν. head ν (e (λ s. cond (leb (s .«from») (y .«from»)) (ν s) 0)) (zero-total (λ s. leb (s .«from») (y .«from»)) ν xs n) (zero-total (λ s. leb (s .«from») (y .«from»)) ν ys behind) in
+        λ ν. head ν (e (λ s. cond (leb (s .«from» .0) (y .«from» .0)) (ν s) 0)) (zero-total (λ s. leb (s .«from» .0) (y .«from» .0)) ν xs n) (zero-total (λ s. leb (s .«from» .0) (y .«from» .0)) ν ys behind) in
         rw (segments-alike x y heads, ih (λ ν. omega (arith, e ν, heads ν)))
       where
-        head : (ν : Segment → ℕ) → cond (leb (x .«from») (y .«from»)) (ν x) 0 + total (λ s. cond (leb (s .«from») (y .«from»)) (ν s) 0) xs
-            ≡ cond (leb (y .«from») (y .«from»)) (ν y) 0 + total (λ s. cond (leb (s .«from») (y .«from»)) (ν s) 0) ys
-            → total (λ s. cond (leb (s .«from») (y .«from»)) (ν s) 0) xs ≡ 0 → total (λ s. cond (leb (s .«from») (y .«from»)) (ν s) 0) ys ≡ 0 → ν x ≡ ν y
+        head : (ν : Segment → ℕ) → cond (leb (x .«from» .0) (y .«from» .0)) (ν x) 0 + total (λ s. cond (leb (s .«from» .0) (y .«from» .0)) (ν s) 0) xs
+            ≡ cond (leb (y .«from» .0) (y .«from» .0)) (ν y) 0 + total (λ s. cond (leb (s .«from» .0) (y .«from» .0)) (ν s) 0) ys
+            → total (λ s. cond (leb (s .«from» .0) (y .«from» .0)) (ν s) 0) xs ≡ 0 → total (λ s. cond (leb (s .«from» .0) (y .«from» .0)) (ν s) 0) ys ≡ 0 → ν x ≡ ν y
         head ν c d f =
-            let g : ν x + total (λ s. cond (leb (s .«from») (y .«from»)) (ν s) 0) xs ≡ ν y + total (λ s. cond (leb (s .«from») (y .«from»)) (ν s) 0) ys = rw (a, first) at c in
+            let g : ν x + total (λ s. cond (leb (s .«from» .0) (y .«from» .0)) (ν s) 0) xs ≡ ν y + total (λ s. cond (leb (s .«from» .0) (y .«from» .0)) (ν s) 0) ys = rw (a, first) at c in
             omega arith
 
 -- so is a list put in order
