@@ -34,28 +34,28 @@ every-all f (x ∷ xs) e = let b = and-both (f x) (every f xs) e in (b .0, every
 module _ (job : Job) where
   -- ---- the uses of one segment
 
-  use-fits : (s : Segment) (u : Use) → useOk job s u ≡ true → (s .«from» < 4 * u .inst + 4) × (endPoint u ≤ s .to)
+  use-fits : (s : Segment) (u : Use) → useOk job s u ≡ true → (s .«from» .0 < 4 * u .pos .0 + 4) × (endPoint u .0 ≤ s .to .0)
   unfolding useOk
   use-fits s u e = let a = conj-all (useTests job s u) e in (ltb-true _ _ (a .1 .1 .0), leb-true _ _ (a .1 .1 .1 .0))
 
   abbrev rises : Use → Use → Bool
-  rises u w = leb (u .inst) (w .inst)
+  rises u w = leb (u .pos .0) (w .pos .0)
 
-  uses-fit : (s : Segment) (l : ℕ) (u : Use) (us : List Use) → l ≤ u .inst → All (λ w. useOk job s w ≡ true) (u ∷ us) → chained rises (u ∷ us) ≡ true
-      → UsesFit l (s .«from») (s .to) (u ∷ us)
+  uses-fit : (s : Segment) (l : ℕ) (u : Use) (us : List Use) → l ≤ u .pos .0 → All (λ w. useOk job s w ≡ true) (u ∷ us) → chained rises (u ∷ us) ≡ true
+      → UsesFit l (s .«from» .0) (s .to .0) (u ∷ us)
   unfolding chained
   uses-fit s l u [] h k c = let f = use-fits s u (k .0) in (h, f .0, f .1, tt)
   uses-fit s l u (w ∷ us) h k c =
       let f = use-fits s u (k .0) in
       let d = and-both (rises u w) (chained rises (w ∷ us)) c in
-      (h, f .0, f .1, uses-fit s (u .inst) w us (leb-true _ _ (d .0)) (k .1) (d .1))
+      (h, f .0, f .1, uses-fit s (u .pos .0) w us (leb-true _ _ (d .0)) (k .1) (d .1))
 
-  list-fit : (s : Segment) (us : List Use) → All (λ w. useOk job s w ≡ true) us → chained rises us ≡ true → UsesFit 0 (s .«from») (s .to) us
+  list-fit : (s : Segment) (us : List Use) → All (λ w. useOk job s w ≡ true) us → chained rises us ≡ true → UsesFit 0 (s .«from» .0) (s .to .0) us
   list-fit s [] k c = tt
   list-fit s (u ∷ us) k c = uses-fit s 0 u us (omega arith) k c
 
   abbrev pub Good : Segment → Type 0
-  Good s = (s .«from» < s .to) × UsesFit 0 (s .«from») (s .to) (s .uses)
+  Good s = (s .«from» .0 < s .to .0) × UsesFit 0 (s .«from» .0) (s .to .0) (s .uses)
 
   pub segment-good : (s : Segment) → segmentOk job s ≡ true → usesOk job s ≡ true → Good s
   unfolding segmentOk usesOk
@@ -66,19 +66,19 @@ module _ (job : Job) where
 
   -- ---- the sets
 
-  pub next-to : (s t : Segment) → behind job s t ≡ true → sameSet job s t ≡ true → s .to ≤ t .«from»
+  pub next-to : (s t : Segment) → behind job s t ≡ true → sameSet job s t ≡ true → s .to .0 ≤ t .«from» .0
   unfolding behind
-  next-to s t e f = go (ltb (setOf job (s .value)) (setOf job (t .value))) refl e
+  next-to s t e f = go (ltb (setOf job (s .value) .0) (setOf job (t .value) .0)) refl e
     where
-      go : (b : Bool) → ltb (setOf job (s .value)) (setOf job (t .value)) ≡ b → (b || (sameSet job s t && leb (s .to) (t .«from»))) ≡ true → s .to ≤ t .«from»
+      go : (b : Bool) → ltb (setOf job (s .value) .0) (setOf job (t .value) .0) ≡ b → (b || (sameSet job s t && leb (s .to .0) (t .«from» .0))) ≡ true → s .to .0 ≤ t .«from» .0
       go true a d =
-          let l : setOf job (s .value) < setOf job (t .value) = ltb-true _ _ a in
-          let q : setOf job (s .value) ≡ setOf job (t .value) = eqb-true _ _ f in
+          let l : setOf job (s .value) .0 < setOf job (t .value) .0 = ltb-true _ _ a in
+          let q : setOf job (s .value) .0 ≡ setOf job (t .value) .0 = eqb-true _ _ f in
           absurd (omega arith)
-      go false a d = leb-true _ _ (and-both (sameSet job s t) (leb (s .to) (t .«from»)) d .1)
+      go false a d = leb-true _ _ (and-both (sameSet job s t) (leb (s .to .0) (t .«from» .0)) d .1)
 
   -- a run's first segment may start later
-  pub from-on : (q : ℕ) (s : Segment) (ss : List Segment) → q ≤ s .«from» → SegsFit 0 (s ∷ ss) → SegsFit q (s ∷ ss)
+  pub from-on : (q : ℕ) (s : Segment) (ss : List Segment) → q ≤ s .«from» .0 → SegsFit 0 (s ∷ ss) → SegsFit q (s ∷ ss)
   from-on q s ss h k = (h, k .1, k .2, k .3)
 
   runs-fit : (ss : List Segment) → All Good ss → chained (behind job) ss ≡ true → All (SegsFit 0) (runs (sameSet job) ss)
@@ -91,7 +91,7 @@ module _ (job : Job) where
     where
       join : (cs : List Segment) (ds : List (List Segment)) → behind job s t ≡ true → SegsFit 0 (t ∷ cs) → All (SegsFit 0) ds
           → (b : Bool) → sameSet job s t ≡ b → All (SegsFit 0) (cond b ((s ∷ t ∷ cs) ∷ ds) ((s ∷ []) ∷ (t ∷ cs) ∷ ds))
-      join cs ds e k a true f = ((omega arith, g .0 .0, g .0 .1, from-on (s .to) t cs (next-to s t e f) k), a)
+      join cs ds e k a true f = ((omega arith, g .0 .0, g .0 .1, from-on (s .to .0) t cs (next-to s t e f) k), a)
       join cs ds e k a false f = ((omega arith, g .0 .0, g .0 .1, tt), (k, a))
 
       put : (rs : List (List Segment)) → behind job s t ≡ true → All (SegsFit 0) (onto (sameSet job) t rs) → All (SegsFit 0) (onto (sameSet job) s (onto (sameSet job) t rs))

@@ -11,7 +11,7 @@ use lib.ListN.{length, getD, length-append, List·getD-append}
 use lib.Seq.{getD-append-add}
 use lib.Dec.{leb, ltb}
 use borrow.Author.Tests.{ltb-true, ltb-false, leb-true, leb-false}
-use Rattle.definition.specs.Types.{BlockparamIn, BlockparamOut, ClassDef, ClassUse, ConstraintConflict, FixedDef, FixedUse, GroupClassDef, GroupClassUse, Held, Hint, Job, Out, Refusal, Room, Segment, State, TiedUse, Turned, Use, UseKind, done, refused}
+use Rattle.definition.specs.Types.{BlockparamIn, BlockparamOut, ClassDef, ClassUse, ConstraintConflict, FixedDef, FixedUse, GroupClassDef, GroupClassUse, Held, Hint, Inst, Job, Out, Refusal, RegClass, Room, Segment, State, TiedUse, Turned, Use, UseKind, ValueSet, done, refused}
 use Rattle.definition.specs.Uses.{endPoint, endSlot, isClassUse}
 use Rattle.definition.specs.SplitPlacement.{earlyCut}
 use Rattle.definition.specs.Cuts.{leftCut, leftOf, rightCut, usesBefore}
@@ -22,6 +22,7 @@ use Rattle.definition.proofs.Cuts.{cut-uses}
 use Rattle.definition.proofs.Scans.{Admits, scan-before}
 use Rattle.definition.proofs.Counts.{classUses-append, classUses-at, classUses-turn, uses-turn}
 use Rattle.definition.proofs.Moves.{Clash, CutAt, move-turn, move-cut, early-in}
+use Rattle.definition.proofs.Places.{bind-cong}
 use Rattle.definition.proofs.Fits.{UsesFit, SegsFit, Rising, rising, rising-from, rising-le, turn-fit, right-fit}
 
 -- ---- class uses in the part before a cut lie before it
@@ -38,46 +39,46 @@ class-slot (GroupClassDef s c i) e = omega arith
 class-slot (BlockparamIn p) e = let z : _≡_ {A = ℕ} 0 1 = cc in absurd (omega arith)
 class-slot BlockparamOut e = omega arith
 
-abbrev Below : ℕ → List Use → Type 0
+abbrev Below : Inst → List Use → Type 0
 Below p [] = Unit {0}
-Below p (u ∷ us) = (isClassUse (u .kind) ≡ true → u .inst < p) × Below p us
+Below p (u ∷ us) = (isClassUse (u .kind) ≡ true → u .pos .0 < p .0) × Below p us
 
-below-append : (p : ℕ) (us vs : List Use) → Below p us → Below p vs → Below p (us ++ vs)
+below-append : (p : Inst) (us vs : List Use) → Below p us → Below p vs → Below p (us ++ vs)
 below-append p [] vs h k = k
 below-append p (u ∷ us) vs h k = (h .0, below-append p us vs (h .1) k)
 
-below-at : (p : ℕ) (us : List Use) (n : ℕ) → Below p us → n < length us → isClassUse (useAt us n .kind) ≡ true → useAt us n .inst < p
+below-at : (p : Inst) (us : List Use) (n : ℕ) → Below p us → n < length us → isClassUse (useAt us n .kind) ≡ true → useAt us n .pos .0 < p .0
 below-at p [] n h k e = absurd (omega arith)
 below-at p (u ∷ us) zero h k e = h .0 e
 below-at p (u ∷ us) (suc n) h k e = below-at p us n (h .1) (omega arith) e
 
-ended-below : (p : ℕ) (us : List Use) (l a b : ℕ) → UsesFit l a b us → b ≤ 4 * p → Below p us
+ended-below : (p : Inst) (us : List Use) (l a b : ℕ) → UsesFit l a b us → b ≤ 4 * p .0 → Below p us
 unfolding endPoint
 ended-below p [] l a b h k = tt
-ended-below p (u ∷ us) l a b h k = (λ e. omega (arith, class-slot (u .kind) e), ended-below p us (u .inst) a b (h .3) k)
+ended-below p (u ∷ us) l a b h k = (λ e. omega (arith, class-slot (u .kind) e), ended-below p us (u .pos .0) a b (h .3) k)
 
-before-below : (p : ℕ) (us : List Use) → Below p (usesBefore p us)
+before-below : (p : Inst) (us : List Use) → Below p (usesBefore p us)
 unfolding usesBefore
 before-below p [] = tt
-before-below p (u ∷ us) = go (ltb (u .inst) p) refl (before-below p us)
+before-below p (u ∷ us) = go (ltb (u .pos .0) (p .0)) refl (before-below p us)
   where
-    go : (t : Bool) → ltb (u .inst) p ≡ t → Below p (usesBefore p us) → Below p (usesBefore p (u ∷ us))
+    go : (t : Bool) → ltb (u .pos .0) (p .0) ≡ t → Below p (usesBefore p us) → Below p (usesBefore p (u ∷ us))
     go true e ih = rw (e, usesBefore) (λ _. ltb-true _ _ e, ih)
     go false e ih = rw (e, usesBefore) tt
 
-left-below : (hs : List Hint) (p : ℕ) (ss : List Segment) (q : ℕ) → SegsFit q ss → Below p (usesOf (leftCut hs p ss))
+left-below : (hs : List Hint) (p : Inst) (ss : List Segment) (q : ℕ) → SegsFit q ss → Below p (usesOf (leftCut hs p ss))
 unfolding leftCut leftOf usesOf
 left-below hs p [] q h = tt
-left-below hs p (s ∷ ss) q h = go (leb (s .to) (4 * p)) (ltb (s .«from») (4 * p)) refl refl (left-below hs p ss (s .to) (h .3))
+left-below hs p (s ∷ ss) q h = go (leb (s .to .0) (4 * p .0)) (ltb (s .«from» .0) (4 * p .0)) refl refl (left-below hs p ss (s .to .0) (h .3))
   where
-    go : (a b : Bool) → leb (s .to) (4 * p) ≡ a → ltb (s .«from») (4 * p) ≡ b → Below p (usesOf (leftCut hs p ss)) → Below p (usesOf (leftCut hs p (s ∷ ss)))
-    go true b e f ih = rw (e, leftCut) (below-append p (s .uses) (usesOf (leftCut hs p ss)) (ended-below p (s .uses) 0 (s .«from») (s .to) (h .2) (leb-true _ _ e)) ih)
+    go : (a b : Bool) → leb (s .to .0) (4 * p .0) ≡ a → ltb (s .«from» .0) (4 * p .0) ≡ b → Below p (usesOf (leftCut hs p ss)) → Below p (usesOf (leftCut hs p (s ∷ ss)))
+    go true b e f ih = rw (e, leftCut) (below-append p (s .uses) (usesOf (leftCut hs p ss)) (ended-below p (s .uses) 0 (s .«from» .0) (s .to .0) (h .2) (leb-true _ _ e)) ih)
     go false true e f ih = rw (e, f, leftCut) (below-append p (usesBefore p (s .uses)) [] (before-below p (s .uses)) tt)
     go false false e f ih = rw (e, f, leftCut) tt
 
 -- ---- a cut parts its start from its end
 
-module _ (job : Job) (st : State) (top : ℕ) (ss : List Segment) (q p : ℕ) (h : SegsFit q ss) (c : CutAt job st top (usesOf ss) p) where
+module _ (job : Job) (st : State) (top : RegClass) (ss : List Segment) (q : ℕ) (p : Inst) (h : SegsFit q ss) (c : CutAt job st top (usesOf ss) p) where
   L : List Use
   L = usesOf (leftCut (job .hints) p ss)
 
@@ -88,10 +89,10 @@ module _ (job : Job) (st : State) (top : ℕ) (ss : List Segment) (q p : ℕ) (h
   unfolding L R
   both = cut-uses (job .hints) p ss
 
-  between : (useAt (usesOf ss) (c .0) .inst < p) × (p ≤ useAt (usesOf ss) (c .1) .inst)
+  between : (useAt (usesOf ss) (c .0) .pos .0 < p .0) × (p .0 ≤ useAt (usesOf ss) (c .1) .pos .0)
   between =
-      let a = useAt (usesOf ss) (c .0) .inst in
-      let b = useAt (usesOf ss) (c .1) .inst in
+      let a = useAt (usesOf ss) (c .0) .pos .0 in
+      let b = useAt (usesOf ss) (c .1) .pos .0 in
       let le : a ≤ b = rising-le (usesOf ss) 0 (c .0) (c .1) (rising ss 0 q h (omega arith)) (c .2 .order) (c .2 .end .0) in
       let ne : a ≢ b = c .3 in
       let i = early-in (job .blocks) a b (omega arith) in
@@ -112,8 +113,8 @@ module _ (job : Job) (st : State) (top : ℕ) (ss : List Segment) (q p : ℕ) (h
           let m : n < length R = omega (arith, total, c .2 .start .0) in
           let at : useAt (usesOf ss) (c .0) ≡ useAt R n =
           rw (← both) (ap (λ (i : ℕ). getD (L ++ R) i noUse) (omega arith) ∙ getD-append-add L R n noUse) in
-          let ge : p ≤ useAt R n .inst = rising-from R p n (rising (rightCut (job .hints) p ss) p (4 * p) (right-fit (job .hints) p ss q h) (omega arith)) m in
-          let lt : useAt R n .inst < p = rw at at (between .0) in
+          let ge : p .0 ≤ useAt R n .pos .0 = rising-from R (p .0) n (rising (rightCut (job .hints) p ss) (p .0) (4 * p .0) (right-fit (job .hints) p ss q h) (omega arith)) m in
+          let lt : useAt R n .pos .0 < p .0 = rw at at (between .0) in
           omega arith
 
   end-right : length L ≤ c .1
@@ -125,8 +126,8 @@ module _ (job : Job) (st : State) (top : ℕ) (ss : List Segment) (q p : ℕ) (h
       go true e =
           let k : c .1 < length L = ltb-true _ _ e in
           let at : useAt (usesOf ss) (c .1) ≡ useAt L (c .1) = rw (← both) (List·getD-append L R noUse (c .1) k) in
-          let lt : useAt L (c .1) .inst < p = below-at p L (c .1) (left-below (job .hints) p ss q h) k (rw at at (c .2 .end .1)) in
-          let ge : p ≤ useAt L (c .1) .inst = rw at at (between .1) in
+          let lt : useAt L (c .1) .pos .0 < p .0 = below-at p L (c .1) (left-below (job .hints) p ss q h) k (rw at at (c .2 .end .1)) in
+          let ge : p .0 ≤ useAt L (c .1) .pos .0 = rw at at (between .1) in
           absurd (omega arith)
 
   -- the part before a cut never conflicts
@@ -145,18 +146,14 @@ module _ (job : Job) (st : State) (top : ℕ) (ss : List Segment) (q p : ℕ) (h
 
 -- ---- a turn
 
-pub turn-falls : (job : Job) (st : State) (top : ℕ) (ss : List Segment) (n : ℕ) → move job st top (usesOf ss) ≡ turn n → suc (classUses (usesOf (turnAt n ss))) ≡ classUses (usesOf ss)
+pub turn-falls : (job : Job) (st : State) (top : RegClass) (ss : List Segment) (n : ℕ) → move job st top (usesOf ss) ≡ turn n → suc (classUses (usesOf (turnAt n ss))) ≡ classUses (usesOf ss)
 turn-falls job st top ss n m =
     let c = move-turn job st top (usesOf ss) n m in
     rw uses-turn (classUses-turn (usesOf ss) n (c .0) (c .1))
 
 -- ---- the count of steps
 
-bind-cong : {A B : Type 0} (o : Out A) (f g : A → Out B) → ((a : A) → f a ≡ g a) → (o >>= f) ≡ (o >>= g)
-bind-cong (done a) f g e = e a
-bind-cong (refused r) f g e = refl
-
-module _ (job : Job) (room : Room) (set′ top : ℕ) where
+module _ (job : Job) (room : Room) (set′ : ValueSet) (top : RegClass) where
   -- with more steps than class uses, one step more changes nothing
   pub steps-more : (f : ℕ) (st : State) (ss : List Segment) (ts : List Turned) (q : ℕ) → SegsFit q ss → classUses (usesOf ss) < f
       → steps (suc f) job room set′ top st ss ts ≡ steps f job room set′ top st ss ts
@@ -174,7 +171,7 @@ module _ (job : Job) (room : Room) (set′ top : ℕ) where
       go (cut p) m ih =
           let c = move-cut job st top (usesOf ss) p m in
           bind-cong (placeFront job room set′ top (leftCut (job .hints) p ss) st) _ _ λ st′.
-          ih st′ (rightCut (job .hints) p ss) ts (4 * p) (right-fit (job .hints) p ss q h) (omega (arith, cut-falls job st top ss q p h c))
+          ih st′ (rightCut (job .hints) p ss) ts (4 * p .0) (right-fit (job .hints) p ss q h) (omega (arith, cut-falls job st top ss q p h c))
       go (halt s) m ih = refl
 
   -- so the count that `buildSet` gives is enough
@@ -210,5 +207,5 @@ module _ (job : Job) (room : Room) (set′ top : ℕ) where
       go (cut p) m =
           let c = move-cut job st top (usesOf ss) p m in
           bind-cong (placeFront job room set′ top (leftCut (job .hints) p ss) st) _ _ λ st′.
-          steps-same (classUses (usesOf ss)) st′ (rightCut (job .hints) p ss) ts (4 * p) (right-fit (job .hints) p ss q h) (cut-falls job st top ss q p h c)
+          steps-same (classUses (usesOf ss)) st′ (rightCut (job .hints) p ss) ts (4 * p .0) (right-fit (job .hints) p ss q h) (cut-falls job st top ss q p h c)
       go (halt s) m = refl

@@ -10,12 +10,23 @@ use lib.ListN.{length, getD, set, replicate, length-append}
 use lib.Dec.{leb, ltb}
 use lib.Ieee.{Float}
 use borrow.Author.Tests.{ltb-true, ltb-false, leb-true, leb-false}
-use Rattle.definition.specs.Types.{BlockparamIn, BlockparamOut, ClassData, ClassDef, ClassUse, ConstraintConflict, FixedDef, FixedUse, GroupClassDef, GroupClassUse, Held, HeldGroup, Hint, Job, Mapped, MappedTwice, Out, Overlap, Piece, Refusal, Register, Room, Segment, State, Stop, TiedUse, Turned, Use, UseKind, done, refused}
+use Rattle.definition.specs.Types.{BlockparamIn, BlockparamOut, ClassData, ClassDef, ClassUse, ConstraintConflict, FixedDef, FixedUse, GroupClassDef, GroupClassUse, Held, HeldGroup, Hint, Inst, Job, LiveRangePoint, Mapped, MappedTwice, Out, Overlap, Piece, Refusal, RegClass, Register, Room, Segment, State, Stop, TiedUse, Turned, Use, UseKind, ValueSet, VirtReg, VirtRegGroup, done, refused, vreg, vrgroup}
 use Rattle.definition.specs.RegInfo.{classAt, commonSubclass}
 use Rattle.definition.specs.Weights.{weightOf}
 use Rattle.definition.specs.Admit.{Scan, admit, admitClass, admitGroup, admitKind, atPlace, fails-at, fresh, groupFits, guard, inGroup, later, mappedAt, membersAt, narrowed, noRegister, onAdmit, registerAt, scan, setsAt, through}
 use Rattle.definition.specs.Place.{_>>=_, alone, aloneState, firstFrom, gate, groupWeight, hasRoom, inserted, isNone, join, joinState, lastTo, lead, leadState, made, mapUses, merge, mergeState, orElse, overlaps, place, placeBy, placeGroup, segsOf, spread, total, update, usesOf, withPieces, withWeight}
 use Rattle.definition.specs.Build.{Round, asOwn, lastFirst, lastFirst′, try}
+
+-- ---- one answer after another
+
+-- a run of two that is done: so was the first
+pub bind-done : {A B : Type 0} (o : Out A) (k : A → Out B) (b : B) → (o >>= k) ≡ done b → (a : A) × (o ≡ done a) × (k a ≡ done b)
+bind-done (done a) k b e = (a, refl, e)
+bind-done (refused r) k b e = let z : _≡_ {A = ℕ} 0 1 = cc in absurd (omega arith)
+
+pub bind-cong : {A B : Type 0} (o : Out A) (f g : A → Out B) → ((a : A) → f a ≡ g a) → (o >>= f) ≡ (o >>= g)
+bind-cong (done a) f g e = e a
+bind-cong (refused r) f g e = refl
 
 -- ---- sums over lists
 
@@ -50,17 +61,17 @@ module _ (μ : Piece → ℕ) where
   unfolding counted
   counted-one r = omega arith
 
-  update-weight : (c : ℕ) (w : Float) (n : ℕ) (rs : List Register) → counted (update (withWeight c w) n rs) ≡ counted rs
+  update-weight : (c : RegClass) (w : Float) (n : ℕ) (rs : List Register) → counted (update (withWeight c w) n rs) ≡ counted rs
   unfolding counted update
   update-weight c w n [] = refl
   update-weight c w zero (r ∷ rs) = refl
   update-weight c w (suc n) (r ∷ rs) = ap (λ (x : ℕ). total μ (r .pieces) + x) (update-weight c w n rs)
 
-  spread-keeps : (c : ℕ) (w : Float) (ms : List (Option ℕ)) (rs : List Register) → counted (spread c w ms rs) ≡ counted rs
+  spread-keeps : (c : RegClass) (w : Float) (ms : List (Option VirtReg)) (rs : List Register) → counted (spread c w ms rs) ≡ counted rs
   unfolding spread
   spread-keeps c w [] rs = refl
   spread-keeps c w (none ∷ ms) rs = spread-keeps c w ms rs
-  spread-keeps c w (some n ∷ ms) rs = spread-keeps c w ms (update (withWeight c w) n rs) ∙ update-weight c w n rs
+  spread-keeps c w (some n ∷ ms) rs = spread-keeps c w ms (update (withWeight c w) (n .0) rs) ∙ update-weight c w (n .0) rs
 
   update-pieces : (ps : List Piece) (n : ℕ) (rs : List Register) → n < length rs
       → counted (update (withPieces ps) n rs) + total μ (getD rs n noRegister .pieces) ≡ counted rs + total μ ps
@@ -69,23 +80,23 @@ module _ (μ : Piece → ℕ) where
   update-pieces ps zero (r ∷ rs) h = omega arith
   update-pieces ps (suc n) (r ∷ rs) h = omega (arith, update-pieces ps n rs (omega arith))
 
-  inserted-counts : (a : ℕ) (new old : List Piece) → total μ (inserted a new old) ≡ total μ new + total μ old
+  inserted-counts : (a : LiveRangePoint) (new old : List Piece) → total μ (inserted a new old) ≡ total μ new + total μ old
   unfolding inserted total
   inserted-counts a new [] = omega arith
-  inserted-counts a new (p ∷ ps) = go (leb (p .seg .to) a) refl (inserted-counts a new ps)
+  inserted-counts a new (p ∷ ps) = go (leb (p .seg .to .0) (a .0)) refl (inserted-counts a new ps)
     where
-      go : (b : Bool) → leb (p .seg .to) a ≡ b → total μ (inserted a new ps) ≡ total μ new + total μ ps
+      go : (b : Bool) → leb (p .seg .to .0) (a .0) ≡ b → total μ (inserted a new ps) ≡ total μ new + total μ ps
           → total μ (inserted a new (p ∷ ps)) ≡ total μ new + (μ p + total μ ps)
       go true e ih = rw (e, inserted) (omega arith)
       go false e ih = rw (e, inserted) (total-append μ new (p ∷ ps))
 
 -- ---- members and targets are registers
 
-abbrev pub Ok : ℕ → Option ℕ → Type 0
+abbrev pub Ok : ℕ → Option VirtReg → Type 0
 Ok n none = Unit {0}
-Ok n (some v) = v < n
+Ok n (some v) = v .0 < n
 
-pub ok-more : (n m : ℕ) (o : Option ℕ) → n ≤ m → Ok n o → Ok m o
+pub ok-more : (n m : ℕ) (o : Option VirtReg) → n ≤ m → Ok n o → Ok m o
 ok-more n m none h k = tt
 ok-more n m (some v) h k = omega arith
 
@@ -131,17 +142,17 @@ unfolding usesOf
 own-uses [] = refl
 own-uses (s ∷ ss) = ap (λ (l : List Use). s .uses ++ l) (own-uses ss)
 
-abbrev pub Members : ℕ → List (Option ℕ) → Type 0
+abbrev pub Members : ℕ → List (Option VirtReg) → Type 0
 Members n ms = All (Ok n) ms
 
 abbrev pub Groups : State → Type 0
 Groups st = All (Members (length (st .registers))) (st .groups)
 
-pub members-ok : (st : State) (g : ℕ) → Groups st → Members (length (st .registers)) (membersAt st g)
+pub members-ok : (st : State) (g : VirtRegGroup) → Groups st → Members (length (st .registers)) (membersAt st g)
 unfolding membersAt
-members-ok st g h = all-getD (Members (length (st .registers))) (st .groups) g [] h tt
+members-ok st g h = all-getD (Members (length (st .registers))) (st .groups) (g .0) [] h tt
 
-pub groups-more : (n m : ℕ) (gs : List (List (Option ℕ))) → n ≤ m → All (Members n) gs → All (Members m) gs
+pub groups-more : (n m : ℕ) (gs : List (List (Option VirtReg))) → n ≤ m → All (Members n) gs → All (Members m) gs
 groups-more n m gs h k = all-map (Members n) (Members m) (λ ms. all-map (Ok n) (Ok m) (λ o. ok-more n m o h) ms) gs k
 
 -- ---- what is held names a register
@@ -156,13 +167,13 @@ module _ (job : Job) (st : State) (gs : Groups st) where
   TargetOk h = Ok (length (st .registers)) (h .target)
 
   -- at a pair's second part
-  abbrev SecondOk : ℕ × Option ℕ → Type 0
+  abbrev SecondOk : RegClass × Option VirtReg → Type 0
   SecondOk n = Ok (length (st .registers)) (n .1)
 
   same-held : (h g : Held) → TargetOk h → some h ≡ some g → TargetOk g
   same-held h g k e = subst TargetOk (Option·some-injective h g e) k
 
-  place-target : (h : Held) (k : ℕ) (ms : List (Option ℕ)) (o : Option ℕ) (n : ℕ × Option ℕ) → TargetOk h → Ok (length (st .registers)) o
+  place-target : (h : Held) (k : RegClass) (ms : List (Option VirtReg)) (o : Option VirtReg) (n : RegClass × Option VirtReg) → TargetOk h → Ok (length (st .registers)) o
       → atPlace job st h k ms o ≡ some n → SecondOk n
   unfolding atPlace
   place-target h k ms none n a b e =
@@ -170,18 +181,18 @@ module _ (job : Job) (st : State) (gs : Groups st) where
   place-target h k ms (some v) n a b e =
       let r = bind-some (commonSubclass job (h .class) (registerAt st v .class)) _ n e in subst SecondOk (Option·some-injective _ _ (r .2)) b
 
-  group-target : (h : Held) (k i : ℕ) (m : Option ℕ) (n : ℕ × Option ℕ) → TargetOk h → inGroup job st h k i m ≡ some n → SecondOk n
+  group-target : (h : Held) (k : RegClass) (i : ℕ) (m : Option VirtRegGroup) (n : RegClass × Option VirtReg) → TargetOk h → inGroup job st h k i m ≡ some n → SecondOk n
   unfolding inGroup
   group-target h k i none n a e = subst SecondOk (Option·some-injective _ _ e) a
   group-target h k i (some g) n a e =
       place-target h k (membersAt st g) (getD (membersAt st g) i none) n a
       (all-getD (Ok (length (st .registers))) (membersAt st g) i none (members-ok st g gs) tt) e
 
-  admit-class : (h : Held) (c : ℕ) (g : Held) → TargetOk h → admitClass job h c ≡ some g → TargetOk g
+  admit-class : (h : Held) (c : RegClass) (g : Held) → TargetOk h → admitClass job h c ≡ some g → TargetOk g
   unfolding admitClass
   admit-class h c g k e = let r = bind-some (commonSubclass job (h .class) c) _ g e in same-held _ g k (r .2)
 
-  admit-group : (h : Held) (p s c i : ℕ) (g : Held) → TargetOk h → admitGroup job st h p s c i ≡ some g → TargetOk g
+  admit-group : (h : Held) (p : Inst) (s : ℕ) (c : RegClass) (i : ℕ) (g : Held) → TargetOk h → admitGroup job st h p s c i ≡ some g → TargetOk g
   unfolding admitGroup
   admit-group h p s c i g k e =
       let r = bind-some (commonSubclass job (h .class) c) _ g e in
@@ -190,7 +201,7 @@ module _ (job : Job) (st : State) (gs : Groups st) where
       let o = group-target h (r .0) i (mappedAt (st .mapping) p s) (n .0) k (n .1) in
       same-held _ g o (n .2)
 
-  admit-kind : (h : Held) (p : ℕ) (k : UseKind) (g : Held) → TargetOk h → admitKind job st h p k ≡ some g → TargetOk g
+  admit-kind : (h : Held) (p : Inst) (k : UseKind) (g : Held) → TargetOk h → admitKind job st h p k ≡ some g → TargetOk g
   unfolding admitKind
   admit-kind h p (FixedDef r) g o e = same-held h g o e
   admit-kind h p (FixedUse r) g o e = same-held h g o e
@@ -205,7 +216,7 @@ module _ (job : Job) (st : State) (gs : Groups st) where
 
   pub admit-target : (h : Held) (u : Use) (g : Held) → TargetOk h → admit job st h u ≡ some g → TargetOk g
   unfolding admit
-  admit-target h u g o e = admit-kind h (u .inst) (u .kind) g o e
+  admit-target h u g o e = admit-kind h (u .pos) (u .kind) g o e
 
   pub scan-target : (us : List Use) (h g : Held) → TargetOk h → scan job st us h ≡ through g → TargetOk g
   unfolding scan
@@ -243,7 +254,7 @@ try-target job (suc f) st h taken (t ∷ us) left gs o =
 abbrev pub Placed : (Piece → ℕ) → List Piece → State → State → Type 0
 Placed μ new st st′ = (counted μ (st′ .registers) ≡ counted μ (st .registers) + total μ new) × Groups st′
 
-module _ (μ : Piece → ℕ) (job : Job) (room : Room) (set′ : ℕ) (h : Held) (new : List Piece) (st : State) (gs : Groups st) where
+module _ (μ : Piece → ℕ) (job : Job) (room : Room) (set′ : ValueSet) (h : Held) (new : List Piece) (st : State) (gs : Groups st) where
   longer : (rs : List Register) (r : Register) → length (rs ++ (r ∷ [])) ≡ suc (length rs)
   longer rs r = omega (arith, length-append rs (r ∷ []))
 
@@ -251,7 +262,7 @@ module _ (μ : Piece → ℕ) (job : Job) (room : Room) (set′ : ℕ) (h : Held
   one-more rs r = counted-append μ rs (r ∷ []) ∙ ap (λ (x : ℕ). counted μ rs + x) (counted-one μ r)
 
   -- groups stay in order where registers are only added
-  kept : (rs : List Register) (hs : List (List (Option ℕ))) → length (st .registers) ≤ length rs → All (Members (length (st .registers))) hs → All (Members (length rs)) hs
+  kept : (rs : List Register) (hs : List (List (Option VirtReg))) → length (st .registers) ≤ length rs → All (Members (length (st .registers))) hs → All (Members (length rs)) hs
   kept rs hs l k = groups-more (length (st .registers)) (length rs) hs l k
 
   alone-placed : Placed μ new st (aloneState job set′ h new st)
@@ -266,22 +277,22 @@ module _ (μ : Piece → ℕ) (job : Job) (room : Room) (set′ : ℕ) (h : Held
   lead-placed : (hg : HeldGroup) (ms : List Mapped) → Placed μ new st (leadState job set′ h hg new st ms)
   unfolding leadState
   lead-placed hg ms =
-      let r = made set′ h (weightOf job (h .class) (segsOf new)) (some (length (st .groups))) (hg .index) new in
+      let r = made set′ h (weightOf job (h .class) (segsOf new)) (some (vrgroup (length (st .groups)))) (hg .index) new in
       let rs = st .registers ++ (r ∷ []) in
       let l : length rs ≡ suc (length (st .registers)) = longer (st .registers) r in
-      let g = set (replicate (classAt job (h .class) .size) none) (hg .index) (some (length (st .registers))) in (
+      let g = set (replicate (classAt job (h .class) .size) none) (hg .index) (some (vreg (length (st .registers)))) in (
         one-more (st .registers) r,
         all-append (Members (length rs)) (st .groups) (g ∷ []) (kept rs (st .groups) (omega arith) gs)
-            (all-set (Ok (length rs)) (replicate (classAt job (h .class) .size) none) (hg .index) (some (length (st .registers))) (empty-ok (length rs) (classAt job (h .class) .size)) (omega arith), tt),
+            (all-set (Ok (length rs)) (replicate (classAt job (h .class) .size) none) (hg .index) (some (vreg (length (st .registers)))) (empty-ok (length rs) (classAt job (h .class) .size)) (omega arith), tt),
       )
 
-  spread-length : (c : ℕ) (w : Float) (ms : List (Option ℕ)) (rs : List Register) → length (spread c w ms rs) ≡ length rs
+  spread-length : (c : RegClass) (w : Float) (ms : List (Option VirtReg)) (rs : List Register) → length (spread c w ms rs) ≡ length rs
   unfolding spread update
   spread-length c w [] rs = refl
   spread-length c w (none ∷ ms) rs = spread-length c w ms rs
-  spread-length c w (some n ∷ ms) rs = spread-length c w ms (update (withWeight c w) n rs) ∙ update-length (withWeight c w) n rs
+  spread-length c w (some n ∷ ms) rs = spread-length c w ms (update (withWeight c w) (n .0) rs) ∙ update-length (withWeight c w) (n .0) rs
 
-  join-placed : (hg : HeldGroup) (g : ℕ) → Placed μ new st (joinState job set′ h hg g new st)
+  join-placed : (hg : HeldGroup) (g : VirtRegGroup) → Placed μ new st (joinState job set′ h hg g new st)
   unfolding joinState
   join-placed hg g =
       let w = groupWeight job h hg (membersAt st g) new st in
@@ -290,23 +301,23 @@ module _ (μ : Piece → ℕ) (job : Job) (room : Room) (set′ : ℕ) (h : Held
       let rs = old ++ (r ∷ []) in
       let l : length rs ≡ suc (length (st .registers)) = longer old r ∙ ap suc (spread-length (h .class) w (membersAt st g) (st .registers)) in (
         one-more old r ∙ ap (λ (x : ℕ). x + total μ new) (spread-keeps μ (h .class) w (membersAt st g) (st .registers)),
-        all-set (Members (length rs)) (st .groups) g (set (membersAt st g) (hg .index) (some (length (st .registers)))) (kept rs (st .groups) (omega arith) gs)
-            (all-set (Ok (length rs)) (membersAt st g) (hg .index) (some (length (st .registers)))
+        all-set (Members (length rs)) (st .groups) (g .0) (set (membersAt st g) (hg .index) (some (vreg (length (st .registers))))) (kept rs (st .groups) (omega arith) gs)
+            (all-set (Ok (length rs)) (membersAt st g) (hg .index) (some (vreg (length (st .registers))))
             (all-map (Ok (length (st .registers))) (Ok (length rs)) (λ o. ok-more (length (st .registers)) (length rs) o (omega arith)) (membersAt st g) (members-ok st g gs)) (omega arith)),
       )
 
-  merge-placed : (hg : HeldGroup) (g v : ℕ) → v < length (st .registers) → Placed μ new st (mergeState job h hg g v new st)
+  merge-placed : (hg : HeldGroup) (g : VirtRegGroup) (v : VirtReg) → v .0 < length (st .registers) → Placed μ new st (mergeState job h hg g v new st)
   unfolding mergeState registerAt
   merge-placed hg g v o =
       let old = registerAt st v .pieces in
       let ps = inserted (firstFrom new) new old in
       let w = groupWeight job h hg (membersAt st g) ps st in
-      let rs = update (withPieces ps) v (st .registers) in
+      let rs = update (withPieces ps) (v .0) (st .registers) in
       let a : counted μ (spread (h .class) w (membersAt st g) rs) ≡ counted μ rs = spread-keeps μ (h .class) w (membersAt st g) rs in
-      let b : counted μ rs + total μ old ≡ counted μ (st .registers) + total μ ps = update-pieces μ ps v (st .registers) o in
+      let b : counted μ rs + total μ old ≡ counted μ (st .registers) + total μ ps = update-pieces μ ps (v .0) (st .registers) o in
       let c : total μ ps ≡ total μ new + total μ old = inserted-counts μ (firstFrom new) new old in
       let l : length (spread (h .class) w (membersAt st g) rs) ≡ length (st .registers) =
-      spread-length (h .class) w (membersAt st g) rs ∙ update-length (withPieces ps) v (st .registers) in
+      spread-length (h .class) w (membersAt st g) rs ∙ update-length (withPieces ps) (v .0) (st .registers) in
       (omega arith, kept (spread (h .class) w (membersAt st g) rs) (st .groups) (omega arith) gs)
 
   -- a placing that is done gives the state that it was to give
@@ -314,23 +325,23 @@ module _ (μ : Piece → ℕ) (job : Job) (room : Room) (set′ : ℕ) (h : Held
   unfolding alone
   alone-done st′ e = gate-done false (hasRoom room st 1 0 new) Overlap (aloneState job set′ h new st) st′ e
 
-  join-done : (hg : HeldGroup) (g : ℕ) (st′ : State) → join job room set′ h hg g new st ≡ done st′ → joinState job set′ h hg g new st ≡ st′
+  join-done : (hg : HeldGroup) (g : VirtRegGroup) (st′ : State) → join job room set′ h hg g new st ≡ done st′ → joinState job set′ h hg g new st ≡ st′
   unfolding join
   join-done hg g st′ e = gate-done false (hasRoom room st 1 0 new) Overlap (joinState job set′ h hg g new st) st′ e
 
   abbrev theMapping : Option (List Mapped)
-  theMapping = mapUses (length (st .groups)) (usesOf (segsOf new)) (st .mapping)
+  theMapping = mapUses (vrgroup (length (st .groups))) (usesOf (segsOf new)) (st .mapping)
 
   lead-done : (hg : HeldGroup) (st′ : State) → lead job room set′ h hg new st ≡ done st′ → leadState job set′ h hg new st (orElse theMapping []) ≡ st′
   unfolding lead
   lead-done hg st′ e = gate-done (isNone theMapping) (hasRoom room st 1 1 new) MappedTwice (leadState job set′ h hg new st (orElse theMapping [])) st′ e
 
-  merge-done : (hg : HeldGroup) (g v : ℕ) (st′ : State) → merge job room h hg g v new st ≡ done st′ → mergeState job h hg g v new st ≡ st′
+  merge-done : (hg : HeldGroup) (g : VirtRegGroup) (v : VirtReg) (st′ : State) → merge job room h hg g v new st ≡ done st′ → mergeState job h hg g v new st ≡ st′
   unfolding merge
   merge-done hg g v st′ e =
       gate-done (overlaps (firstFrom new) (lastTo new) (registerAt st v .pieces)) (hasRoom room st 0 0 new) Overlap (mergeState job h hg g v new st) st′ e
 
-  group-placed : (hg : HeldGroup) (m t : Option ℕ) (st′ : State) → Ok (length (st .registers)) t → placeGroup job room set′ h new st hg m t ≡ done st′ → Placed μ new st st′
+  group-placed : (hg : HeldGroup) (m : Option VirtRegGroup) (t : Option VirtReg) (st′ : State) → Ok (length (st .registers)) t → placeGroup job room set′ h new st hg m t ≡ done st′ → Placed μ new st st′
   unfolding placeGroup
   group-placed hg none t st′ o e = subst (Placed μ new st) (lead-done hg st′ e) (lead-placed hg (orElse theMapping []))
   group-placed hg (some g) none st′ o e = subst (Placed μ new st) (join-done hg g st′ e) (join-placed hg g)

@@ -9,7 +9,7 @@ use mathlib.Core.List.{List, [], _∷_, _++_, map, append-nil}
 use lib.ListN.{length, getD, length-append}
 use lib.Dec.{leb, ltb}
 use borrow.Author.Tests.{ltb-false}
-use Rattle.definition.specs.Types.{BlockparamIn, ConstraintConflict, Held, Hint, Job, Origin, Piece, Register, Room, Segment, State, Stopped, Turned, Use, ValuesDiffer, done, refused}
+use Rattle.definition.specs.Types.{BlockparamIn, ConstraintConflict, Held, Hint, Inst, Job, Origin, Piece, RegClass, Register, Room, Segment, State, Stopped, Turned, Use, Value, ValueSet, ValuesDiffer, done, inst, refused}
 use Rattle.definition.specs.RegInfo.{setOf, topOf}
 use Rattle.definition.specs.Cuts.{leftCut, leftOf, rightCut, rightOf, usesBefore, usesFrom}
 use Rattle.definition.specs.Admit.{Move, Scan, admit, admitKind, cut, fails-at, fresh, halt, later, move, noUse, onAdmit, scan, through, turn, whole}
@@ -17,8 +17,7 @@ use Rattle.definition.specs.Place.{place, segsOf, usesOf}
 use Rattle.definition.specs.Build.{Built, Round, allOf, asOwn, atInst, buildSet, buildSets, classUses, conflictPiece, conflicts, lastFirst, onto, opening, placeFront, placeRound, placeScan, rounds, runs, sameInst, step, steps, try, turnAt, turnIn, turnedAt, turnedOf}
 use Rattle.definition.proofs.Cuts.{uses-cut}
 use Rattle.definition.proofs.Moves.{move-whole, move-turn}
-use Rattle.definition.proofs.Places.{All, all-append, all-split, all-first, own-uses}
-use Rattle.definition.proofs.Points.{bind-done}
+use Rattle.definition.proofs.Places.{All, all-append, all-split, all-first, bind-done, own-uses}
 
 -- ---- scans, and a round as a scan over what it took
 
@@ -63,12 +62,12 @@ module _ (job : Job) (st : State) where
       go (some g) d y n = rw (d, try) (y g (rw (uses-snoc taken t) (scan-snoc (usesIn taken) (t .use′) h₀ h g e d)))
 
   -- an opening block parameter is admitted
-  opened-scan : (p : ℕ) (o : Option ℕ) (us : List Use) (h g : Held) → scan job st us h ≡ through g → scan job st (opening p o ++ us) h ≡ through g
+  opened-scan : (p : Inst) (o : Option ℕ) (us : List Use) (h g : Held) → scan job st us h ≡ through g → scan job st (opening p o ++ us) h ≡ through g
   unfolding scan admit admitKind
   opened-scan p none us h g e = e
   opened-scan p (some q) us h g e = rw e
 
-conflict-scan : (job : Job) (st : State) (v p : ℕ) (o : Option ℕ) (ts : List Turned) (h g : Held) → scan job st (map (λ t. t .use′) ts) h ≡ through g
+conflict-scan : (job : Job) (st : State) (v : Value) (p : Inst) (o : Option ℕ) (ts : List Turned) (h g : Held) → scan job st (map (λ t. t .use′) ts) h ≡ through g
     → scan job st (usesOf (segsOf (conflictPiece v p o ts ∷ []))) h ≡ through g
 unfolding usesOf conflictPiece
 conflict-scan job st v p o ts h g e = rw append-nil (opened-scan job st p o (map (λ t. t .use′) ts) h g e)
@@ -93,14 +92,14 @@ runs-all {A} P alike (x ∷ xs) h = put (runs alike xs) (runs-all P alike xs (h 
 
 -- ---- facts on the segments of a set u
 
-module _ (OfValue : ℕ → ℕ → Type 0) (OfUse : ℕ → Use → Type 0) where
-  abbrev pub SegOk : ℕ → Segment → Type 0
+module _ (OfValue : ValueSet → Value → Type 0) (OfUse : ValueSet → Use → Type 0) where
+  abbrev pub SegOk : ValueSet → Segment → Type 0
   SegOk u s = OfValue u (s .value) × All (OfUse u) (s .uses)
 
-  abbrev pub PieceOk : ℕ → Piece → Type 0
+  abbrev pub PieceOk : ValueSet → Piece → Type 0
   PieceOk u p = SegOk u (p .seg)
 
-  abbrev pub TurnedOk : ℕ → Turned → Type 0
+  abbrev pub TurnedOk : ValueSet → Turned → Type 0
   TurnedOk u t = OfValue u (t .value) × OfUse u (t .use′)
 
   -- the segments of one set, as `buildSet` takes them
@@ -108,15 +107,15 @@ module _ (OfValue : ℕ → ℕ → Type 0) (OfUse : ℕ → Use → Type 0) whe
   RunOk job [] = Unit {0}
   RunOk job (s ∷ ss) = All (SegOk (setOf job (s .value))) (s ∷ ss)
 
-  uses-part : (u p : ℕ) (us : List Use) → All (OfUse u) us → All (OfUse u) (usesBefore p us) × All (OfUse u) (usesFrom p us)
+  uses-part : (u : ValueSet) (p : Inst) (us : List Use) → All (OfUse u) us → All (OfUse u) (usesBefore p us) × All (OfUse u) (usesFrom p us)
   uses-part u p us h = all-split (OfUse u) (usesBefore p us) (usesFrom p us) (rw uses-cut h)
 
-  cut-ok : (u : ℕ) (hs : List Hint) (p : ℕ) (ss : List Segment) → All (SegOk u) ss → All (SegOk u) (leftCut hs p ss) × All (SegOk u) (rightCut hs p ss)
+  cut-ok : (u : ValueSet) (hs : List Hint) (p : Inst) (ss : List Segment) → All (SegOk u) ss → All (SegOk u) (leftCut hs p ss) × All (SegOk u) (rightCut hs p ss)
   unfolding leftCut rightCut leftOf rightOf
   cut-ok u hs p [] a = (tt, tt)
-  cut-ok u hs p (s ∷ ss) a = go (leb (s .to) (4 * p)) (ltb (s .«from») (4 * p)) refl refl (cut-ok u hs p ss (a .1))
+  cut-ok u hs p (s ∷ ss) a = go (leb (s .to .0) (4 * p .0)) (ltb (s .«from» .0) (4 * p .0)) refl refl (cut-ok u hs p ss (a .1))
     where
-      go : (b c : Bool) → leb (s .to) (4 * p) ≡ b → ltb (s .«from») (4 * p) ≡ c → All (SegOk u) (leftCut hs p ss) × All (SegOk u) (rightCut hs p ss)
+      go : (b c : Bool) → leb (s .to .0) (4 * p .0) ≡ b → ltb (s .«from» .0) (4 * p .0) ≡ c → All (SegOk u) (leftCut hs p ss) × All (SegOk u) (rightCut hs p ss)
           → All (SegOk u) (leftCut hs p (s ∷ ss)) × All (SegOk u) (rightCut hs p (s ∷ ss))
       go true c e f ih = rw (e, leftCut, rightCut) ((a .0, ih .0), ih .1)
       go false true e f ih =
@@ -124,14 +123,14 @@ module _ (OfValue : ℕ → ℕ → Type 0) (OfUse : ℕ → Use → Type 0) whe
           rw (e, f, leftCut, rightCut) (((a .0 .0, q .0), tt), ((a .0 .0, q .1), a .1))
       go false false e f ih = rw (e, f, leftCut, rightCut) (tt, a)
 
-  module _ (mark : (u i : ℕ) → OfUse u (record { kind = ConstraintConflict; inst = i })) (param : (u i q : ℕ) → OfUse u (record { kind = BlockparamIn q; inst = i })) where
-    turn-uses : (u n : ℕ) (us : List Use) → All (OfUse u) us → All (OfUse u) (turnIn n us)
+  module _ (mark : (u : ValueSet) (i : Inst) → OfUse u (record { pos = i; kind = ConstraintConflict })) (param : (u : ValueSet) (i : Inst) (q : ℕ) → OfUse u (record { pos = i; kind = BlockparamIn q })) where
+    turn-uses : (u : ValueSet) (n : ℕ) (us : List Use) → All (OfUse u) us → All (OfUse u) (turnIn n us)
     unfolding turnIn
     turn-uses u n [] a = tt
-    turn-uses u zero (w ∷ us) a = (mark u (w .inst), a .1)
+    turn-uses u zero (w ∷ us) a = (mark u (w .pos), a .1)
     turn-uses u (suc n) (w ∷ us) a = (a .0, turn-uses u n us (a .1))
 
-    turn-ok : (u n : ℕ) (ss : List Segment) → All (SegOk u) ss → All (SegOk u) (turnAt n ss)
+    turn-ok : (u : ValueSet) (n : ℕ) (ss : List Segment) → All (SegOk u) ss → All (SegOk u) (turnAt n ss)
     unfolding turnAt
     turn-ok u n [] a = tt
     turn-ok u n (s ∷ ss) a = go (ltb n (length (s .uses))) refl (turn-ok u (n - length (s .uses)) ss (a .1))
@@ -140,12 +139,12 @@ module _ (OfValue : ℕ → ℕ → Type 0) (OfUse : ℕ → Use → Type 0) whe
         go true e ih = rw (e, turnAt) ((a .0 .0, turn-uses u n (s .uses) (a .0 .1)), a .1)
         go false e ih = rw (e, turnAt) (a .0, ih)
 
-    use-at : (u n : ℕ) (us : List Use) → All (OfUse u) us → OfUse u (getD us n noUse)
-    use-at u n [] a = mark u 0
+    use-at : (u : ValueSet) (n : ℕ) (us : List Use) → All (OfUse u) us → OfUse u (getD us n noUse)
+    use-at u n [] a = mark u (inst 0)
     use-at u zero (w ∷ us) a = a .0
     use-at u (suc n) (w ∷ us) a = use-at u n us (a .1)
 
-    turned-ok : (u n : ℕ) (ss : List Segment) → n < length (usesOf ss) → All (SegOk u) ss → TurnedOk u (turnedAt n ss)
+    turned-ok : (u : ValueSet) (n : ℕ) (ss : List Segment) → n < length (usesOf ss) → All (SegOk u) ss → TurnedOk u (turnedAt n ss)
     unfolding turnedAt turnedOf usesOf
     turned-ok u n [] l a = absurd (omega arith)
     turned-ok u n (s ∷ ss) l a = go (ltb n (length (s .uses))) refl (λ k. turned-ok u (n - length (s .uses)) ss k (a .1))
@@ -156,15 +155,15 @@ module _ (OfValue : ℕ → ℕ → Type 0) (OfUse : ℕ → Use → Type 0) whe
             let k : length (s .uses) ≤ n = ltb-false _ _ e in
             rw (e, turnedAt) (ih (omega (arith, length-append (s .uses) (usesOf ss))))
 
-    own-ok : (u : ℕ) (ss : List Segment) → All (SegOk u) ss → All (PieceOk u) (asOwn ss)
+    own-ok : (u : ValueSet) (ss : List Segment) → All (SegOk u) ss → All (PieceOk u) (asOwn ss)
     own-ok u [] a = tt
     own-ok u (s ∷ ss) a = (a .0, own-ok u ss (a .1))
 
-    taken-ok : (u : ℕ) (ts : List Turned) → All (TurnedOk u) ts → All (OfUse u) (map (λ t. t .use′) ts)
+    taken-ok : (u : ValueSet) (ts : List Turned) → All (TurnedOk u) ts → All (OfUse u) (map (λ t. t .use′) ts)
     taken-ok u [] a = tt
     taken-ok u (t ∷ ts) a = (a .0 .1, taken-ok u ts (a .1))
 
-    conflict-ok : (u v p : ℕ) (o : Option ℕ) (ts : List Turned) → OfValue u v → All (TurnedOk u) ts → PieceOk u (conflictPiece v p o ts)
+    conflict-ok : (u : ValueSet) (v : Value) (p : Inst) (o : Option ℕ) (ts : List Turned) → OfValue u v → All (TurnedOk u) ts → PieceOk u (conflictPiece v p o ts)
     unfolding conflictPiece
     conflict-ok u v p none ts k a = (k, taken-ok u ts a)
     conflict-ok u v p (some q) ts k a = (k, (param u p q, taken-ok u ts a))
@@ -172,13 +171,13 @@ module _ (OfValue : ℕ → ℕ → Type 0) (OfUse : ℕ → Use → Type 0) whe
     -- ---- the induction: Inv is kept by every placing of pieces of set u, whose uses were all admitted
 
     module _ (job : Job) (room : Room) (Inv : State → Type 0)
-        (keeps : (u top : ℕ) (h : Held) (new : List Piece) (st st′ : State) → Inv st → All (PieceOk u) new
+        (keeps : (u : ValueSet) (top : RegClass) (h : Held) (new : List Piece) (st st′ : State) → Inv st → All (PieceOk u) new
         → scan job st (usesOf (segsOf new)) (fresh top) ≡ through h → place job room u h new st ≡ done st′ → Inv st′) where
-      own-kept : (u top : ℕ) (ss : List Segment) (h : Held) (st st′ : State) → Inv st → All (SegOk u) ss → scan job st (usesOf ss) (fresh top) ≡ through h
+      own-kept : (u : ValueSet) (top : RegClass) (ss : List Segment) (h : Held) (st st′ : State) → Inv st → All (SegOk u) ss → scan job st (usesOf ss) (fresh top) ≡ through h
           → place job room u h (asOwn ss) st ≡ done st′ → Inv st′
       own-kept u top ss h st st′ i a e f = keeps u top h (asOwn ss) st st′ i (own-ok u ss a) (rw (own-uses ss) e) f
 
-      front-kept : (u top : ℕ) (ss : List Segment) (st st′ : State) → Inv st → All (SegOk u) ss → placeFront job room u top ss st ≡ done st′ → Inv st′
+      front-kept : (u : ValueSet) (top : RegClass) (ss : List Segment) (st st′ : State) → Inv st → All (SegOk u) ss → placeFront job room u top ss st ≡ done st′ → Inv st′
       unfolding placeFront
       front-kept u top ss st st′ i a e = go (scan job st (usesOf ss) (fresh top)) refl e
         where
@@ -186,7 +185,7 @@ module _ (OfValue : ℕ → ℕ → Type 0) (OfUse : ℕ → Use → Type 0) whe
           go (through h) b f = own-kept u top ss h st st′ i a b f
           go (fails-at n) b f = let z : _≡_ {A = ℕ} 0 1 = cc in absurd (omega arith)
 
-      steps-kept : (u top f : ℕ) (st : State) (ss : List Segment) (ts : List Turned) (b : Built) → Inv st → All (SegOk u) ss → All (TurnedOk u) ts
+      steps-kept : (u : ValueSet) (top : RegClass) (f : ℕ) (st : State) (ss : List Segment) (ts : List Turned) (b : Built) → Inv st → All (SegOk u) ss → All (TurnedOk u) ts
           → steps f job room u top st ss ts ≡ done b → Inv (b .state) × All (TurnedOk u) (b .turned)
       unfolding steps
       steps-kept u top zero st ss ts b i a c e = let z : _≡_ {A = ℕ} 0 1 = cc in absurd (omega arith)
@@ -213,7 +212,7 @@ module _ (OfValue : ℕ → ℕ → Type 0) (OfUse : ℕ → Use → Type 0) whe
               ih (r .0) (rightCut (job .hints) p ss) ts (front-kept u top l st (r .0) i (k .0) (r .1)) (k .1) c (r .2)
           go (halt s) m d ih = let z : _≡_ {A = ℕ} 0 1 = cc in absurd (omega arith)
 
-      rounds-kept : (u top f : ℕ) (t : Turned) (st : State) (us : List Turned) (st′ : State) → Inv st → OfValue u (t .value) → All (TurnedOk u) us
+      rounds-kept : (u : ValueSet) (top : RegClass) (f : ℕ) (t : Turned) (st : State) (us : List Turned) (st′ : State) → Inv st → OfValue u (t .value) → All (TurnedOk u) us
           → rounds f job room u top t st us ≡ done st′ → Inv st′
       unfolding rounds
       rounds-kept u top zero t st us st′ i v a e = let q : st ≡ st′ = cc in subst Inv q i
@@ -228,13 +227,13 @@ module _ (OfValue : ℕ → ℕ → Type 0) (OfUse : ℕ → Use → Type 0) whe
               → placeRound job room u t st r taken (λ st″ left. rounds f job room u top t st″ left) ≡ done st′ → Inv st′
           go r [] s b ih d = let z : _≡_ {A = ℕ} 0 1 = cc in absurd (omega arith)
           go r (x ∷ xs) s b ih d =
-              let p = t .use′ .inst in
+              let p = t .use′ .pos in
               let c = conflictPiece (t .value) p (t .param) (x ∷ xs) in
               let bnd = bind-done (place job room u (r .held) (c ∷ []) st) (λ st″. rounds f job room u top t st″ (r .left)) st′ d in
               ih (bnd .0) (keeps u top (r .held) (c ∷ []) st (bnd .0) i (conflict-ok u (t .value) p (t .param) (x ∷ xs) v b, tt)
               (conflict-scan job st (t .value) p (t .param) (x ∷ xs) (fresh top) (r .held) s) (bnd .1)) (bnd .2)
 
-      inst-kept : (u top : ℕ) (st : State) (ts : List Turned) (st′ : State) → Inv st → All (TurnedOk u) ts → atInst job room u top st ts ≡ done st′ → Inv st′
+      inst-kept : (u : ValueSet) (top : RegClass) (st : State) (ts : List Turned) (st′ : State) → Inv st → All (TurnedOk u) ts → atInst job room u top st ts ≡ done st′ → Inv st′
       unfolding atInst
       inst-kept u top st [] st′ i a e = let q : st ≡ st′ = cc in subst Inv q i
       inst-kept u top st (t ∷ ts) st′ i a e = go (allOf (t .value) ts) e
@@ -243,7 +242,7 @@ module _ (OfValue : ℕ → ℕ → Type 0) (OfUse : ℕ → Use → Type 0) whe
           go true f = rounds-kept u top (suc (length ts)) t st (t ∷ ts) st′ i (a .0 .0) a f
           go false f = let z : _≡_ {A = ℕ} 0 1 = cc in absurd (omega arith)
 
-      conflicts-kept : (u top : ℕ) (cs : List (List Turned)) (st st′ : State) → Inv st → All (All (TurnedOk u)) cs → conflicts job room u top cs st ≡ done st′ → Inv st′
+      conflicts-kept : (u : ValueSet) (top : RegClass) (cs : List (List Turned)) (st st′ : State) → Inv st → All (All (TurnedOk u)) cs → conflicts job room u top cs st ≡ done st′ → Inv st′
       unfolding conflicts
       conflicts-kept u top [] st st′ i a e = let q : st ≡ st′ = cc in subst Inv q i
       conflicts-kept u top (c ∷ cs) st st′ i a e =
