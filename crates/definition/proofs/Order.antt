@@ -12,7 +12,7 @@ use lib.ListN.{length, getD, length-append, List·getD-append}
 use lib.Seq.{getD-append-add}
 use lib.Dec.{leb, ltb, eqb}
 use borrow.Author.Tests.{ltb-true, ltb-false, eqb-true, eqb-false, eq-eqb, ne-eqb}
-use Rattle.definition.specs.Types.{Held, Hint, Job, Origin, Piece, Register, Room, Segment, State, Turned, Use, done}
+use Rattle.definition.specs.Types.{Held, Hint, Inst, Job, Origin, Piece, RegClass, Register, Room, Segment, State, Turned, Use, Value, ValueSet, done, vset}
 use Rattle.definition.specs.RegInfo.{setOf, topOf}
 use Rattle.definition.specs.Uses.{isClassUse}
 use Rattle.definition.specs.Cuts.{leftCut, leftOf, rightCut, rightOf}
@@ -30,11 +30,11 @@ use Rattle.definition.proofs.Entries.{and-both, Good, next-to, from-on}
 
 -- ---- uses, place by place
 
-listed-refl : (xs : List (ℕ × Use)) → Listed xs xs
+listed-refl : (xs : List (Value × Use)) → Listed xs xs
 listed-refl [] = tt
 listed-refl (x ∷ xs) = ((refl, inl refl), listed-refl xs)
 
-stands-trans : (a b c : ℕ × Use) → StandsFor a b → StandsFor b c → StandsFor a c
+stands-trans : (a b c : Value × Use) → StandsFor a b → StandsFor b c → StandsFor a c
 stands-trans a b c (e, inl f) (g, inl h) = (g ∙ e, inl (h ∙ f))
 stands-trans a b c (e, inl f) (g, inr h) = (g ∙ e, inr (subst (λ (u : Use). isClassUse (u .kind) ≡ true) f (h .0), h .1 ∙ ap turnedUse f))
 stands-trans a b c (e, inr f) (g, inl h) = (g ∙ e, inr (f .0, h ∙ f .1))
@@ -42,7 +42,7 @@ stands-trans a b c (e, inr f) (g, inr h) =
     let q : isClassUse (turnedUse (a .1) .kind) ≡ true = subst (λ (u : Use). isClassUse (u .kind) ≡ true) (f .1) (h .0) in
     let z : _≡_ {A = ℕ} 0 1 = cc in absurd (omega arith)
 
-listed-trans : (xs ys zs : List (ℕ × Use)) → Listed xs ys → Listed ys zs → Listed xs zs
+listed-trans : (xs ys zs : List (Value × Use)) → Listed xs ys → Listed ys zs → Listed xs zs
 listed-trans [] [] [] h k = tt
 listed-trans [] [] (z ∷ zs) h k = absurd k
 listed-trans [] (y ∷ ys) zs h k = absurd h
@@ -50,37 +50,37 @@ listed-trans (x ∷ xs) [] zs h k = absurd h
 listed-trans (x ∷ xs) (y ∷ ys) [] h k = absurd k
 listed-trans (x ∷ xs) (y ∷ ys) (z ∷ zs) h k = (stands-trans x y z (h .0) (k .0), listed-trans xs ys zs (h .1) (k .1))
 
-listed-append : (xs ys vs ws : List (ℕ × Use)) → Listed xs ys → Listed vs ws → Listed (xs ++ vs) (ys ++ ws)
+listed-append : (xs ys vs ws : List (Value × Use)) → Listed xs ys → Listed vs ws → Listed (xs ++ vs) (ys ++ ws)
 listed-append [] [] vs ws h k = k
 listed-append [] (y ∷ ys) vs ws h k = absurd h
 listed-append (x ∷ xs) [] vs ws h k = absurd h
 listed-append (x ∷ xs) (y ∷ ys) vs ws h k = (h .0, listed-append xs ys vs ws (h .1) k)
 
-under-append : (v : ℕ) (us ws : List Use) → under v (us ++ ws) ≡ under v us ++ under v ws
+under-append : (v : Value) (us ws : List Use) → under v (us ++ ws) ≡ under v us ++ under v ws
 under-append v [] ws = refl
-under-append v (u ∷ us) ws = ap (λ (l : List (ℕ × Use)). (v, u) ∷ l) (under-append v us ws)
+under-append v (u ∷ us) ws = ap (λ (l : List (Value × Use)). (v, u) ∷ l) (under-append v us ws)
 
 valued-append : (ss rs : List Segment) → valued (ss ++ rs) ≡ valued ss ++ valued rs
 unfolding valued
 valued-append [] rs = refl
-valued-append (s ∷ ss) rs = ap (λ (l : List (ℕ × Use)). under (s .value) (s .uses) ++ l) (valued-append ss rs) ∙ sym (append-assoc (under (s .value) (s .uses)) (valued ss) (valued rs))
+valued-append (s ∷ ss) rs = ap (λ (l : List (Value × Use)). under (s .value) (s .uses) ++ l) (valued-append ss rs) ∙ sym (append-assoc (under (s .value) (s .uses)) (valued ss) (valued rs))
 
 -- ---- a cut keeps them; a turn marks one
 
-module _ (hs : List Hint) (p : ℕ) where
+module _ (hs : List Hint) (p : Inst) where
   cut-valued : (ss : List Segment) → valued (leftCut hs p ss) ++ valued (rightCut hs p ss) ≡ valued ss
   unfolding valued leftCut rightCut leftOf rightOf
   cut-valued [] = refl
-  cut-valued (s ∷ ss) = go (leb (s .to) (4 * p)) (ltb (s .«from») (4 * p)) refl refl (cut-valued ss)
+  cut-valued (s ∷ ss) = go (leb (s .to .0) (4 * p .0)) (ltb (s .«from» .0) (4 * p .0)) refl refl (cut-valued ss)
     where
-      go : (a b : Bool) → leb (s .to) (4 * p) ≡ a → ltb (s .«from») (4 * p) ≡ b
+      go : (a b : Bool) → leb (s .to .0) (4 * p .0) ≡ a → ltb (s .«from» .0) (4 * p .0) ≡ b
           → valued (leftCut hs p ss) ++ valued (rightCut hs p ss) ≡ valued ss
           → valued (leftCut hs p (s ∷ ss)) ++ valued (rightCut hs p (s ∷ ss)) ≡ under (s .value) (s .uses) ++ valued ss
       go true b e f ih = rw (e, leftCut, rightCut) (rw (append-assoc, ih))
       go false true e f ih = rw (e, f, leftCut, rightCut) (rw (append-nil, ← append-assoc, ← under-append, uses-cut))
       go false false e f ih = rw (e, f, leftCut, rightCut)
 
-under-turn : (v n : ℕ) (us : List Use) → ClassAt us n → Listed (under v us) (under v (turnIn n us))
+under-turn : (v : Value) (n : ℕ) (us : List Use) → ClassAt us n → Listed (under v us) (under v (turnIn n us))
 unfolding turnIn
 under-turn v n [] c = absurd (omega arith)
 under-turn v zero (u ∷ us) c = ((refl, inr (c .1, refl)), listed-refl (under v us))
@@ -109,42 +109,42 @@ turn-listed n (s ∷ ss) c = go (ltb n (length (s .uses))) refl (λ d. turn-list
 
 fit-follows : (q : ℕ) (ss : List Segment) → SegsFit q ss → Follows q ss
 fit-follows q [] h = tt
-fit-follows q (s ∷ ss) h = (h .0, h .1, fit-follows (s .to) ss (h .3))
+fit-follows q (s ∷ ss) h = (h .0, h .1, fit-follows (s .to .0) ss (h .3))
 
 -- the part before a cut, and what is made of the part behind it
-cut-follows : (hs : List Hint) (p : ℕ) (made : List Segment) (ss : List Segment) (q : ℕ) → SegsFit q ss → ((r : ℕ) → SegsFit r (rightCut hs p ss) → Follows r made)
+cut-follows : (hs : List Hint) (p : Inst) (made : List Segment) (ss : List Segment) (q : ℕ) → SegsFit q ss → ((r : ℕ) → SegsFit r (rightCut hs p ss) → Follows r made)
     → Follows q (leftCut hs p ss ++ made)
 unfolding leftCut rightCut leftOf
 cut-follows hs p made [] q h f = f q tt
-cut-follows hs p made (s ∷ ss) q h f = go (leb (s .to) (4 * p)) (ltb (s .«from») (4 * p)) refl refl f (λ f′. cut-follows hs p made ss (s .to) (h .3) f′)
+cut-follows hs p made (s ∷ ss) q h f = go (leb (s .to .0) (4 * p .0)) (ltb (s .«from» .0) (4 * p .0)) refl refl f (λ f′. cut-follows hs p made ss (s .to .0) (h .3) f′)
   where
-    go : (a b : Bool) → leb (s .to) (4 * p) ≡ a → ltb (s .«from») (4 * p) ≡ b → ((r : ℕ) → SegsFit r (rightCut hs p (s ∷ ss)) → Follows r made)
-        → (((r : ℕ) → SegsFit r (rightCut hs p ss) → Follows r made) → Follows (s .to) (leftCut hs p ss ++ made)) → Follows q (leftCut hs p (s ∷ ss) ++ made)
+    go : (a b : Bool) → leb (s .to .0) (4 * p .0) ≡ a → ltb (s .«from» .0) (4 * p .0) ≡ b → ((r : ℕ) → SegsFit r (rightCut hs p (s ∷ ss)) → Follows r made)
+        → (((r : ℕ) → SegsFit r (rightCut hs p ss) → Follows r made) → Follows (s .to .0) (leftCut hs p ss ++ made)) → Follows q (leftCut hs p (s ∷ ss) ++ made)
     go true b e g f ih =
         let same : rightCut hs p (s ∷ ss) ≡ rightCut hs p ss = rw (e, rightCut) in
         rw (e, leftCut) (h .0, h .1, ih (λ r k. f r (rw same k)))
-    go false true e g f ih = rw (e, g, leftCut) (h .0, ltb-true _ _ g, f (4 * p) (right-fit hs p (s ∷ ss) q h))
+    go false true e g f ih = rw (e, g, leftCut) (h .0, ltb-true _ _ g, f (4 * p .0) (right-fit hs p (s ∷ ss) q h))
     go false false e g f ih =
         let same : rightCut hs p (s ∷ ss) ≡ s ∷ ss = rw (e, g, rightCut) in
         rw (e, g, leftCut) (f q (rw same h))
 
 -- ---- the values that the segments are of
 
-abbrev pub AllOf : Job → ℕ → List Segment → Type 0
+abbrev pub AllOf : Job → ValueSet → List Segment → Type 0
 AllOf job u ss = All (λ s. setOf job (s .value) ≡ u) ss
 
-cut-of : (job : Job) (u : ℕ) (hs : List Hint) (p : ℕ) (ss : List Segment) → AllOf job u ss → AllOf job u (leftCut hs p ss) × AllOf job u (rightCut hs p ss)
+cut-of : (job : Job) (u : ValueSet) (hs : List Hint) (p : Inst) (ss : List Segment) → AllOf job u ss → AllOf job u (leftCut hs p ss) × AllOf job u (rightCut hs p ss)
 unfolding leftCut rightCut leftOf rightOf
 cut-of job u hs p [] a = (tt, tt)
-cut-of job u hs p (s ∷ ss) a = go (leb (s .to) (4 * p)) (ltb (s .«from») (4 * p)) refl refl (cut-of job u hs p ss (a .1))
+cut-of job u hs p (s ∷ ss) a = go (leb (s .to .0) (4 * p .0)) (ltb (s .«from» .0) (4 * p .0)) refl refl (cut-of job u hs p ss (a .1))
   where
-    go : (b c : Bool) → leb (s .to) (4 * p) ≡ b → ltb (s .«from») (4 * p) ≡ c → AllOf job u (leftCut hs p ss) × AllOf job u (rightCut hs p ss)
+    go : (b c : Bool) → leb (s .to .0) (4 * p .0) ≡ b → ltb (s .«from» .0) (4 * p .0) ≡ c → AllOf job u (leftCut hs p ss) × AllOf job u (rightCut hs p ss)
         → AllOf job u (leftCut hs p (s ∷ ss)) × AllOf job u (rightCut hs p (s ∷ ss))
     go true c e f ih = rw (e, leftCut, rightCut) ((a .0, ih .0), ih .1)
     go false true e f ih = rw (e, f, leftCut, rightCut) ((a .0, tt), (a .0, a .1))
     go false false e f ih = rw (e, f, leftCut, rightCut) (tt, a)
 
-turn-of : (job : Job) (u n : ℕ) (ss : List Segment) → AllOf job u ss → AllOf job u (turnAt n ss)
+turn-of : (job : Job) (u : ValueSet) (n : ℕ) (ss : List Segment) → AllOf job u ss → AllOf job u (turnAt n ss)
 unfolding turnAt
 turn-of job u n [] a = tt
 turn-of job u n (s ∷ ss) a = go (ltb n (length (s .uses))) refl (turn-of job u (n - length (s .uses)) ss (a .1))
@@ -161,10 +161,10 @@ pub record Made (job : Job) (st : State) (ss : List Segment) (st′ : State) : T
   pub counts : (ν : Segment → ℕ) → counted (ofOwn ν) (st′ .registers) ≡ counted (ofOwn ν) (st .registers) + total ν pieces
   pub follow : (q : ℕ) → SegsFit q ss → Follows q pieces
   pub listed : Listed (valued ss) (valued pieces)
-  pub led : (u : ℕ) → AllOf job u ss → AllOf job u pieces
+  pub led : (u : ValueSet) → AllOf job u ss → AllOf job u pieces
   pub groups : Groups st′
 
-module _ (job : Job) (room : Room) (set′ top : ℕ) where
+module _ (job : Job) (room : Room) (set′ : ValueSet) (top : RegClass) where
   steps-made : (f : ℕ) (st : State) (ss : List Segment) (ts : List Turned) (b : Built) → Groups st → steps f job room set′ top st ss ts ≡ done b → Made job st ss (b .state)
   unfolding steps fresh
   steps-made zero st ss ts b gs e = let z : _≡_ {A = ℕ} 0 1 = cc in absurd (omega arith)
@@ -234,7 +234,7 @@ set-made job room s ss st st′ gs e =
 abbrev pub Rise : Job → ℕ → List (List Segment) → Type 0
 Rise job t [] = Unit {0}
 Rise job t ([] ∷ rs) = Rise job t rs
-Rise job t ((c ∷ cs) ∷ rs) = (t ≤ setOf job (c .value)) × AllOf job (setOf job (c .value)) cs × SegsFit 0 (c ∷ cs) × Rise job (suc (setOf job (c .value))) rs
+Rise job t ((c ∷ cs) ∷ rs) = (t ≤ setOf job (c .value) .0) × AllOf job (setOf job (c .value)) cs × SegsFit 0 (c ∷ cs) × Rise job (suc (setOf job (c .value) .0)) rs
 
 onto-first : {A : Type 0} (alike : A → A → Bool) (a : A) (rs : List (List A)) → (xs : List A) × (ys : List (List A)) × (onto alike a rs ≡ (a ∷ xs) ∷ ys)
 onto-first alike a [] = ([], [], refl)
@@ -246,43 +246,47 @@ onto-first {A} alike a ((c ∷ cs) ∷ ds) = go (alike a c)
     go false = ([], (c ∷ cs) ∷ ds, refl)
 
 -- a segment behind another one is of the same set or of a higher one
-behind-set : (job : Job) (s t : Segment) → behind job s t ≡ true → setOf job (s .value) ≤ setOf job (t .value)
+behind-set : (job : Job) (s t : Segment) → behind job s t ≡ true → setOf job (s .value) .0 ≤ setOf job (t .value) .0
 unfolding behind
-behind-set job s t e = go (ltb (setOf job (s .value)) (setOf job (t .value))) refl e
+behind-set job s t e = go (ltb (setOf job (s .value) .0) (setOf job (t .value) .0)) refl e
   where
-    go : (b : Bool) → ltb (setOf job (s .value)) (setOf job (t .value)) ≡ b → (b || (sameSet job s t && leb (s .to) (t .«from»))) ≡ true → setOf job (s .value) ≤ setOf job (t .value)
-    go true a d = let l : setOf job (s .value) < setOf job (t .value) = ltb-true _ _ a in omega arith
-    go false a d = let q : setOf job (s .value) ≡ setOf job (t .value) = eqb-true _ _ (and-both (sameSet job s t) (leb (s .to) (t .«from»)) d .0) in omega arith
+    go : (b : Bool) → ltb (setOf job (s .value) .0) (setOf job (t .value) .0) ≡ b → (b || (sameSet job s t && leb (s .to .0) (t .«from» .0))) ≡ true → setOf job (s .value) .0 ≤ setOf job (t .value) .0
+    go true a d = let l : setOf job (s .value) .0 < setOf job (t .value) .0 = ltb-true _ _ a in omega arith
+    go false a d = let q : setOf job (s .value) .0 ≡ setOf job (t .value) .0 = eqb-true _ _ (and-both (sameSet job s t) (leb (s .to .0) (t .«from» .0)) d .0) in omega arith
 
-pub runs-rise : (job : Job) (s : Segment) (ss : List Segment) → All (Good job) (s ∷ ss) → chained (behind job) (s ∷ ss) ≡ true → Rise job (setOf job (s .value)) (runs (sameSet job) (s ∷ ss))
+pub runs-rise : (job : Job) (s : Segment) (ss : List Segment) → All (Good job) (s ∷ ss) → chained (behind job) (s ∷ ss) ≡ true → Rise job (setOf job (s .value) .0) (runs (sameSet job) (s ∷ ss))
 unfolding runs chained
 runs-rise job s [] g c = (omega arith, tt, (omega arith, g .0 .0, g .0 .1, tt), tt)
 runs-rise job s (t ∷ ss) g c =
     let d = and-both (behind job s t) (chained (behind job) (t ∷ ss)) c in
     let o = onto-first (sameSet job) t (runs (sameSet job) ss) in
-    let ih : Rise job (setOf job (t .value)) ((t ∷ o .0) ∷ o .1) = subst (Rise job (setOf job (t .value))) (o .2) (runs-rise job t ss (g .1) (d .1)) in
-    subst (λ (l : List (List Segment)). Rise job (setOf job (s .value)) (onto (sameSet job) s l)) (sym (o .2)) (go (o .0) (o .1) (d .0) ih (sameSet job s t) refl)
+    let ih : Rise job (setOf job (t .value) .0) ((t ∷ o .0) ∷ o .1) = subst (Rise job (setOf job (t .value) .0)) (o .2) (runs-rise job t ss (g .1) (d .1)) in
+    subst (λ (l : List (List Segment)). Rise job (setOf job (s .value) .0) (onto (sameSet job) s l)) (sym (o .2)) (go (o .0) (o .1) (d .0) ih (sameSet job s t) refl)
   where
-    go : (xs : List Segment) (ys : List (List Segment)) → behind job s t ≡ true → Rise job (setOf job (t .value)) ((t ∷ xs) ∷ ys) → (b : Bool) → sameSet job s t ≡ b
-        → Rise job (setOf job (s .value)) (cond b ((s ∷ t ∷ xs) ∷ ys) ((s ∷ []) ∷ (t ∷ xs) ∷ ys))
+    go : (xs : List Segment) (ys : List (List Segment)) → behind job s t ≡ true → Rise job (setOf job (t .value) .0) ((t ∷ xs) ∷ ys) → (b : Bool) → sameSet job s t ≡ b
+        → Rise job (setOf job (s .value) .0) (cond b ((s ∷ t ∷ xs) ∷ ys) ((s ∷ []) ∷ (t ∷ xs) ∷ ys))
     go xs ys e r true f =
-        let q : setOf job (s .value) ≡ setOf job (t .value) = eqb-true _ _ f in
-        (omega arith, (sym q, rw q (r .1)), (omega arith, g .0 .0, g .0 .1, from-on job (s .to) t xs (next-to job s t e f) (r .2)), rw q (r .3))
+        let n : setOf job (s .value) .0 ≡ setOf job (t .value) .0 = eqb-true _ _ f in
+        let q : setOf job (s .value) ≡ setOf job (t .value) = ap vset n in
+        (omega arith, (sym q, rw q (r .1)), (omega arith, g .0 .0, g .0 .1, from-on job (s .to .0) t xs (next-to job s t e f) (r .2)), rw q (r .3))
     go xs ys e r false f =
-        let n : setOf job (s .value) ≡ setOf job (t .value) → ⊥ = eqb-false _ _ f in
+        let n : setOf job (s .value) .0 ≡ setOf job (t .value) .0 → ⊥ = eqb-false _ _ f in
         let l = behind-set job s t e in
         (omega arith, tt, (omega arith, g .0 .0, g .0 .1, tt), (omega arith, r .1, r .2, r .3))
 
 -- ---- what is of the set s
 
-abbrev pub ledBy : Job → ℕ → (Segment → ℕ) → Segment → ℕ
-ledBy job s ν x = cond (eqb (setOf job (x .value)) s) (ν x) 0
+abbrev number : ValueSet → ℕ
+number s = s .0
 
-module _ (job : Job) (s : ℕ) where
+abbrev pub ledBy : Job → ValueSet → (Segment → ℕ) → Segment → ℕ
+ledBy job s ν x = cond (eqb (setOf job (x .value) .0) (s .0)) (ν x) 0
+
+module _ (job : Job) (s : ValueSet) where
   of-append : (xs ys : List Segment) → ofSet job s (xs ++ ys) ≡ ofSet job s xs ++ ofSet job s ys
   unfolding ofSet
   of-append [] ys = refl
-  of-append (x ∷ xs) ys = go (eqb (setOf job (x .value)) s) (of-append xs ys)
+  of-append (x ∷ xs) ys = go (eqb (setOf job (x .value) .0) (s .0)) (of-append xs ys)
     where
       go : (b : Bool) → ofSet job s (xs ++ ys) ≡ ofSet job s xs ++ ofSet job s ys
           → cond b (x ∷ ofSet job s (xs ++ ys)) (ofSet job s (xs ++ ys)) ≡ cond b (x ∷ ofSet job s xs) (ofSet job s xs) ++ ofSet job s ys
@@ -292,17 +296,17 @@ module _ (job : Job) (s : ℕ) where
   of-same : (xs : List Segment) → AllOf job s xs → ofSet job s xs ≡ xs
   unfolding ofSet
   of-same [] a = refl
-  of-same (x ∷ xs) a = rw (eq-eqb _ _ (a .0)) (ap (λ (l : List Segment). x ∷ l) (of-same xs (a .1)))
+  of-same (x ∷ xs) a = rw (eq-eqb _ _ (ap number (a .0))) (ap (λ (l : List Segment). x ∷ l) (of-same xs (a .1)))
 
-  of-other : (u : ℕ) (xs : List Segment) → (u ≡ s → ⊥) → AllOf job u xs → ofSet job s xs ≡ []
+  of-other : (u : ValueSet) (xs : List Segment) → (u .0 ≡ s .0 → ⊥) → AllOf job u xs → ofSet job s xs ≡ []
   unfolding ofSet
   of-other u [] n a = refl
-  of-other u (x ∷ xs) n a = rw (ne-eqb _ _ (λ e. n (sym (a .0) ∙ e))) (of-other u xs n (a .1))
+  of-other u (x ∷ xs) n a = rw (ne-eqb _ _ (λ e. n (sym (ap number (a .0)) ∙ e))) (of-other u xs n (a .1))
 
   pub of-total : (ν : Segment → ℕ) (xs : List Segment) → total (ledBy job s ν) xs ≡ total ν (ofSet job s xs)
   unfolding ofSet total
   of-total ν [] = refl
-  of-total ν (x ∷ xs) = go (eqb (setOf job (x .value)) s) (of-total ν xs)
+  of-total ν (x ∷ xs) = go (eqb (setOf job (x .value) .0) (s .0)) (of-total ν xs)
     where
       go : (b : Bool) → total (ledBy job s ν) xs ≡ total ν (ofSet job s xs) → cond b (ν x) 0 + total (ledBy job s ν) xs ≡ total ν (cond b (x ∷ ofSet job s xs) (ofSet job s xs))
       go true ih = omega arith
@@ -313,37 +317,35 @@ joined [] = []
 joined (r ∷ rs) = r ++ joined rs
 
 -- what a run over sets makes of the set s
-pub record MadeOf (job : Job) (s : ℕ) (st : State) (ss : List Segment) (st′ : State) : Type 0 where
+pub record MadeOf (job : Job) (s : ValueSet) (st : State) (ss : List Segment) (st′ : State) : Type 0 where
   pub pieces : List Segment
   pub counts : (ν : Segment → ℕ) → counted (ofOwn (ledBy job s ν)) (st′ .registers) ≡ counted (ofOwn (ledBy job s ν)) (st .registers) + total ν pieces
   pub follow : Follows 0 pieces
   pub listed : Listed (valued (ofSet job s ss)) (valued pieces)
 
-sets-made : (job : Job) (room : Room) (s : ℕ) (rest : List (List Segment)) (t : ℕ) (st st′ : State) → Groups st → Rise job t rest → buildSets job room rest st ≡ done st′
-    → (m : MadeOf job s st (joined rest) st′) × (s < t → m .pieces ≡ [])
+sets-made : (job : Job) (room : Room) (s : ValueSet) (rest : List (List Segment)) (t : ℕ) (st st′ : State) → Groups st → Rise job t rest → buildSets job room rest st ≡ done st′
+    → (m : MadeOf job s st (joined rest) st′) × (s .0 < t → m .pieces ≡ [])
 unfolding buildSets buildSet ofSet valued total
 sets-made job room s [] t st st′ gs r e =
     let q : st ≡ st′ = cc in
-    subst (λ (x : State). (m : MadeOf job s st [] x) × (s < t → m .pieces ≡ [])) q (record { pieces = []; counts = λ ν. omega arith; follow = tt; listed = tt }, λ l. refl)
+    subst (λ (x : State). (m : MadeOf job s st [] x) × (s .0 < t → m .pieces ≡ [])) q (record { pieces = []; counts = λ ν. omega arith; follow = tt; listed = tt }, λ l. refl)
 sets-made job room s ([] ∷ rest) t st st′ gs r e = sets-made job room s rest t st st′ gs r e
 sets-made job room s ((c ∷ cs) ∷ rest) t st st′ gs r e =
     let b = bind-done (buildSet job room (c ∷ cs) st) _ st′ e in
     let m = set-made job room c cs st (b .0) gs (b .1) in
-    go (b .0) m (sets-made job room s rest (suc (setOf job (c .value))) (b .0) st′ (m .groups) (r .3) (b .2)) (eqb (setOf job (c .value)) s) refl
+    go (b .0) m (sets-made job room s rest (suc (setOf job (c .value) .0)) (b .0) st′ (m .groups) (r .3) (b .2)) (eqb (setOf job (c .value) .0) (s .0)) refl
   where
-    u : ℕ
-    u = setOf job (c .value)
-
     all : AllOf job (setOf job (c .value)) (c ∷ cs)
     all = (refl, r .1)
 
-    go : (st″ : State) (m : Made job st (c ∷ cs) st″) → (k : MadeOf job s st″ (joined rest) st′) × (s < suc (setOf job (c .value)) → k .pieces ≡ [])
-        → (b : Bool) → eqb (setOf job (c .value)) s ≡ b → (k : MadeOf job s st (joined ((c ∷ cs) ∷ rest)) st′) × (s < t → k .pieces ≡ [])
+    go : (st″ : State) (m : Made job st (c ∷ cs) st″) → (k : MadeOf job s st″ (joined rest) st′) × (s .0 < suc (setOf job (c .value) .0) → k .pieces ≡ [])
+        → (b : Bool) → eqb (setOf job (c .value) .0) (s .0) ≡ b → (k : MadeOf job s st (joined ((c ∷ cs) ∷ rest)) st′) × (s .0 < t → k .pieces ≡ [])
     go st″ m k true f =
-        let q : setOf job (c .value) ≡ s = eqb-true _ _ f in
+        let n : setOf job (c .value) .0 ≡ s .0 = eqb-true _ _ f in
+        let q : setOf job (c .value) ≡ s = ap vset n in
         let none′ : k .0 .pieces ≡ [] = k .1 (omega arith) in
         let a : AllOf job s (m .pieces) = rw q at (m .led (setOf job (c .value)) all) in
-        let front : ofSet job s (c ∷ cs) ≡ c ∷ cs = of-same job s (c ∷ cs) (q, subst (λ (i : ℕ). AllOf job i cs) q (r .1)) in (
+        let front : ofSet job s (c ∷ cs) ≡ c ∷ cs = of-same job s (c ∷ cs) (q, subst (λ (i : ValueSet). AllOf job i cs) q (r .1)) in (
           record {
             pieces = m .pieces ++ k .0 .pieces;
             counts = λ ν. omega (arith, m .counts (ledBy job s ν), k .0 .counts ν, of-total job s ν (m .pieces), ap (total ν) (of-same job s (m .pieces) a), total-append ν (m .pieces) (k .0 .pieces));
@@ -354,7 +356,7 @@ sets-made job room s ((c ∷ cs) ∷ rest) t st st′ gs r e =
           λ l. absurd (omega (arith, r .0)),
         )
     go st″ m k false f =
-        let n : setOf job (c .value) ≡ s → ⊥ = eqb-false _ _ f in
+        let n : setOf job (c .value) .0 ≡ s .0 → ⊥ = eqb-false _ _ f in
         let front : ofSet job s (c ∷ cs) ≡ [] = of-other job s (setOf job (c .value)) (c ∷ cs) n all in (
           record {
             pieces = k .0 .pieces;
@@ -380,13 +382,13 @@ joined-runs alike (s ∷ ss) = put (runs alike ss) ∙ ap (λ (l : List Segment)
         go false = refl
 
 -- a result: the own pieces of set s in order
-pub record InOrder (job : Job) (s : ℕ) (rs : List Register) : Type 0 where
+pub record InOrder (job : Job) (s : ValueSet) (rs : List Register) : Type 0 where
   pub pieces : List Segment
   pub counts : (ν : Segment → ℕ) → counted (ofOwn (ledBy job s ν)) rs ≡ total ν pieces
   pub follow : Follows 0 pieces
   pub listed : Listed (valued (ofSet job s (job .segments))) (valued pieces)
 
-pub built-in-order : (job : Job) (room : Room) (res : Result) (s t : ℕ) → Rise job t (runs (sameSet job) (job .segments)) → build job room ≡ done res → InOrder job s (res .registers)
+pub built-in-order : (job : Job) (room : Room) (res : Result) (s : ValueSet) (t : ℕ) → Rise job t (runs (sameSet job) (job .segments)) → build job room ≡ done res → InOrder job s (res .registers)
 unfolding build counted total
 built-in-order job room res s t r e =
     let rs = runs (sameSet job) (job .segments) in

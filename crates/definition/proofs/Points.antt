@@ -10,14 +10,15 @@ use lib.ListN.{length, getD, length-append, List·getD-append}
 use lib.Seq.{getD-append-add}
 use lib.Dec.{leb, ltb, eqb}
 use borrow.Author.Tests.{ltb-true, ltb-false, leb-true, leb-false}
-use Rattle.definition.specs.Types.{Conflict, Held, Hint, Job, Origin, Out, Own, Piece, Refusal, Register, Room, Segment, State, Stop, Stopped, Turned, Use, ValuesDiffer, done, refused}
+use Rattle.definition.specs.Types.{Conflict, Held, Hint, Inst, Job, Origin, Out, Own, Piece, Refusal, RegClass, Register, Room, Segment, State, Stop, Stopped, Turned, Use, Value, ValueSet, ValuesDiffer, done, refused}
 use Rattle.definition.specs.RegInfo.{setOf, topOf}
 use Rattle.definition.specs.Uses.{isClassUse}
 use Rattle.definition.specs.Cuts.{leftCut, leftOf, rightCut, rightOf, usesBefore, usesFrom}
 use Rattle.definition.specs.Admit.{Move, Scan, admit, cut, fails-at, fresh, halt, move, noUse, scan, through, turn, useAt, whole}
 use Rattle.definition.specs.Place.{_>>=_, place, total, usesOf}
 use Rattle.definition.specs.Build.{Built, Result, Round, allOf, asOwn, atInst, build, buildSet, buildSets, classUses, conflictPiece, conflicts, empty, lastFirst, one, onto, placeFront, placeRound, placeScan, rounds, runs, sameInst, sameSet, step, steps, try, turnAt, turnIn, turnedAt, turnedUse, withUses}
-use Rattle.definition.proofs.Cuts.{uses-cut, has, times, halves}
+use Rattle.definition.specs.Promised.{holds}
+use Rattle.definition.proofs.Cuts.{PartedBy, cut-total, point-parted, uses-cut}
 use Rattle.definition.proofs.Moves.{ClassAt, move-whole, move-turn}
 use Rattle.definition.proofs.Places.{total-append, counted, Ok, Groups, Placed, placed, admit-target, scan-target, try-target}
 
@@ -27,7 +28,7 @@ bind-done (refused r) k b e = let z : _≡_ {A = ℕ} 0 1 = cc in absurd (omega 
 
 -- what is counted of a segment is parted by a cut, and is the same where a class use is turned
 pub record Additive (ν : Segment → ℕ) : Type 0 where
-  pub parted : (hs : List Hint) (p : ℕ) (s : Segment) → s .«from» < 4 * p → 4 * p < s .to → ν (leftOf hs p s) + ν (rightOf hs p s) ≡ ν s
+  pub parted : (hs : List Hint) (p : Inst) → PartedBy ν hs p
   pub kept : (n : ℕ) (s : Segment) → ClassAt (s .uses) n → ν (withUses (turnIn n (s .uses)) s) ≡ ν s
 
 -- counted of a piece that is not added
@@ -44,7 +45,7 @@ module _ (ν : Segment → ℕ) where
   abbrev pub Grown : ℕ → State → State → Type 0
   Grown n st st′ = (counted (ofOwn ν) (st′ .registers) ≡ counted (ofOwn ν) (st .registers) + n) × Groups st′
 
-  module _ (job : Job) (room : Room) (set′ top : ℕ) where
+  module _ (job : Job) (room : Room) (set′ : ValueSet) (top : RegClass) where
     pub front-grown : (ss : List Segment) (st st′ : State) → Groups st → placeFront job room set′ top ss st ≡ done st′ → Grown (total ν ss) st st′
     unfolding placeFront fresh
     front-grown ss st st′ gs e = go (scan job st (usesOf ss) (fresh top)) refl e
@@ -63,7 +64,7 @@ module _ (ν : Segment → ℕ) where
     unfolding total placeRound
     round-grown t st st′ r [] k gs o ih e = let z : _≡_ {A = ℕ} 0 1 = cc in absurd (omega arith)
     round-grown t st st′ r (u ∷ us) k gs o ih e =
-        let c = conflictPiece (t .value) (t .use′ .inst) (t .param) (u ∷ us) in
+        let c = conflictPiece (t .value) (t .use′ .pos) (t .param) (u ∷ us) in
         let b = bind-done (place job room set′ (r .held) (c ∷ []) st) (λ st″. k st″ (r .left)) st′ e in
         let q = placed (ofOwn ν) job room set′ (r .held) (c ∷ []) st gs (b .0) o (b .1) in
         let i = ih (b .0) (q .1) (b .2) in
@@ -99,17 +100,6 @@ module _ (ν : Segment → ℕ) where
         (omega arith, i .1)
 
 module _ (ν : Segment → ℕ) (add : Additive ν) where
-  cut-total : (hs : List Hint) (p : ℕ) (ss : List Segment) → total ν (leftCut hs p ss) + total ν (rightCut hs p ss) ≡ total ν ss
-  unfolding total leftCut rightCut
-  cut-total hs p [] = refl
-  cut-total hs p (s ∷ ss) = go (leb (s .to) (4 * p)) (ltb (s .«from») (4 * p)) refl refl (cut-total hs p ss)
-    where
-      go : (a b : Bool) → leb (s .to) (4 * p) ≡ a → ltb (s .«from») (4 * p) ≡ b → total ν (leftCut hs p ss) + total ν (rightCut hs p ss) ≡ total ν ss
-          → total ν (leftCut hs p (s ∷ ss)) + total ν (rightCut hs p (s ∷ ss)) ≡ ν s + total ν ss
-      go true b e f ih = rw (e, leftCut, rightCut) (omega arith)
-      go false true e f ih = let q = add .parted hs p s (ltb-true _ _ f) (leb-false _ _ e) in rw (e, f, leftCut, rightCut) (omega arith)
-      go false false e f ih = rw (e, f, leftCut, rightCut) (omega arith)
-
   turn-total : (n : ℕ) (ss : List Segment) → ClassAt (usesOf ss) n → total ν (turnAt n ss) ≡ total ν ss
   unfolding total turnAt usesOf
   turn-total n [] c = absurd (omega arith)
@@ -127,7 +117,7 @@ module _ (ν : Segment → ℕ) (add : Additive ν) where
           ap (λ (i : ℕ). getD (s .uses ++ usesOf ss) i noUse) (omega arith) ∙ getD-append-add (s .uses) (usesOf ss) (n - length (s .uses)) noUse in
           rw (e, turnAt) (omega (arith, ih (omega (arith, length-append (s .uses) (usesOf ss)), subst (λ (u : Use). isClassUse (u .kind) ≡ true) q (c .1))))
 
-  module _ (job : Job) (room : Room) (set′ top : ℕ) where
+  module _ (job : Job) (room : Room) (set′ : ValueSet) (top : RegClass) where
     steps-grown : (f : ℕ) (st : State) (ss : List Segment) (ts : List Turned) (b : Built) → Groups st → steps f job room set′ top st ss ts ≡ done b
         → Grown ν (total ν ss) st (b .state)
     unfolding steps fresh
@@ -148,7 +138,7 @@ module _ (ν : Segment → ℕ) (add : Additive ν) where
             let r = bind-done (placeFront job room set′ top (leftCut (job .hints) p ss) st) _ b a in
             let q = front-grown ν job room set′ top (leftCut (job .hints) p ss) st (r .0) gs (r .1) in
             let i = ih (r .0) (rightCut (job .hints) p ss) ts (q .1) (r .2) in
-            (omega (arith, cut-total (job .hints) p ss), i .1)
+            (omega (arith, cut-total ν (job .hints) p (add .parted (job .hints) p) ss), i .1)
         go (halt s) m a ih = let z : _≡_ {A = ℕ} 0 1 = cc in absurd (omega arith)
 
   -- ---- a set, and all sets
@@ -199,29 +189,28 @@ module _ (ν : Segment → ℕ) (add : Additive ν) where
 
 -- ---- each value's points
 
-points-additive : (v x : ℕ) → Additive (λ s. one (has v x s))
-unfolding leftOf rightOf
+points-additive : (v : Value) (x : ℕ) → Additive (λ s. one (holds v x s))
 points-additive v x = record {
-  parted = λ hs p s a b. halves (eqb (s .value) v) (s .«from») (4 * p) (s .to) x a b;
+  parted = point-parted v x;
   kept = λ n s c. refl;
 }
 
 -- a point of value v stands in own pieces of an accepted job's result exactly as often as in the job
-pub points-same : (job : Job) (room : Room) (res : Result) (v x : ℕ) → build job room ≡ done res
-    → counted (ofOwn (λ s. one (has v x s))) (res .registers) ≡ total (λ s. one (has v x s)) (job .segments)
-points-same job room res v x e = built-same (λ s. one (has v x s)) (points-additive v x) job room res e
+pub points-same : (job : Job) (room : Room) (res : Result) (v : Value) (x : ℕ) → build job room ≡ done res
+    → counted (ofOwn (λ s. one (holds v x s))) (res .registers) ≡ total (λ s. one (holds v x s)) (job .segments)
+points-same job room res v x e = built-same (λ s. one (holds v x s)) (points-additive v x) job room res e
 
 -- ---- uses in own pieces: a test that sees no difference between a class use and its mark
 
 pub record Steady (P : Use → Bool) : Type 0 where
   pub turned : (u : Use) → isClassUse (u .kind) ≡ true → P (turnedUse u) ≡ P u
 
-module _ (v : ℕ) (P : Use → Bool) where
+module _ (v : Value) (P : Use → Bool) where
   abbrev pub passing : List Use → ℕ
   passing us = total (λ u. one (P u)) us
 
   abbrev pub ownUses : Segment → ℕ
-  ownUses s = cond (eqb (s .value) v) (passing (s .uses)) 0
+  ownUses s = cond (eqb (s .value .0) (v .0)) (passing (s .uses)) 0
 
   cond-sum : (b : Bool) (x y z : ℕ) → x + y ≡ z → cond b x 0 + cond b y 0 ≡ cond b z 0
   cond-sum true x y z e = e
@@ -237,9 +226,9 @@ module _ (v : ℕ) (P : Use → Bool) where
   unfolding leftOf rightOf
   uses-additive st = record {
     parted = λ hs p s a b.
-        cond-sum (eqb (s .value) v) (passing (usesBefore p (s .uses))) (passing (usesFrom p (s .uses))) (passing (s .uses))
+        cond-sum (eqb (s .value .0) (v .0)) (passing (usesBefore p (s .uses))) (passing (usesFrom p (s .uses))) (passing (s .uses))
         (sym (total-append (λ u. one (P u)) (usesBefore p (s .uses)) (usesFrom p (s .uses))) ∙ ap passing (uses-cut p (s .uses)));
-    kept = λ n s c. ap (λ (x : ℕ). cond (eqb (s .value) v) x 0) (turn-passing st n (s .uses) c);
+    kept = λ n s c. ap (λ (x : ℕ). cond (eqb (s .value .0) (v .0)) x 0) (turn-passing st n (s .uses) c);
   }
 
   -- a use of value v that passes stands in own pieces of an accepted job's result exactly as often as in the job

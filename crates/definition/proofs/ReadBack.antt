@@ -9,13 +9,13 @@ use mathlib.Core.List.{List, [], _∷_, _++_, map, reverse, reverseAux}
 use lib.ListN.{length, getD, length-append, length-reverse}
 use lib.Dec.{leb, ltb, eqb}
 use borrow.Author.Tests.{ltb-true, ltb-false, leb-true, leb-false, eqb-true, eqb-false}
-use Rattle.definition.specs.Types.{BlockparamIn, Conflict, ConstraintConflict, Held, Hint, Job, Origin, Out, Own, Piece, Refusal, Register, Room, Segment, State, Stop, Stopped, Turned, Use, UseKind, ValuesDiffer, done, refused}
+use Rattle.definition.specs.Types.{BlockparamIn, Conflict, ConstraintConflict, Held, Hint, Inst, Job, Origin, Out, Own, Piece, Refusal, RegClass, Register, Room, Segment, State, Stop, Stopped, Turned, Use, UseKind, Value, ValueSet, ValuesDiffer, done, refused}
 use Rattle.definition.specs.RegInfo.{setOf, topOf}
 use Rattle.definition.specs.Cuts.{leftCut, leftOf, rightCut, rightOf, usesBefore, usesFrom}
 use Rattle.definition.specs.Admit.{Move, Scan, admit, cut, fails-at, fresh, halt, move, noUse, scan, through, turn, whole}
 use Rattle.definition.specs.Place.{_>>=_, place, total, usesOf}
 use Rattle.definition.specs.Build.{Built, Result, Round, allOf, asOwn, atInst, build, buildSet, buildSets, classUses, conflictPiece, conflicts, empty, lastFirst, lastFirst′, one, onto, opening, placeFront, placeRound, placeScan, rounds, runs, sameInst, sameSet, step, steps, try, turnAt, turnIn, turnedAt, turnedOf, turnedUse, withUses}
-use Rattle.definition.proofs.Cuts.{uses-cut}
+use Rattle.definition.proofs.Cuts.{PartedBy, cut-total, uses-cut}
 use Rattle.definition.proofs.Moves.{move-whole, move-turn}
 use Rattle.definition.proofs.Places.{total-append, counted, Ok, Groups, Placed, placed, admit-target, scan-target, try-target, All}
 use Rattle.definition.proofs.Entries.{and-both}
@@ -55,18 +55,18 @@ runs-total {A} f alike (s ∷ ss) = put (runs alike ss) ∙ ap (λ (x : ℕ). f 
 
 pub record Test (P : Use → Bool) : Type 0 where
   pub mark : (u : Use) → P (turnedUse u) ≡ false
-  pub param : (p q : ℕ) → P (record { kind = BlockparamIn q; inst = p }) ≡ false
+  pub param : (p : Inst) (q : ℕ) → P (record { pos = p; kind = BlockparamIn q }) ≡ false
 
-module _ (v : ℕ) (P : Use → Bool) (test : Test P) where
+module _ (v : Value) (P : Use → Bool) (test : Test P) where
   abbrev pub hits : List Use → ℕ
   hits us = total (λ u. one (P u)) us
 
   -- of a segment, of a turned use
   abbrev pub ofSeg : Segment → ℕ
-  ofSeg s = cond (eqb (s .value) v) (hits (s .uses)) 0
+  ofSeg s = cond (eqb (s .value .0) (v .0)) (hits (s .uses)) 0
 
   abbrev pub ofTurned : Turned → ℕ
-  ofTurned t = cond (eqb (t .value) v) (one (P (t .use′))) 0
+  ofTurned t = cond (eqb (t .value .0) (v .0)) (one (P (t .use′))) 0
 
   abbrev pub ofPiece : Piece → ℕ
   ofPiece p = ofSeg (p .seg)
@@ -78,20 +78,11 @@ module _ (v : ℕ) (P : Use → Bool) (test : Test P) where
   cond-sum true x y z e = e
   cond-sum false x y z e = refl
 
-  cut-total : (hs : List Hint) (p : ℕ) (ss : List Segment) → total ofSeg (leftCut hs p ss) + total ofSeg (rightCut hs p ss) ≡ total ofSeg ss
-  unfolding total leftCut rightCut leftOf rightOf
-  cut-total hs p [] = refl
-  cut-total hs p (s ∷ ss) = go (leb (s .to) (4 * p)) (ltb (s .«from») (4 * p)) refl refl (cut-total hs p ss)
-    where
-      go : (a b : Bool) → leb (s .to) (4 * p) ≡ a → ltb (s .«from») (4 * p) ≡ b → total ofSeg (leftCut hs p ss) + total ofSeg (rightCut hs p ss) ≡ total ofSeg ss
-          → total ofSeg (leftCut hs p (s ∷ ss)) + total ofSeg (rightCut hs p (s ∷ ss)) ≡ ofSeg s + total ofSeg ss
-      go true b e f ih = rw (e, leftCut, rightCut) (omega arith)
-      go false true e f ih =
-          let a : hits (usesBefore p (s .uses)) + hits (usesFrom p (s .uses)) ≡ hits (s .uses) =
-          sym (total-append (λ u. one (P u)) (usesBefore p (s .uses)) (usesFrom p (s .uses))) ∙ ap hits (uses-cut p (s .uses)) in
-          let c = cond-sum (eqb (s .value) v) (hits (usesBefore p (s .uses))) (hits (usesFrom p (s .uses))) (hits (s .uses)) a in
-          rw (e, f, leftCut, rightCut) (omega arith)
-      go false false e f ih = rw (e, f, leftCut, rightCut) (omega arith)
+  uses-parted : (hs : List Hint) (p : Inst) → PartedBy ofSeg hs p
+  unfolding leftOf rightOf
+  uses-parted hs p s a b =
+      cond-sum (eqb (s .value .0) (v .0)) (hits (usesBefore p (s .uses))) (hits (usesFrom p (s .uses))) (hits (s .uses))
+      (sym (total-append (λ u. one (P u)) (usesBefore p (s .uses)) (usesFrom p (s .uses))) ∙ ap hits (uses-cut p (s .uses)))
 
   -- ---- a turned use leaves its segment
 
@@ -111,7 +102,7 @@ module _ (v : ℕ) (P : Use → Bool) (test : Test P) where
           → total ofSeg (turnAt (n - length (s .uses)) ss) + ofTurned (turnedAt (n - length (s .uses)) ss) ≡ total ofSeg ss)
           → total ofSeg (turnAt n (s ∷ ss)) + ofTurned (turnedAt n (s ∷ ss)) ≡ ofSeg s + total ofSeg ss
       go true e ih =
-          let c = cond-sum (eqb (s .value) v) (hits (turnIn n (s .uses))) (one (P (getD (s .uses) n noUse))) (hits (s .uses)) (turn-hits n (s .uses) (ltb-true _ _ e)) in
+          let c = cond-sum (eqb (s .value .0) (v .0)) (hits (turnIn n (s .uses))) (one (P (getD (s .uses) n noUse))) (hits (s .uses)) (turn-hits n (s .uses) (ltb-true _ _ e)) in
           rw (e, turnAt, turnedAt) (omega arith)
       go false e ih =
           let k : length (s .uses) ≤ n = ltb-false _ _ e in
@@ -126,7 +117,7 @@ module _ (v : ℕ) (P : Use → Bool) (test : Test P) where
   none-grown : (st st′ : State) → Groups st → st ≡ st′ → Grown 0 st st′
   none-grown st st′ gs e = subst (Grown 0 st) e (omega arith, gs)
 
-  module _ (job : Job) (room : Room) (set′ top : ℕ) where
+  module _ (job : Job) (room : Room) (set′ : ValueSet) (top : RegClass) where
     own-grown : (ss : List Segment) (h : Held) (st st′ : State) → Groups st → scan job st (usesOf ss) (fresh top) ≡ through h
         → place job room set′ h (asOwn ss) st ≡ done st′ → Grown (total ofSeg ss) st st′
     unfolding fresh
@@ -168,7 +159,7 @@ module _ (v : ℕ) (P : Use → Bool) (test : Test P) where
             let r = bind-done (placeFront job room set′ top (leftCut (job .hints) p ss) st) _ b a in
             let q = front-grown (leftCut (job .hints) p ss) st (r .0) gs (r .1) in
             let i = ih (r .0) (rightCut (job .hints) p ss) ts (q .1) (r .2) in
-            (omega (arith, cut-total (job .hints) p ss), i .1)
+            (omega (arith, cut-total ofSeg (job .hints) p (uses-parted (job .hints) p) ss), i .1)
         go (halt s) m a ih = let z : _≡_ {A = ℕ} 0 1 = cc in absurd (omega arith)
 
   -- ---- one round over the turned uses of an instruction loses none of them
@@ -206,41 +197,41 @@ module _ (v : ℕ) (P : Use → Bool) (test : Test P) where
   -- ---- conflict pieces
 
   -- turned uses of another value than w
-  abbrev strays : ℕ → List Turned → ℕ
-  strays w ts = total (λ t. cond (eqb (t .value) w) 0 1) ts
+  abbrev strays : Value → List Turned → ℕ
+  strays w ts = total (λ t. cond (eqb (t .value .0) (w .0)) 0 1) ts
 
-  all-of : (w : ℕ) (ts : List Turned) → allOf w ts ≡ true → strays w ts ≡ 0
+  all-of : (w : Value) (ts : List Turned) → allOf w ts ≡ true → strays w ts ≡ 0
   unfolding total
   all-of w [] e = refl
-  all-of w (t ∷ ts) e = let a = and-both (eqb (t .value) w) (allOf w ts) e in rw (a .0) (omega (arith, all-of w ts (a .1)))
+  all-of w (t ∷ ts) e = let a = and-both (eqb (t .value .0) (w .0)) (allOf w ts) e in rw (a .0) (omega (arith, all-of w ts (a .1)))
 
-  uses-total : (w : ℕ) (ts : List Turned) → strays w ts ≡ 0 → cond (eqb w v) (hits (map (λ t. t .use′) ts)) 0 ≡ total ofTurned ts
+  uses-total : (w : Value) (ts : List Turned) → strays w ts ≡ 0 → cond (eqb (w .0) (v .0)) (hits (map (λ t. t .use′) ts)) 0 ≡ total ofTurned ts
   unfolding total
-  uses-total w [] e = go (eqb w v)
+  uses-total w [] e = go (eqb (w .0) (v .0))
     where
       go : (b : Bool) → _≡_ {A = ℕ} (cond b 0 0) 0
       go true = refl
       go false = refl
-  uses-total w (t ∷ ts) e = go (eqb (t .value) w) refl e (λ k. uses-total w ts k)
+  uses-total w (t ∷ ts) e = go (eqb (t .value .0) (w .0)) refl e (λ k. uses-total w ts k)
     where
-      go : (b : Bool) → eqb (t .value) w ≡ b → cond b 0 1 + strays w ts ≡ 0 → (strays w ts ≡ 0 → cond (eqb w v) (hits (map (λ t. t .use′) ts)) 0 ≡ total ofTurned ts)
-          → cond (eqb w v) (one (P (t .use′)) + hits (map (λ t. t .use′) ts)) 0 ≡ ofTurned t + total ofTurned ts
+      go : (b : Bool) → eqb (t .value .0) (w .0) ≡ b → cond b 0 1 + strays w ts ≡ 0 → (strays w ts ≡ 0 → cond (eqb (w .0) (v .0)) (hits (map (λ t. t .use′) ts)) 0 ≡ total ofTurned ts)
+          → cond (eqb (w .0) (v .0)) (one (P (t .use′)) + hits (map (λ t. t .use′) ts)) 0 ≡ ofTurned t + total ofTurned ts
       go false a k ih = absurd (omega arith)
       go true a k ih =
-          let q : t .value ≡ w = eqb-true _ _ a in
-          rw q (sym (cond-sum (eqb w v) (one (P (t .use′))) (hits (map (λ t. t .use′) ts)) (one (P (t .use′)) + hits (map (λ t. t .use′) ts)) refl)
-          ∙ ap (λ (n : ℕ). cond (eqb w v) (one (P (t .use′))) 0 + n) (ih (omega arith)))
+          let q : t .value .0 ≡ w .0 = eqb-true _ _ a in
+          rw q (sym (cond-sum (eqb (w .0) (v .0)) (one (P (t .use′))) (hits (map (λ t. t .use′) ts)) (one (P (t .use′)) + hits (map (λ t. t .use′) ts)) refl)
+          ∙ ap (λ (n : ℕ). cond (eqb (w .0) (v .0)) (one (P (t .use′))) 0 + n) (ih (omega arith)))
 
-  opening-none : (p : ℕ) (o : Option ℕ) (us : List Use) → hits (opening p o ++ us) ≡ hits us
+  opening-none : (p : Inst) (o : Option ℕ) (us : List Use) → hits (opening p o ++ us) ≡ hits us
   unfolding total
   opening-none p none us = refl
   opening-none p (some q) us = rw (test .param p q) (omega arith)
 
-  piece-total : (w p : ℕ) (o : Option ℕ) (ts : List Turned) → strays w ts ≡ 0 → ofPiece (conflictPiece w p o ts) ≡ total ofTurned ts
+  piece-total : (w : Value) (p : Inst) (o : Option ℕ) (ts : List Turned) → strays w ts ≡ 0 → ofPiece (conflictPiece w p o ts) ≡ total ofTurned ts
   unfolding conflictPiece
-  piece-total w p o ts e = ap (λ (n : ℕ). cond (eqb w v) n 0) (opening-none p o (map (λ t. t .use′) ts)) ∙ uses-total w ts e
+  piece-total w p o ts e = ap (λ (n : ℕ). cond (eqb (w .0) (v .0)) n 0) (opening-none p o (map (λ t. t .use′) ts)) ∙ uses-total w ts e
 
-  module _ (job : Job) (room : Room) (set′ top : ℕ) where
+  module _ (job : Job) (room : Room) (set′ : ValueSet) (top : RegClass) where
     rounds-grown : (f : ℕ) (t : Turned) (st : State) (us : List Turned) (st′ : State) → length us ≤ f → strays (t .value) us ≡ 0 → Groups st
         → rounds f job room set′ top t st us ≡ done st′ → Grown (total ofTurned us) st st′
     unfolding rounds total fresh
@@ -272,30 +263,30 @@ module _ (v : ℕ) (P : Use → Bool) (test : Test P) where
                 → Grown (total ofTurned (u ∷ us)) st st′
             by [] b c = let z : _≡_ {A = ℕ} 0 1 = cc in absurd (omega arith)
             by (w ∷ ws) b c =
-                let cp = conflictPiece (t .value) (t .use′ .inst) (t .param) (w ∷ ws) in
+                let cp = conflictPiece (t .value) (t .use′ .pos) (t .param) (w ∷ ws) in
                 let split : (g : Turned → ℕ) → total g (w ∷ ws) + total g (r .left) ≡ total g (u ∷ us) = λ g. subst (λ (x : List Turned). total g x + total g (r .left) ≡ total g (u ∷ us)) b (parts g) in
                 let bnd = bind-done (place job room set′ (r .held) (cp ∷ []) st) (λ st″. rounds f job room set′ top t st″ (r .left)) st′ c in
                 let q = placed ofPiece job room set′ (r .held) (cp ∷ []) st gs (bnd .0) target (bnd .1) in
-                let none-astray = split (λ x. cond (eqb (x .value) (t .value)) 0 1) in
+                let none-astray = split (λ x. cond (eqb (x .value .0) (t .value .0)) 0 1) in
                 let lens = split (λ _. 1) in
                 let s₁ : strays (t .value) (w ∷ ws) ≡ 0 = omega arith in
                 let s₂ : strays (t .value) (r .left) ≡ 0 = omega arith in
                 let shorter : length (r .left) ≤ f = omega (arith, total-one (w ∷ ws), total-one (r .left), total-one (u ∷ us)) in
                 let i = ih (bnd .0) (r .left) shorter s₂ (q .1) (bnd .2) in
-                (omega (arith, split ofTurned, piece-total (t .value) (t .use′ .inst) (t .param) (w ∷ ws) s₁), i .1)
+                (omega (arith, split ofTurned, piece-total (t .value) (t .use′ .pos) (t .param) (w ∷ ws) s₁), i .1)
 
     inst-grown : (st : State) (ts : List Turned) (st′ : State) → Groups st → atInst job room set′ top st ts ≡ done st′ → Grown (total ofTurned ts) st st′
     unfolding atInst total
     inst-grown st [] st′ gs e = none-grown st st′ gs (cc)
     inst-grown st (t ∷ ts) st′ gs e = go (allOf (t .value) ts) refl e
       where
-        self : (b : Bool) → eqb (t .value) (t .value) ≡ b → _≡_ {A = ℕ} (cond b 0 1) 0
+        self : (b : Bool) → eqb (t .value .0) (t .value .0) ≡ b → _≡_ {A = ℕ} (cond b 0 1) 0
         self true a = refl
-        self false a = absurd (eqb-false (t .value) (t .value) a refl)
+        self false a = absurd (eqb-false (t .value .0) (t .value .0) a refl)
 
         go : (b : Bool) → allOf (t .value) ts ≡ b → cond b (rounds (suc (length ts)) job room set′ top t st (t ∷ ts)) (refused (Stopped ValuesDiffer)) ≡ done st′ → Grown (total ofTurned (t ∷ ts)) st st′
         go true a f =
-            rounds-grown (suc (length ts)) t st (t ∷ ts) st′ (omega arith) (omega (arith, self (eqb (t .value) (t .value)) refl, all-of (t .value) ts a)) gs f
+            rounds-grown (suc (length ts)) t st (t ∷ ts) st′ (omega arith) (omega (arith, self (eqb (t .value .0) (t .value .0)) refl, all-of (t .value) ts a)) gs f
         go false a f = let z : _≡_ {A = ℕ} 0 1 = cc in absurd (omega arith)
 
     conflicts-grown : (cs : List (List Turned)) (st st′ : State) → Groups st → conflicts job room set′ top cs st ≡ done st′ → Grown (total (λ c. total ofTurned c) cs) st st′
