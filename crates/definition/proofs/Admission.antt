@@ -43,10 +43,10 @@ update-other f zero (suc v) (r ∷ rs) h = refl
 update-other f (suc u) zero (r ∷ rs) h = refl
 update-other f (suc u) (suc v) (r ∷ rs) h = update-other f u v rs (omega arith)
 
-same-vreg : (u v : VirtReg) → eqb (u .0) (v .0) ≡ true → u ≡ v
+pub same-vreg : (u v : VirtReg) → eqb (u .0) (v .0) ≡ true → u ≡ v
 same-vreg u v e = ap vreg (eqb-true _ _ e)
 
-same-group : (g f : VirtRegGroup) → eqb (g .0) (f .0) ≡ true → g ≡ f
+pub same-group : (g f : VirtRegGroup) → eqb (g .0) (f .0) ≡ true → g ≡ f
 same-group g f e = ap vrgroup (eqb-true _ _ e)
 
 -- v is a member
