@@ -24,8 +24,8 @@ use Rattle.definition.specs.Promised.{Follows, Listed, StandsFor, ofSet,
 use Rattle.definition.proofs.Cuts.{uses-cut}
 use Rattle.definition.proofs.Moves.{ClassAt, move-whole, move-turn}
 use Rattle.definition.proofs.Fits.{SegsFit, turn-fit, right-fit}
-use Rattle.definition.proofs.Places.{total-append, counted, Groups, placed, scan-target, All, all-append}
-use Rattle.definition.proofs.Points.{bind-done, ofOwn, own-total, front-grown, conflicts-grown}
+use Rattle.definition.proofs.Places.{total-append, bind-done, counted, Groups, placed, scan-target, All, all-append}
+use Rattle.definition.proofs.Points.{ofOwn, own-total, front-grown, conflicts-grown}
 use Rattle.definition.proofs.Entries.{and-both, Good, next-to, from-on}
 
 -- ---- uses, place by place

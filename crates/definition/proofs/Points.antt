@@ -20,11 +20,7 @@ use Rattle.definition.specs.Build.{Built, Result, Round, allOf, asOwn, a
 use Rattle.definition.specs.Promised.{holds}
 use Rattle.definition.proofs.Cuts.{PartedBy, cut-total, point-parted, uses-cut}
 use Rattle.definition.proofs.Moves.{ClassAt, move-whole, move-turn}
-use Rattle.definition.proofs.Places.{total-append, counted, Ok, Groups, Placed, placed, admit-target, scan-target, try-target}
-
-pub bind-done : {A B : Type 0} (o : Out A) (k : A → Out B) (b : B) → (o >>= k) ≡ done b → (a : A) × (o ≡ done a) × (k a ≡ done b)
-bind-done (done a) k b e = (a, refl, e)
-bind-done (refused r) k b e = let z : _≡_ {A = ℕ} 0 1 = cc in absurd (omega arith)
+use Rattle.definition.proofs.Places.{total-append, counted, Ok, Groups, Placed, bind-done, placed, admit-target, scan-target, try-target}
 
 -- what is counted of a segment is parted by a cut, and is the same where a class use is turned
 pub record Additive (ν : Segment → ℕ) : Type 0 where

@@ -17,9 +17,8 @@ use Rattle.definition.specs.Place.{_>>=_, place, total, usesOf}
 use Rattle.definition.specs.Build.{Built, Result, Round, allOf, asOwn, atInst, build, buildSet, buildSets, classUses, conflictPiece, conflicts, empty, lastFirst, lastFirst′, one, onto, opening, placeFront, placeRound, placeScan, rounds, runs, sameInst, sameSet, step, steps, try, turnAt, turnIn, turnedAt, turnedOf, turnedUse, withUses}
 use Rattle.definition.proofs.Cuts.{PartedBy, cut-total, uses-cut}
 use Rattle.definition.proofs.Moves.{move-whole, move-turn}
-use Rattle.definition.proofs.Places.{total-append, counted, Ok, Groups, Placed, placed, admit-target, scan-target, try-target, All}
+use Rattle.definition.proofs.Places.{total-append, counted, Ok, Groups, Placed, bind-done, placed, admit-target, scan-target, try-target, All}
 use Rattle.definition.proofs.Entries.{and-both}
-use Rattle.definition.proofs.Points.{bind-done}
 
 -- ---- sums
 
