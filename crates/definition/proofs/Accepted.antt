@@ -1,29 +1,27 @@
 -- An accepted job: the entry rules give what class admission asks for, and the three promises in one place. Assumes nothing.
 use mathlib.Core.Path.{_≡_, refl, ap, sym, _∙_, subst}
-use mathlib.Core.Logic.{_⊎_, inl, inr}
-use Prim.Native.Nat.{ℕ, zero, suc, _+_, _-_, _*_, _/_, _%_, _^_, _≤_, _<_}
+use Prim.Native.Nat.{ℕ, zero, suc, _/_, _%_, _^_, _≤_, _<_}
 use native.Mathlib.Nat.{pow-suc, le-trans}
 use native.Mathlib.Omega.{arith}
 use mathlib.Core.Bool.{Bool, true, false, cond, not, _&&_, _||_}
 use mathlib.Core.Option.{Option, none, some}
-use mathlib.Core.List.{List, [], _∷_, _++_}
+use mathlib.Core.List.{List, [], _∷_}
 use lib.ListN.{length, getD}
 use lib.Pow.{pow-mono, pow-pos}
-use lib.Dec.{leb, ltb, eqb}
-use borrow.Author.Tests.{ltb-true, ltb-false, leb-true, leb-false, eqb-true, eqb-false, eq-eqb}
-use Rattle.definition.specs.Types.{Inst, Value, ValueGroup, RegClass, VirtReg, UseKind, FixedDef, FixedUse, TiedUse, ConstraintConflict, ClassUse, ClassDef, GroupClassUse, GroupClassDef, BlockparamIn, BlockparamOut, Use, ClassData, Operand, Segment, Job, Room, Refusal, Out, done, refused, inst, cls}
+use lib.Dec.{ltb, eqb}
+use borrow.Author.Tests.{ltb-true, leb-true, eqb-true, eqb-false, eq-eqb}
+use Rattle.definition.specs.Types.{Inst, Value, RegClass, VirtReg, UseKind, FixedDef, FixedUse, TiedUse, ConstraintConflict, ClassUse, ClassDef, GroupClassUse, GroupClassDef, BlockparamIn, BlockparamOut, Use, ClassData, Operand, Segment, Job, Room, Refusal, done, inst, cls}
 use Rattle.definition.specs.RegInfo.{classAt, noClass}
-use Rattle.definition.specs.Uses.{endPoint}
 use Rattle.definition.specs.Place.{total}
 use Rattle.definition.specs.Build.{Result, build, one}
-use Rattle.definition.specs.Entry.{answer, answerTo, apart, bookOk, bookTests, classOk, classTests, conj, entry, entryTests, every, functionOk, functionTests, groupUseOk, groupUseTests, insts, kindOk, leads, limitTests, limitsOk, membersOf, operandOk, operandTests, samePlace, sized, small, some-is, useOk, useTests, usesOk, vgroupOk, vgroupTests}
-use Rattle.definition.specs.Promised.{In, Transitive, bitAt, holds}
+use Rattle.definition.specs.Entry.{answer, answerTo, apart, bookOk, bookTests, classOk, classTests, conj, entry, entryTests, every, functionOk, functionTests, groupUseOk, groupUseTests, kindOk, limitTests, limitsOk, membersOf, operandOk, operandTests, samePlace, sized, some-is, useOk, useTests, usesOk, vgroupOk, vgroupTests}
+use Rattle.definition.specs.Promised.{Transitive, bitAt, holds}
 use Rattle.definition.proofs.Places.{All, all-map, all-getD, counted}
-use Rattle.definition.proofs.Classes.{Masks, Serves}
+use Rattle.definition.proofs.Classes.{Masks}
 use Rattle.definition.proofs.Entries.{and-both, conj-all, every-all, lowest-none}
 use Rattle.definition.proofs.Points.{ofOwn, points-same, Steady, ownUses, own-uses-same}
 use Rattle.definition.proofs.ReadBack.{Test, ofPiece, ofSeg, uses-same}
-use Rattle.definition.proofs.Admission.{asked, askedIn, sizeOf, GroupUse, KindFits, UseFits, Sizes, ServedIn, SegFits, nth, admission}
+use Rattle.definition.proofs.Admission.{askedIn, sizeOf, GroupUse, KindFits, UseFits, Sizes, ServedIn, SegFits, nth, admission}
 
 all-at : {A : Type 0} (P : A → Type 0) (xs : List A) (n : ℕ) (d : A) → All P xs → n < length xs → P (getD xs n d)
 all-at P [] n d h l = absurd (omega arith)

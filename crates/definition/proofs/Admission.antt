@@ -1,7 +1,7 @@
 -- Class admission, whole: where subclassing is transitive, the class of each register of an accepted job's result is admitted by every class use in its pieces. Assumes nothing.
 use mathlib.Core.Path.{_≡_, refl, ap, sym, _∙_, subst}
 use mathlib.Core.Logic.{inl, inr, _≢_}
-use Prim.Native.Nat.{ℕ, zero, suc, _+_, _-_, _≤_, _<_}
+use Prim.Native.Nat.{ℕ, zero, suc, _≤_, _<_}
 use native.Mathlib.Omega.{arith}
 use mathlib.Core.Bool.{Bool, true, false, cond, _&&_, _||_}
 use mathlib.Core.Option.{Option, none, some, Option·some-injective}
@@ -11,7 +11,7 @@ use lib.Seq.{getD-append-add, getD-set-same, getD-set-other}
 use lib.Dec.{leb, ltb, eqb}
 use lib.Ieee.{Float}
 use borrow.Author.Tests.{ltb-true, ltb-false, eqb-true, eqb-false, eq-eqb, ne-eqb}
-use Rattle.definition.specs.Types.{Inst, ValueSet, RegClass, VirtReg, VirtRegGroup, LiveRangePoint, UseKind, FixedDef, FixedUse, TiedUse, ConstraintConflict, ClassUse, ClassDef, GroupClassUse, GroupClassDef, BlockparamIn, BlockparamOut, Use, ClassData, Operand, Hint, Origin, Segment, Job, Room, HeldGroup, Held, Piece, Register, Mapped, State, Turned, MappedTwice, Overlap, done, inst, cls, vreg, vrgroup}
+use Rattle.definition.specs.Types.{Inst, ValueSet, RegClass, VirtReg, VirtRegGroup, LiveRangePoint, UseKind, FixedDef, FixedUse, TiedUse, ConstraintConflict, ClassUse, ClassDef, GroupClassUse, GroupClassDef, BlockparamIn, BlockparamOut, Use, ClassData, Operand, Segment, Job, Room, HeldGroup, Held, Piece, Register, Mapped, State, MappedTwice, Overlap, done, inst, cls, vreg, vrgroup}
 use Rattle.definition.specs.RegInfo.{classAt, commonSubclass, setOf}
 use Rattle.definition.specs.Uses.{classOf, slotOf}
 use Rattle.definition.specs.Weights.{weightOf}

@@ -18,4 +18,5 @@ pub mod Printed
 pub mod Runs
 pub mod Sets
 pub mod Owned
+pub mod Marks
 pub mod Promises

@@ -1,9 +1,8 @@
 -- From counts over the tables to the lists of own and of added pieces. Assumes nothing.
 use mathlib.Core.Path.{_≡_, refl, ap, sym, _∙_, subst}
-use Prim.Native.Nat.{ℕ, _+_, _-_, _*_, _≤_, _<_}
+use Prim.Native.Nat.{ℕ, _+_, _*_, _≤_, _<_}
 use native.Mathlib.Omega.{arith}
 use mathlib.Core.Bool.{Bool, true, false, cond, _&&_, _||_}
-use mathlib.Core.Option.{Option}
 use mathlib.Core.List.{List, [], _∷_, _++_}
 use lib.Dec.{leb, ltb, eqb}
 use borrow.Author.Tests.{ltb-true, eqb-true, eqb-false, lt-leb}
@@ -14,13 +13,13 @@ use Rattle.definition.specs.Cuts.{leftOf, rightOf}
 use Rattle.definition.specs.Place.{total}
 use Rattle.definition.specs.Build.{one, runs, sameSet}
 use Rattle.definition.specs.Entry.{behind, chained, every, kindOk, segmentOk, segmentsOk, useOk, useTests, usesOk}
-use Rattle.definition.specs.Promised.{Follows, addedIn, addedPieces, classUsesAt, covered, had, held, holds, isMark, marksAt, ofSet, ownIn, ownOf, ownPieces, sameUse}
-use Rattle.definition.proofs.Cuts.{point-parted}
+use Rattle.definition.specs.Promised.{Follows, addedIn, addedPieces, classUsesAt, covered, covers, had, held, holds, isMark, marksAt, ofSet, ownIn, ownOf, ownPieces, sameUse}
+use Rattle.definition.proofs.Cuts.{halves, point-parted}
 use Rattle.definition.proofs.Places.{total-append, counted, All, all-map}
 use Rattle.definition.proofs.Points.{Additive, ofOwn, Steady, ownUses}
 use Rattle.definition.proofs.ReadBack.{Test, ofPiece, ofSeg}
 use Rattle.definition.proofs.Entries.{and-both, conj-all, every-all, Good, segment-good}
-use Rattle.definition.proofs.Order.{ledBy, Rise, runs-rise}
+use Rattle.definition.proofs.Order.{ledBy, of-total, Rise, runs-rise}
 use Rattle.definition.proofs.Same.{same-use}
 use Rattle.definition.proofs.Sets.{InSet}
 
@@ -88,17 +87,24 @@ module _ (ν : Segment → ℕ) where
 
 -- ---- points
 
-pub led-additive : (job : Job) (s : ValueSet) (v : Value) (x : ℕ) → Additive (ledBy job s (λ t. one (holds v x t)))
+-- what is parted by cuts and kept by turns is so for the segments of one set
+pub led-additive : (job : Job) (s : ValueSet) (ν : Segment → ℕ) → Additive ν → Additive (ledBy job s ν)
 unfolding leftOf rightOf
-led-additive job s v x = record {
-  parted = λ hs p t a b.
-      go (eqb (setOf job (t .value) .0) (s .0)) (one (holds v x (leftOf hs p t))) (one (holds v x (rightOf hs p t))) (one (holds v x t)) (point-parted v x hs p t a b);
-  kept = λ n t c. refl;
+led-additive job s ν add = record {
+  parted = λ hs p t a b. go (eqb (setOf job (t .value) .0) (s .0)) (ν (leftOf hs p t)) (ν (rightOf hs p t)) (ν t) (add .parted hs p t a b);
+  kept = λ n t c. ap (λ (m : ℕ). cond (eqb (setOf job (t .value) .0) (s .0)) m 0) (add .kept n t c);
 }
   where
     go : (b : Bool) (l r w : ℕ) → l + r ≡ w → cond b l 0 + cond b r 0 ≡ cond b w 0
     go true l r w e = e
     go false l r w e = refl
+
+pub held-additive : (v : Value) (x : ℕ) → Additive (λ t. one (holds v x t))
+held-additive v x = record { parted = point-parted v x; kept = λ n t c. refl }
+
+pub covered-additive : (x : ℕ) → Additive (λ t. one (covers x t))
+unfolding leftOf rightOf
+covered-additive x = record { parted = λ hs p t a b. halves true (t .«from» .0) (4 * p .0) (t .to .0) x a b; kept = λ n t c. refl }
 
 -- no point is in two segments that follow each other
 not-yet : (q x : ℕ) (ss : List Segment) → Follows q ss → x < q → covered x ss ≡ 0
@@ -127,17 +133,38 @@ held-covered v x (s ∷ ss) = go (eqb (s .value .0) (v .0)) (leb (s .«from» .0
     go false true false i = omega arith
     go false false c i = omega arith
 
--- a value's points are in its leader's set
-pub of-led : (job : Job) (v : Value) (x : ℕ) (ss : List Segment) → held v x (ofSet job (setOf job v) ss) ≡ held v x ss
-unfolding held ofSet total
-of-led job v x [] = refl
-of-led job v x (s ∷ ss) = go (eqb (setOf job (s .value) .0) (setOf job v .0)) refl (eqb (s .value .0) (v .0)) refl (of-led job v x ss)
-  where
-    go : (a : Bool) → eqb (setOf job (s .value) .0) (setOf job v .0) ≡ a → (b : Bool) → eqb (s .value .0) (v .0) ≡ b → held v x (ofSet job (setOf job v) ss) ≡ held v x ss
-        → total (λ t. one (holds v x t)) (cond a (s ∷ ofSet job (setOf job v) ss) (ofSet job (setOf job v) ss)) ≡ one (holds v x s) + held v x ss
-    go true e b f i = omega arith
-    go false e true f i = absurd (eqb-false _ _ e (ap (λ (n : ℕ). setOf job (val n) .0) (eqb-true _ _ f)))
-    go false e false f i = rw f (omega arith)
+-- ---- what is counted of a value's segments alone is counted of its leader's set
+
+pub total-same : {A : Type 0} (f g : A → ℕ) → ((x : A) → f x ≡ g x) → (xs : List A) → total f xs ≡ total g xs
+unfolding total
+total-same f g e [] = refl
+total-same f g e (x ∷ xs) = omega (arith, e x, total-same f g e xs)
+
+pub counted-same : (μ ξ : Piece → ℕ) → ((p : Piece) → μ p ≡ ξ p) → (rs : List Register) → counted μ rs ≡ counted ξ rs
+unfolding counted
+counted-same μ ξ e rs = total-same _ _ (λ r. total-same μ ξ e (r .pieces)) rs
+
+module _ (job : Job) (v : Value) (ν : Segment → ℕ) (other : (s : Segment) → eqb (s .value .0) (v .0) ≡ false → ν s ≡ 0) where
+  led-alike : (s : Segment) → ledBy job (setOf job v) ν s ≡ ν s
+  led-alike s = go (eqb (setOf job (s .value) .0) (setOf job v .0)) refl (eqb (s .value .0) (v .0)) refl
+    where
+      go : (a : Bool) → eqb (setOf job (s .value) .0) (setOf job v .0) ≡ a → (b : Bool) → eqb (s .value .0) (v .0) ≡ b → cond a (ν s) 0 ≡ ν s
+      go true e b f = refl
+      go false e true f = absurd (eqb-false _ _ e (ap (λ (n : ℕ). setOf job (val n) .0) (eqb-true _ _ f)))
+      go false e false f = sym (other s f)
+
+  pub of-led : (ss : List Segment) → total ν (ofSet job (setOf job v) ss) ≡ total ν ss
+  of-led ss = sym (of-total job (setOf job v) ν ss) ∙ total-same _ ν led-alike ss
+
+  pub own-led : (rs : List Register) → All (InSet job) rs → total ν (ownOf (setOf job v) rs) ≡ total ν (ownIn rs)
+  own-led rs a = sym (led-counted ν job (setOf job v) rs a) ∙ counted-same _ _ piece rs ∙ own-counted ν rs
+    where
+      piece : (p : Piece) → ofOwn (ledBy job (setOf job v) ν) p ≡ ofOwn ν p
+      piece p = go (p .origin)
+        where
+          go : (o : Origin) → _≡_ {A = ℕ} (elim o [ Own ↦ ledBy job (setOf job v) ν (p .seg) | Conflict ↦ 0 ]) (elim o [ Own ↦ ν (p .seg) | Conflict ↦ 0 ])
+          go Own = led-alike (p .seg)
+          go Conflict = refl
 
 -- ---- an accepted job: its sets rise, and it has no marks
 
