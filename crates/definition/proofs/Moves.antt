@@ -14,6 +14,7 @@ use Rattle.definition.specs.Types.{BlockData, BlockparamIn, BlockparamOu
 use Rattle.definition.specs.Uses.{isClassUse, isDef}
 use Rattle.definition.specs.SplitPlacement.{earliest, earlyCut, freqAt, keep, starts}
 use Rattle.definition.specs.Admit.{Move, Scan, admit, admitKind, cut, fails-at, fresh, fromEnd, fromStart, halt, later, move, noUse, onAdmit, parted, scan, through, turn, turning, useAt, whole}
+use Rattle.definition.proofs.Scans.{scan-first, scan-later}
 use Rattle.definition.proofs.Counts.{getD-reverse}
 
 -- ---- a scan fails at a class use
@@ -38,16 +39,11 @@ module _ (job : Job) (st : State) where
   pub fails-class : (us : List Use) (h : Held) (n : ℕ) → scan job st us h ≡ fails-at n → ClassAt us n
   unfolding scan admit
   fails-class [] h n e = let z : _≡_ {A = ℕ} 0 1 = cc in absurd (omega arith)
-  fails-class (u ∷ us) h n e = go (admit job st h u) refl e (λ g m f. fails-class us g m f)
-    where
-      go : (o : Option Held) → admit job st h u ≡ o → onAdmit o (λ g. scan job st us g) ≡ fails-at n
-          → ((g : Held) (m : ℕ) → scan job st us g ≡ fails-at m → ClassAt us m) → ClassAt (u ∷ us) n
-      go none a f ih = let z : n ≡ 0 = cc in rw z (omega arith, kind-none job st h (u .pos) (u .kind) a)
-      go (some g) a f ih = back (scan job st us g) refl f
-        where
-          back : (r : Scan) → scan job st us g ≡ r → later r ≡ fails-at n → ClassAt (u ∷ us) n
-          back (through k) b c = let z : _≡_ {A = ℕ} 0 1 = cc in absurd (omega arith)
-          back (fails-at m) b c = let z : n ≡ suc m = cc in let q = ih g m b in rw z (omega arith, q .1)
+  fails-class (u ∷ us) h zero e = (omega arith, kind-none job st h (u .pos) (u .kind) (scan-first job st u us h e))
+  fails-class (u ∷ us) h (suc n) e =
+      let r = scan-later job st u us h n e in
+      let q = fails-class us (r .0) n (r .2) in
+      (omega arith, q .1)
 
 -- ---- the place of a cut
 
