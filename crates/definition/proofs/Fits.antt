@@ -1,4 +1,4 @@
--- What the entry rules for segments and uses give (6 and 7), and that turning a use and cutting keep it. Assumes nothing.
+-- Segments and uses that fit, as the entry rules 6 and 7 have them (`Entries`): all uses do not fall; a turn keeps it, and so does a cut behind it. Assumes nothing.
 use mathlib.Core.Path.{_≡_, refl}
 use Prim.Native.Nat.{ℕ, zero, suc, _+_, _-_, _*_, _≤_, _<_}
 use native.Mathlib.Omega.{arith}

@@ -1,4 +1,5 @@
--- What a move says of the uses that it was made from: the use to turn is a class use; the start of a cut is a class use, and lies before the cut. Assumes nothing.
+-- What a move says of the uses that it was made from: the use to turn is a class use; start and end of a cut are class uses
+-- of two instructions, and an early cut lies behind the first and not behind the second. Assumes nothing.
 use mathlib.Core.Path.{_≡_, refl, ap, _∙_, subst}
 use Prim.Native.Nat.{ℕ, zero, suc, _-_, _≤_, _<_}
 use native.Mathlib.Omega.{arith}

@@ -1,4 +1,5 @@
--- Placing a register adds its pieces to those that are there, whatever is counted of a piece. Assumes nothing.
+-- Placing a register adds its pieces to those that are there, whatever is counted of a piece; groups and what is held name registers.
+-- Before that, facts on lists (`All`) and on one answer after another. Assumes nothing.
 use mathlib.Core.Path.{_≡_, refl, ap, _∙_, subst}
 use Prim.Native.Nat.{ℕ, zero, suc, _+_, _≤_, _<_}
 use native.Mathlib.Omega.{arith}
