@@ -16,26 +16,13 @@ use Rattle.definition.specs.Admit.{Move, Scan, admit, admitKind, cut, fa
 use Rattle.definition.specs.Place.{place, segsOf, usesOf}
 use Rattle.definition.specs.Build.{Built, Round, allOf, asOwn, atInst, buildSet, buildSets, classUses, conflictPiece, conflicts, lastFirst, onto, opening, placeFront, placeRound, placeScan, rounds, runs, sameInst, step, steps, try, turnAt, turnIn, turnedAt, turnedOf}
 use Rattle.definition.proofs.Cuts.{uses-cut}
+use Rattle.definition.proofs.Scans.{scan-snoc}
 use Rattle.definition.proofs.Moves.{move-whole, move-turn}
 use Rattle.definition.proofs.Places.{All, all-append, all-split, all-first, bind-done, own-uses}
 
 -- ---- scans, and a round as a scan over what it took
 
 module _ (job : Job) (st : State) where
-  scan-snoc : (us : List Use) (u : Use) (h g k : Held) → scan job st us h ≡ through g → admit job st g u ≡ some k → scan job st (us ++ (u ∷ [])) h ≡ through k
-  unfolding scan
-  scan-snoc [] u h g k e a = let q : h ≡ g = cc in rw (q, a)
-  scan-snoc (w ∷ us) u h g k e a = go (admit job st h w) e (λ l f. scan-snoc us u l g k f a)
-    where
-      go : (o : Option Held) → onAdmit o (λ l. scan job st us l) ≡ through g → ((l : Held) → scan job st us l ≡ through g → scan job st (us ++ (u ∷ [])) l ≡ through k)
-          → onAdmit o (λ l. scan job st (us ++ (u ∷ [])) l) ≡ through k
-      go none f ih = let z : _≡_ {A = ℕ} 0 1 = cc in absurd (omega arith)
-      go (some l) f ih = back (scan job st us l) refl f
-        where
-          back : (r : Scan) → scan job st us l ≡ r → later r ≡ through g → later (scan job st (us ++ (u ∷ [])) l) ≡ through k
-          back (through m) b c = rw (ih l (b ∙ c))
-          back (fails-at n) b c = let z : _≡_ {A = ℕ} 0 1 = cc in absurd (omega arith)
-
   abbrev usesIn : List Turned → List Use
   usesIn ts = map (λ t. t .use′) ts
 
@@ -59,7 +46,7 @@ module _ (job : Job) (st : State) where
           → ((g : Held) → scan job st (usesIn (taken ++ (t ∷ []))) h₀ ≡ through g → RoundOk P h₀ (try f job st g (taken ++ (t ∷ [])) us left))
           → RoundOk P h₀ (try f job st h taken (lastFirst us) (t ∷ left)) → RoundOk P h₀ (try (suc f) job st h taken (t ∷ us) left)
       go none d y n = rw (d, try) n
-      go (some g) d y n = rw (d, try) (y g (rw (uses-snoc taken t) (scan-snoc (usesIn taken) (t .use′) h₀ h g e d)))
+      go (some g) d y n = rw (d, try) (y g (rw (uses-snoc taken t) (scan-snoc job st (usesIn taken) (t .use′) h₀ h g e d)))
 
   -- an opening block parameter is admitted
   opened-scan : (p : Inst) (o : Option ℕ) (us : List Use) (h g : Held) → scan job st us h ≡ through g → scan job st (opening p o ++ us) h ≡ through g
