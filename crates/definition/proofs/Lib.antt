@@ -6,6 +6,7 @@ pub mod Moves
 pub mod Fits
 pub mod Fuel
 pub mod Places
+pub mod Measures
 pub mod Points
 pub mod Entries
 pub mod Classes

@@ -1,19 +1,22 @@
--- What a move says of the uses that it was made from: the use to turn is a class use; the start of a cut is a class use, and lies before the cut. Assumes nothing.
-use mathlib.Core.Path.{_≡_, refl, ap, sym, _∙_}
-use Prim.Native.Nat.{ℕ, zero, suc, _+_, _-_, _≤_, _<_}
+-- What a move says of the uses that it was made from: the use to turn is a class use; start and end of a cut are class uses
+-- of two instructions, and an early cut lies behind the first and not behind the second. Assumes nothing.
+use mathlib.Core.Path.{_≡_, refl, ap, _∙_, subst}
+use Prim.Native.Nat.{ℕ, zero, suc, _-_, _≤_, _<_}
 use native.Mathlib.Omega.{arith}
 use mathlib.Core.Bool.{Bool, true, false, cond, _&&_}
-use mathlib.Core.Option.{Option, none, some}
-use mathlib.Core.List.{List, [], _∷_, _++_, reverse}
-use lib.ListN.{length, getD, take, length-take, length-reverse}
+use mathlib.Core.Option.{none}
+use mathlib.Core.List.{List, [], _∷_, reverse}
+use lib.ListN.{length, getD, take, length-reverse}
 use lib.Seq.{getD-take, length-take-le}
 use lib.Dec.{leb, ltb, eqb}
 use lib.Ieee.{Float, lt}
-use borrow.Author.Tests.{ltb-true, ltb-false, leb-true, leb-false, eqb-true, eqb-false}
-use Rattle.definition.specs.Types.{BlockData, BlockparamIn, BlockparamOut, ClassDef, ClassUse, ConstraintConflict, FixedDef, FixedUse, GroupClassDef, GroupClassUse, Held, Inst, Job, RegClass, State, Stop, TiedUse, TurnedDef, Use, UseKind, inst}
+use borrow.Author.Tests.{ltb-true, leb-true, eqb-false}
+use Rattle.definition.specs.Types.{BlockData, BlockparamIn, BlockparamOut, ClassDef, ClassUse, ConstraintConflict, FixedDef, FixedUse, GroupClassDef, GroupClassUse, Held, Inst, Job, RegClass, State, TiedUse, TurnedDef, Use, UseKind, inst}
 use Rattle.definition.specs.Uses.{isClassUse, isDef}
 use Rattle.definition.specs.SplitPlacement.{earliest, earlyCut, freqAt, keep, starts}
-use Rattle.definition.specs.Admit.{Move, Scan, admit, admitKind, cut, fails-at, fresh, fromEnd, fromStart, halt, later, move, noUse, onAdmit, parted, scan, through, turn, turning, useAt, whole}
+use Rattle.definition.specs.Admit.{Move, Scan, admit, admitKind, cut, fails-at, fresh, fromEnd, fromStart, halt, move, noUse, parted, scan, through, turn, turning, useAt, whole}
+use Rattle.definition.proofs.Scans.{scan-first, scan-later}
+use Rattle.definition.proofs.Places.{All}
 use Rattle.definition.proofs.Counts.{getD-reverse}
 
 -- ---- a scan fails at a class use
@@ -38,42 +41,33 @@ module _ (job : Job) (st : State) where
   pub fails-class : (us : List Use) (h : Held) (n : ℕ) → scan job st us h ≡ fails-at n → ClassAt us n
   unfolding scan admit
   fails-class [] h n e = let z : _≡_ {A = ℕ} 0 1 = cc in absurd (omega arith)
-  fails-class (u ∷ us) h n e = go (admit job st h u) refl e (λ g m f. fails-class us g m f)
-    where
-      go : (o : Option Held) → admit job st h u ≡ o → onAdmit o (λ g. scan job st us g) ≡ fails-at n
-          → ((g : Held) (m : ℕ) → scan job st us g ≡ fails-at m → ClassAt us m) → ClassAt (u ∷ us) n
-      go none a f ih = let z : n ≡ 0 = cc in rw z (omega arith, kind-none job st h (u .pos) (u .kind) a)
-      go (some g) a f ih = back (scan job st us g) refl f
-        where
-          back : (r : Scan) → scan job st us g ≡ r → later r ≡ fails-at n → ClassAt (u ∷ us) n
-          back (through k) b c = let z : _≡_ {A = ℕ} 0 1 = cc in absurd (omega arith)
-          back (fails-at m) b c = let z : n ≡ suc m = cc in let q = ih g m b in rw z (omega arith, q .1)
+  fails-class (u ∷ us) h zero e = (omega arith, kind-none job st h (u .pos) (u .kind) (scan-first job st u us h e))
+  fails-class (u ∷ us) h (suc n) e =
+      let r = scan-later job st u us h n e in
+      let q = fails-class us (r .0) n (r .2) in
+      (omega arith, q .1)
 
 -- ---- the place of a cut
 
 abbrev Within : ℕ → ℕ → ℕ → Type 0
 Within lo hi x = (lo < x) × (x ≤ hi)
 
-abbrev AllWithin : ℕ → ℕ → List ℕ → Type 0
-AllWithin lo hi [] = Unit {0}
-AllWithin lo hi (x ∷ xs) = Within lo hi x × AllWithin lo hi xs
-
 either : (P : ℕ → Type 0) (b : Bool) (x y : ℕ) → P x → P y → P (cond b x y)
 either P true x y p q = p
 either P false x y p q = q
 
-earliest-in : (price : ℕ → Float) (lo hi c : ℕ) (ds : List ℕ) → Within lo hi c → AllWithin lo hi ds → Within lo hi (earliest price c ds)
+earliest-in : (price : ℕ → Float) (lo hi c : ℕ) (ds : List ℕ) → Within lo hi c → All (Within lo hi) ds → Within lo hi (earliest price c ds)
 unfolding earliest
 earliest-in price lo hi c [] h k = h
 earliest-in price lo hi c (d ∷ ds) h k = earliest-in price lo hi _ ds (either (Within lo hi) (lt (price d) (price c)) d c (k .0) h) (k .1)
 
-keep-in : (lo hi : ℕ) (xs : List ℕ) → AllWithin lo hi (keep (λ i. ltb (suc lo) i && leb i hi) xs)
+keep-in : (lo hi : ℕ) (xs : List ℕ) → All (Within lo hi) (keep (λ i. ltb (suc lo) i && leb i hi) xs)
 unfolding keep
 keep-in lo hi [] = tt
 keep-in lo hi (x ∷ xs) = go (ltb (suc lo) x) (leb x hi) refl refl (keep-in lo hi xs)
   where
-    go : (a b : Bool) → ltb (suc lo) x ≡ a → leb x hi ≡ b → AllWithin lo hi (keep (λ i. ltb (suc lo) i && leb i hi) xs)
-        → AllWithin lo hi (cond (a && b) (x ∷ keep (λ i. ltb (suc lo) i && leb i hi) xs) (keep (λ i. ltb (suc lo) i && leb i hi) xs))
+    go : (a b : Bool) → ltb (suc lo) x ≡ a → leb x hi ≡ b → All (Within lo hi) (keep (λ i. ltb (suc lo) i && leb i hi) xs)
+        → All (Within lo hi) (cond (a && b) (x ∷ keep (λ i. ltb (suc lo) i && leb i hi) xs) (keep (λ i. ltb (suc lo) i && leb i hi) xs))
     go true true e f ih = let q : suc lo < x = ltb-true _ _ e in let r : x ≤ hi = leb-true _ _ f in ((omega arith, omega arith), ih)
     go true false e f ih = ih
     go false b e f ih = ih
@@ -102,86 +96,54 @@ module _ (job : Job) (st : State) (top : RegClass) (us : List Use) where
       getD-reverse (take (suc e) us) j noUse m ∙ ap (λ (i : ℕ). getD (take (suc e) us) i noUse) (omega arith) ∙ getD-take (suc e) us (e - j) noUse (omega arith) in
       record { forward = f; start = (omega arith, rw q at (d .1)); end = c; order = omega arith }
 
-  turning-turn : (t n : ℕ) → turning us t ≡ turn n → n ≡ t
-  unfolding turning
-  turning-turn t n e = go (isDef (useAt us t .kind)) e
-    where
-      go : (b : Bool) → cond b (halt TurnedDef) (turn t) ≡ turn n → n ≡ t
-      go true f = cc
-      go false f = cc
-
-  turning-cut : (t : ℕ) (p : Inst) → turning us t ≡ cut p → ⊥
-  unfolding turning
-  turning-cut t p e = go (isDef (useAt us t .kind)) e
-    where
-      go : (b : Bool) → cond b (halt TurnedDef) (turn t) ≡ cut p → ⊥
-      go true f = let z : _≡_ {A = ℕ} 0 1 = cc in omega arith
-      go false f = let z : _≡_ {A = ℕ} 0 1 = cc in omega arith
-
-  -- where the start s and the end e lead
-  parted-turn : (s e n : ℕ) → Clash job st top us s e → parted job us s e ≡ turn n → ClassAt us n
-  unfolding parted
-  parted-turn s e n c f = go (eqb (useAt us s .pos .0) (useAt us e .pos .0)) f
-    where
-      go : (b : Bool) → cond b (turning us (cond (isDef (useAt us e .kind)) s e)) (cut (inst (earlyCut (job .blocks) (useAt us s .pos .0) (useAt us e .pos .0)))) ≡ turn n → ClassAt us n
-      go true g = rw (turning-turn _ n g) (either (ClassAt us) (isDef (useAt us e .kind)) s e (c .start) (c .end))
-      go false g = let z : _≡_ {A = ℕ} 0 1 = cc in absurd (omega arith)
-
-  parted-cut : (s e : ℕ) (p : Inst) → parted job us s e ≡ cut p → (useAt us s .pos .0 ≡ useAt us e .pos .0 → ⊥) × (p .0 ≡ earlyCut (job .blocks) (useAt us s .pos .0) (useAt us e .pos .0))
-  unfolding parted
-  parted-cut s e p f = go (eqb (useAt us s .pos .0) (useAt us e .pos .0)) refl f
-    where
-      go : (b : Bool) → eqb (useAt us s .pos .0) (useAt us e .pos .0) ≡ b
-          → cond b (turning us (cond (isDef (useAt us e .kind)) s e)) (cut (inst (earlyCut (job .blocks) (useAt us s .pos .0) (useAt us e .pos .0)))) ≡ cut p
-          → (useAt us s .pos .0 ≡ useAt us e .pos .0 → ⊥) × (p .0 ≡ earlyCut (job .blocks) (useAt us s .pos .0) (useAt us e .pos .0))
-      go true a g = absurd (turning-cut _ p g)
-      go false a g = (eqb-false _ _ a, cc)
-
-  pub move-turn : (n : ℕ) → move job st top us ≡ turn n → ClassAt us n
-  unfolding move
-  move-turn n m = go (scan job st us (fresh top)) refl m
-    where
-      go : (r : Scan) → scan job st us (fresh top) ≡ r → fromEnd job st top us r ≡ turn n → ClassAt us n
-      go (through h) a f = let z : _≡_ {A = ℕ} 0 1 = cc in absurd (omega arith)
-      go (fails-at e) a f = back (scan job st (reverse (take (suc e) us)) (fresh top)) refl f
-        where
-          back : (r : Scan) → scan job st (reverse (take (suc e) us)) (fresh top) ≡ r → fromStart job us e r ≡ turn n → ClassAt us n
-          back (through h) b g = let z : _≡_ {A = ℕ} 0 1 = cc in absurd (omega arith)
-          back (fails-at j) b g = parted-turn (e - j) e n (start-of e j a b) g
-
-  pub move-whole : (h : Held) → move job st top us ≡ whole h → scan job st us (fresh top) ≡ through h
-  unfolding move parted turning
-  move-whole h m = go (scan job st us (fresh top)) refl m
-    where
-      not-whole : (s e : ℕ) → parted job us s e ≡ whole h → ⊥
-      not-whole s e f = pick (eqb (useAt us s .pos .0) (useAt us e .pos .0)) (isDef (useAt us (cond (isDef (useAt us e .kind)) s e) .kind)) f
-        where
-          pick : (a b : Bool) → cond a (cond b (halt TurnedDef) (turn (cond (isDef (useAt us e .kind)) s e))) (cut (inst (earlyCut (job .blocks) (useAt us s .pos .0) (useAt us e .pos .0)))) ≡ whole h → ⊥
-          pick true true g = let z : _≡_ {A = ℕ} 0 1 = cc in omega arith
-          pick true false g = let z : _≡_ {A = ℕ} 0 1 = cc in omega arith
-          pick false b g = let z : _≡_ {A = ℕ} 0 1 = cc in omega arith
-
-      go : (r : Scan) → scan job st us (fresh top) ≡ r → fromEnd job st top us r ≡ whole h → scan job st us (fresh top) ≡ through h
-      go (through k) a f = let q : k ≡ h = cc in a ∙ ap through q
-      go (fails-at e) a f = absurd (back (scan job st (reverse (take (suc e) us)) (fresh top)) f)
-        where
-          back : (r : Scan) → fromStart job us e r ≡ whole h → ⊥
-          back (through k) g = let z : _≡_ {A = ℕ} 0 1 = cc in omega arith
-          back (fails-at j) g = not-whole (e - j) e g
-
+  -- a cut parts a start from an end at another instruction
   abbrev pub CutAt : Inst → Type 0
   CutAt p =
       (s : ℕ) × (e : ℕ) × Clash job st top us s e × (useAt us s .pos .0 ≡ useAt us e .pos .0 → ⊥)
       × (p .0 ≡ earlyCut (job .blocks) (useAt us s .pos .0) (useAt us e .pos .0))
 
-  pub move-cut : (p : Inst) → move job st top us ≡ cut p → CutAt p
-  unfolding move
-  move-cut p m = go (scan job st us (fresh top)) refl m
+  abbrev Says : Move → Type 0
+  Says (whole h) = scan job st us (fresh top) ≡ through h
+  Says (turn n) = ClassAt us n
+  Says (cut p) = CutAt p
+  Says (halt s) = Unit {0}
+
+  turning-says : (n : ℕ) → ClassAt us n → Says (turning us n)
+  unfolding turning
+  turning-says n c = go (isDef (useAt us n .kind))
     where
-      go : (r : Scan) → scan job st us (fresh top) ≡ r → fromEnd job st top us r ≡ cut p → CutAt p
-      go (through h) a f = let z : _≡_ {A = ℕ} 0 1 = cc in absurd (omega arith)
-      go (fails-at e) a f = back (scan job st (reverse (take (suc e) us)) (fresh top)) refl f
-        where
-          back : (r : Scan) → scan job st (reverse (take (suc e) us)) (fresh top) ≡ r → fromStart job us e r ≡ cut p → CutAt p
-          back (through h) b g = let z : _≡_ {A = ℕ} 0 1 = cc in absurd (omega arith)
-          back (fails-at j) b g = let q = parted-cut (e - j) e p g in (e - j, e, start-of e j a b, q .0, q .1)
+      go : (b : Bool) → Says (cond b (halt TurnedDef) (turn n))
+      go true = tt
+      go false = c
+
+  parted-says : (s e : ℕ) → Clash job st top us s e → Says (parted job us s e)
+  unfolding parted
+  parted-says s e c = go (eqb (useAt us s .pos .0) (useAt us e .pos .0)) refl
+    where
+      go : (b : Bool) → eqb (useAt us s .pos .0) (useAt us e .pos .0) ≡ b
+          → Says (cond b (turning us (cond (isDef (useAt us e .kind)) s e)) (cut (inst (earlyCut (job .blocks) (useAt us s .pos .0) (useAt us e .pos .0)))))
+      go true q = turning-says _ (either (ClassAt us) (isDef (useAt us e .kind)) s e (c .start) (c .end))
+      go false q = (s, e, c, eqb-false _ _ q, refl)
+
+  start-says : (e : ℕ) → scan job st us (fresh top) ≡ fails-at e → (r : Scan) → scan job st (reverse (take (suc e) us)) (fresh top) ≡ r → Says (fromStart job us e r)
+  unfolding fromStart
+  start-says e a (through h) b = tt
+  start-says e a (fails-at j) b = parted-says (e - j) e (start-of e j a b)
+
+  end-says : (r : Scan) → scan job st us (fresh top) ≡ r → Says (fromEnd job st top us r)
+  unfolding fromEnd
+  end-says (through h) a = a
+  end-says (fails-at e) a = start-says e a (scan job st (reverse (take (suc e) us)) (fresh top)) refl
+
+  move-says : (m : Move) → move job st top us ≡ m → Says m
+  unfolding move
+  move-says m e = subst Says e (end-says (scan job st us (fresh top)) refl)
+
+  pub move-whole : (h : Held) → move job st top us ≡ whole h → scan job st us (fresh top) ≡ through h
+  move-whole h e = move-says (whole h) e
+
+  pub move-turn : (n : ℕ) → move job st top us ≡ turn n → ClassAt us n
+  move-turn n e = move-says (turn n) e
+
+  pub move-cut : (p : Inst) → move job st top us ≡ cut p → CutAt p
+  move-cut p e = move-says (cut p) e

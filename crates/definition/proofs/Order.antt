@@ -25,7 +25,8 @@ use Rattle.definition.proofs.Cuts.{uses-cut}
 use Rattle.definition.proofs.Moves.{ClassAt, move-whole, move-turn}
 use Rattle.definition.proofs.Fits.{SegsFit, turn-fit, right-fit}
 use Rattle.definition.proofs.Places.{total-append, bind-done, counted, Groups, placed, scan-target, All, all-append}
-use Rattle.definition.proofs.Points.{ofOwn, own-total, front-grown, conflicts-grown}
+use Rattle.definition.proofs.Measures.{Grown, class-left, class-right, front-grown, own-grown}
+use Rattle.definition.proofs.Points.{conflicts-own, ofOwn}
 use Rattle.definition.proofs.Entries.{and-both, Good, next-to, from-on}
 
 -- ---- uses, place by place
@@ -94,16 +95,11 @@ turn-listed n (s ∷ ss) c = go (ltb n (length (s .uses))) refl (λ d. turn-list
     go : (b : Bool) → ltb n (length (s .uses)) ≡ b → (ClassAt (usesOf ss) (n - length (s .uses)) → Listed (valued ss) (valued (turnAt (n - length (s .uses)) ss)))
         → Listed (under (s .value) (s .uses) ++ valued ss) (valued (turnAt n (s ∷ ss)))
     go true e ih =
-        let l : n < length (s .uses) = ltb-true _ _ e in
-        let q : useAt (s .uses ++ usesOf ss) n ≡ useAt (s .uses) n = List·getD-append (s .uses) (usesOf ss) noUse n l in
-        let c′ : ClassAt (s .uses) n = (l, subst (λ (u : Use). isClassUse (u .kind) ≡ true) q (c .1)) in
-        rw (e, turnAt) (listed-append (under (s .value) (s .uses)) (under (s .value) (turnIn n (s .uses))) (valued ss) (valued ss) (under-turn (s .value) n (s .uses) c′) (listed-refl (valued ss)))
+        rw (e, turnAt) (listed-append (under (s .value) (s .uses)) (under (s .value) (turnIn n (s .uses))) (valued ss) (valued ss)
+        (under-turn (s .value) n (s .uses) (class-left (s .uses) (usesOf ss) n (ltb-true _ _ e) c)) (listed-refl (valued ss)))
     go false e ih =
-        let l : length (s .uses) ≤ n = ltb-false _ _ e in
-        let q : useAt (s .uses ++ usesOf ss) n ≡ useAt (usesOf ss) (n - length (s .uses)) =
-        ap (λ (i : ℕ). getD (s .uses ++ usesOf ss) i noUse) (omega arith) ∙ getD-append-add (s .uses) (usesOf ss) (n - length (s .uses)) noUse in
-        let c′ : ClassAt (usesOf ss) (n - length (s .uses)) = (omega (arith, length-append (s .uses) (usesOf ss)), subst (λ (u : Use). isClassUse (u .kind) ≡ true) q (c .1)) in
-        rw (e, turnAt) (listed-append (under (s .value) (s .uses)) (under (s .value) (s .uses)) (valued ss) (valued (turnAt (n - length (s .uses)) ss)) (listed-refl (under (s .value) (s .uses))) (ih c′))
+        rw (e, turnAt) (listed-append (under (s .value) (s .uses)) (under (s .value) (s .uses)) (valued ss) (valued (turnAt (n - length (s .uses)) ss))
+        (listed-refl (under (s .value) (s .uses))) (ih (class-right (s .uses) (usesOf ss) n (ltb-false _ _ e) c)))
 
 -- ---- segments that follow each other
 
@@ -175,15 +171,16 @@ module _ (job : Job) (room : Room) (set′ : ValueSet) (top : RegClass) where
           → Made job st ss (b .state)
       go (whole h) m a ih =
           let p = bind-done (place job room set′ h (asOwn ss) st) _ b a in
-          let t = scan-target job st gs (usesOf ss) (fresh top) h tt (move-whole job st top (usesOf ss) h m) in
+          let g : (ν : Segment → ℕ) → Grown (ofOwn ν) (total ν ss) st (p .0) =
+          λ ν. own-grown (ofOwn ν) job room set′ top ss h st (p .0) gs (move-whole job st top (usesOf ss) h m) (p .1) in
           let s : p .0 ≡ b .state = cc in
           subst (Made job st ss) s (record {
             pieces = ss;
-            counts = λ ν. rw (← own-total ν ss) (placed (ofOwn ν) job room set′ h (asOwn ss) st gs (p .0) t (p .1) .0);
+            counts = λ ν. g ν .0;
             follow = λ q h. fit-follows q ss h;
             listed = listed-refl (valued ss);
             led = λ u a. a;
-            groups = placed (ofOwn (λ _. 0)) job room set′ h (asOwn ss) st gs (p .0) t (p .1) .1;
+            groups = g (λ _. 0) .1;
           })
       go (turn n) m a ih =
           let i = ih st (turnAt n ss) (ts ++ (turnedAt n ss ∷ [])) gs a in
@@ -198,11 +195,11 @@ module _ (job : Job) (room : Room) (set′ : ValueSet) (top : RegClass) where
       go (cut p) m a ih =
           let l = leftCut (job .hints) p ss in
           let r = bind-done (placeFront job room set′ top l st) _ b a in
-          let g = front-grown (λ _. 0) job room set′ top l st (r .0) gs (r .1) in
-          let i = ih (r .0) (rightCut (job .hints) p ss) ts (g .1) (r .2) in
+          let g : (ν : Segment → ℕ) → Grown (ofOwn ν) (total ν l) st (r .0) = λ ν. front-grown (ofOwn ν) job room set′ top l st (r .0) gs (r .1) in
+          let i = ih (r .0) (rightCut (job .hints) p ss) ts (g (λ _. 0) .1) (r .2) in
           record {
             pieces = l ++ i .pieces;
-            counts = λ ν. omega (arith, front-grown ν job room set′ top l st (r .0) gs (r .1) .0, i .counts ν, total-append ν l (i .pieces));
+            counts = λ ν. omega (arith, g ν .0, i .counts ν, total-append ν l (i .pieces));
             follow = λ q h. cut-follows (job .hints) p (i .pieces) ss q h (i .follow);
             listed = rw (← cut-valued (job .hints) p ss, valued-append)
                 (listed-append (valued l) (valued l) (valued (rightCut (job .hints) p ss)) (valued (i .pieces)) (listed-refl (valued l)) (i .listed));
@@ -219,14 +216,14 @@ set-made job room s ss st st′ gs e =
     let n = suc (classUses (usesOf (s ∷ ss))) in
     let b = bind-done (steps n job room set″ top st (s ∷ ss) []) _ st′ e in
     let m = steps-made job room set″ top n st (s ∷ ss) [] (b .0) gs (b .1) in
-    let cs = runs sameInst (b .0 .turned) in
+    let g : (ν : Segment → ℕ) → Grown (ofOwn ν) 0 (b .0 .state) st′ = λ ν. conflicts-own ν job room set″ top (b .0 .turned) (b .0 .state) st′ (m .groups) (b .2) in
     record {
       pieces = m .pieces;
-      counts = λ ν. omega (arith, m .counts ν, conflicts-grown ν job room set″ top cs (b .0 .state) st′ (m .groups) (b .2) .0);
+      counts = λ ν. omega (arith, m .counts ν, g ν .0);
       follow = m .follow;
       listed = m .listed;
       led = m .led;
-      groups = conflicts-grown (λ _. 0) job room set″ top cs (b .0 .state) st′ (m .groups) (b .2) .1;
+      groups = g (λ _. 0) .1;
     }
 
 -- ---- the sets rise

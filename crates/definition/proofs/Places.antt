@@ -1,21 +1,21 @@
--- Placing a register adds its pieces to those that are there, whatever is counted of a piece. Assumes nothing.
-use mathlib.Core.Path.{_≡_, refl, ap, sym, _∙_, subst}
-use Prim.Native.Nat.{ℕ, zero, suc, _+_, _-_, _*_, _≤_, _<_}
-use native.Mathlib.Nat.{zero-add, suc-add}
+-- Placing a register adds its pieces to those that are there, whatever is counted of a piece; groups and what is held name registers.
+-- Before that, facts on lists (`All`) and on one answer after another. Assumes nothing.
+use mathlib.Core.Path.{_≡_, refl, ap, _∙_, subst}
+use Prim.Native.Nat.{ℕ, zero, suc, _+_, _≤_, _<_}
 use native.Mathlib.Omega.{arith}
-use mathlib.Core.Bool.{Bool, true, false, cond}
+use mathlib.Core.Bool.{Bool, true, false}
 use mathlib.Core.Option.{Option, none, some, bind, Option·some-injective}
-use mathlib.Core.List.{List, [], _∷_, _++_, append-nil, reverse, reverseAux}
+use mathlib.Core.List.{List, [], _∷_, _++_, reverse, reverseAux}
 use lib.ListN.{length, getD, set, replicate, length-append}
-use lib.Dec.{leb, ltb}
+use lib.Dec.{leb}
 use lib.Ieee.{Float}
-use borrow.Author.Tests.{ltb-true, ltb-false, leb-true, leb-false}
-use Rattle.definition.specs.Types.{BlockparamIn, BlockparamOut, ClassData, ClassDef, ClassUse, ConstraintConflict, FixedDef, FixedUse, GroupClassDef, GroupClassUse, Held, HeldGroup, Hint, Inst, Job, LiveRangePoint, Mapped, MappedTwice, Out, Overlap, Piece, Refusal, RegClass, Register, Room, Segment, State, Stop, TiedUse, Turned, Use, UseKind, ValueSet, VirtReg, VirtRegGroup, done, refused, vreg, vrgroup}
+use Rattle.definition.specs.Types.{BlockparamIn, BlockparamOut, ClassDef, ClassUse, ConstraintConflict, FixedDef, FixedUse, GroupClassDef, GroupClassUse, Held, HeldGroup, Inst, Job, LiveRangePoint, Mapped, MappedTwice, Out, Overlap, Piece, RegClass, Register, Room, Segment, State, Stop, TiedUse, Turned, Use, UseKind, ValueSet, VirtReg, VirtRegGroup, done, refused, vreg, vrgroup}
 use Rattle.definition.specs.RegInfo.{classAt, commonSubclass}
 use Rattle.definition.specs.Weights.{weightOf}
-use Rattle.definition.specs.Admit.{Scan, admit, admitClass, admitGroup, admitKind, atPlace, fails-at, fresh, groupFits, guard, inGroup, later, mappedAt, membersAt, narrowed, noRegister, onAdmit, registerAt, scan, setsAt, through}
+use Rattle.definition.specs.Admit.{admit, admitClass, admitGroup, admitKind, atPlace, groupFits, guard, inGroup, mappedAt, membersAt, narrowed, noRegister, registerAt, scan, setsAt, through}
 use Rattle.definition.specs.Place.{_>>=_, alone, aloneState, firstFrom, gate, groupWeight, hasRoom, inserted, isNone, join, joinState, lastTo, lead, leadState, made, mapUses, merge, mergeState, orElse, overlaps, place, placeBy, placeGroup, segsOf, spread, total, update, usesOf, withPieces, withWeight}
-use Rattle.definition.specs.Build.{Round, asOwn, lastFirst, lastFirst′, try}
+use Rattle.definition.specs.Build.{asOwn, lastFirst, lastFirst′, try}
+use Rattle.definition.proofs.Scans.{scan-keeps}
 
 -- ---- one answer after another
 
@@ -219,18 +219,7 @@ module _ (job : Job) (st : State) (gs : Groups st) where
   admit-target h u g o e = admit-kind h (u .pos) (u .kind) g o e
 
   pub scan-target : (us : List Use) (h g : Held) → TargetOk h → scan job st us h ≡ through g → TargetOk g
-  unfolding scan
-  scan-target [] h g o e = let q : h ≡ g = cc in subst TargetOk q o
-  scan-target (u ∷ us) h g o e = go (admit job st h u) refl e (λ k a b. scan-target us k g a b)
-    where
-      go : (r : Option Held) → admit job st h u ≡ r → onAdmit r (λ k. scan job st us k) ≡ through g
-          → ((k : Held) → TargetOk k → scan job st us k ≡ through g → TargetOk g) → TargetOk g
-      go none a f ih = let z : _≡_ {A = ℕ} 0 1 = cc in absurd (omega arith)
-      go (some k) a f ih = back (scan job st us k) refl f
-        where
-          back : (r : Scan) → scan job st us k ≡ r → later r ≡ through g → TargetOk g
-          back (through l) b c = ih k (admit-target h u k o a) (b ∙ c)
-          back (fails-at n) b c = let z : _≡_ {A = ℕ} 0 1 = cc in absurd (omega arith)
+  scan-target us h g o e = scan-keeps job st TargetOk (λ l k u p a. admit-target l u k p a) us h g o e
 
 -- ---- and after a round over turned uses
 
