@@ -20,7 +20,7 @@ use Rattle.definition.proofs.Places.{All, all-map, all-getD, counted}
 use Rattle.definition.proofs.Classes.{Masks}
 use Rattle.definition.proofs.Entries.{and-both, conj-all, every-all, lowest-none}
 use Rattle.definition.proofs.Points.{ofOwn, points-same, Steady, ownUses, own-uses-same}
-use Rattle.definition.proofs.ReadBack.{Test, ofPiece, ofSeg, uses-same}
+use Rattle.definition.proofs.ReadBack.{Test, ofPiece, uses-same}
 use Rattle.definition.proofs.Admission.{askedIn, sizeOf, GroupUse, KindFits, UseFits, Sizes, ServedIn, SegFits, nth, admission}
 
 all-at : {A : Type 0} (P : A → Type 0) (xs : List A) (n : ℕ) (d : A) → All P xs → n < length xs → P (getD xs n d)
@@ -191,7 +191,7 @@ pub record Kept (job : Job) (res : Result) : Type 0 where
   -- each use of each value that is no class use stands in own pieces exactly as often as in the job; so do class uses and marks, counted together
   pub own-uses : (v : Value) (P : Use → Bool) → Steady P → counted (ofOwn (ownUses v P)) (res .registers) ≡ total (ownUses v P) (job .segments)
   -- each class use of each value stands in own and added pieces exactly as often as in the job
-  pub uses : (v : Value) (P : Use → Bool) (t : Test P) → counted (ofPiece v P t) (res .registers) ≡ total (ofSeg v P t) (job .segments)
+  pub uses : (v : Value) (P : Use → Bool) → Test P → counted (ofPiece v P) (res .registers) ≡ total (ownUses v P) (job .segments)
   -- where subclassing is transitive, each register's class is admitted by every class use in its pieces
   pub classes : Transitive job → (r : VirtReg) → r .0 < length (res .registers) → ServedIn job (nth (res .registers) r .class) (nth (res .registers) r .pieces)
 

@@ -16,8 +16,8 @@ use Rattle.definition.specs.Entry.{behind, chained, every, kindOk, segme
 use Rattle.definition.specs.Promised.{Follows, addedIn, addedPieces, classUsesAt, covered, covers, had, held, holds, isMark, marksAt, ofSet, ownIn, ownOf, ownPieces, sameUse}
 use Rattle.definition.proofs.Cuts.{halves, point-parted}
 use Rattle.definition.proofs.Places.{total-append, counted, All, all-map}
-use Rattle.definition.proofs.Points.{Additive, ofOwn, Steady, ownUses}
-use Rattle.definition.proofs.ReadBack.{Test, ofPiece, ofSeg}
+use Rattle.definition.proofs.Points.{Additive, cond-sum, ofOwn, Steady, ownUses}
+use Rattle.definition.proofs.ReadBack.{Test, ofPiece}
 use Rattle.definition.proofs.Entries.{and-both, conj-all, every-all, Good, segment-good}
 use Rattle.definition.proofs.Order.{ledBy, of-total, Rise, runs-rise}
 use Rattle.definition.proofs.Same.{same-use}
@@ -91,13 +91,9 @@ module _ (ν : Segment → ℕ) where
 pub led-additive : (job : Job) (s : ValueSet) (ν : Segment → ℕ) → Additive ν → Additive (ledBy job s ν)
 unfolding leftOf rightOf
 led-additive job s ν add = record {
-  parted = λ hs p t a b. go (eqb (setOf job (t .value) .0) (s .0)) (ν (leftOf hs p t)) (ν (rightOf hs p t)) (ν t) (add .parted hs p t a b);
+  parted = λ hs p t a b. cond-sum (eqb (setOf job (t .value) .0) (s .0)) (ν (leftOf hs p t)) (ν (rightOf hs p t)) (ν t) (add .parted hs p t a b);
   kept = λ n t c. ap (λ (m : ℕ). cond (eqb (setOf job (t .value) .0) (s .0)) m 0) (add .kept n t c);
 }
-  where
-    go : (b : Bool) (l r w : ℕ) → l + r ≡ w → cond b l 0 + cond b r 0 ≡ cond b w 0
-    go true l r w e = e
-    go false l r w e = refl
 
 pub held-additive : (v : Value) (x : ℕ) → Additive (λ t. one (holds v x t))
 held-additive v x = record { parted = point-parted v x; kept = λ n t c. refl }
@@ -293,12 +289,12 @@ module _ (v : Value) (p : Inst) where
 
   pub marks-turned : (job : Job) (rs : List Register) → every (usesOk job) (job .segments) ≡ true
       → ((P : Use → Bool) → Steady P → counted (ofOwn (ownUses v P)) rs ≡ total (ownUses v P) (job .segments))
-      → ((P : Use → Bool) (t : Test P) → counted (ofPiece v P t) rs ≡ total (ofSeg v P t) (job .segments))
+      → ((P : Use → Bool) → Test P → counted (ofPiece v P) rs ≡ total (ownUses v P) (job .segments))
       → marksAt v p (ownIn rs) ≡ classUsesAt v p (addedIn rs)
   unfolding marksAt classUsesAt
   marks-turned job rs e own-same all-same =
       let a : passed v (eitherAt p) (ownIn rs) ≡ passed v (eitherAt p) (job .segments) = sym (own-counted (ownUses v (eitherAt p)) rs) ∙ own-same (eitherAt p) either-steady in
       let b : passed v (classAtInst p) (ownIn rs) + passed v (classAtInst p) (addedIn rs) ≡ passed v (classAtInst p) (job .segments) =
-      sym (both-counted (ofSeg v (classAtInst p) class-test-at) rs) ∙ all-same (classAtInst p) class-test-at in
+      sym (both-counted (ownUses v (classAtInst p)) rs) ∙ all-same (classAtInst p) class-test-at in
       let none′ : passed v (markAtInst p) (job .segments) ≡ 0 = none-passed v (markAtInst p) (λ u. isMark (u .kind) ≡ false) (λ u d. rw d) (job .segments) (no-marks job e) in
       omega (arith, either-passed (ownIn rs), either-passed (job .segments))

@@ -18,7 +18,6 @@ use Rattle.definition.specs.Lines.{Line, printed}
 use Rattle.definition.specs.Promised.{Follows, In, Listed, Transitive, addedIn, byFirst, classUsesAt, covered, had, held, inputOf, isMark, marksAt, ofSet, ownIn, ownOf, sameUse, valued}
 use Rattle.definition.proofs.Places.{All}
 use Rattle.definition.proofs.Points.{Additive, ofOwn, ownUses, built-same}
-use Rattle.definition.proofs.ReadBack.{ofSeg}
 use Rattle.definition.proofs.Entries.{lowest-none}
 use Rattle.definition.proofs.Admission.{nth}
 use Rattle.definition.proofs.Accepted.{Kept, kept, accepted}
@@ -162,7 +161,7 @@ pub promise-turned : (job : Job) (room : Room) (res : Result) → answer job roo
 unfolding had
 promise-turned job room res e v =
     let k = kept job room res e in (
-      λ w c. let t = class-test (w .kind) (w .pos) c in sym (both-counted (ofSeg v (sameUse w) t) (res .registers)) ∙ k .uses v (sameUse w) t,
+      λ w c. let t = class-test (w .kind) (w .pos) c in sym (both-counted (ownUses v (sameUse w)) (res .registers)) ∙ k .uses v (sameUse w) t,
       λ p. marks-turned v p job (res .registers) (facts job room res e .uses-ok) (λ P s. k .own-uses v P s) (λ P t. k .uses v P t),
     )
 
