@@ -10,18 +10,19 @@ use lib.ListN.{length, getD}
 use lib.Pow.{pow-mono, pow-pos}
 use lib.Dec.{ltb, eqb}
 use borrow.Author.Tests.{ltb-true, leb-true, eqb-true, eqb-false, eq-eqb}
-use Rattle.definition.specs.Types.{Inst, Value, RegClass, VirtReg, UseKind, FixedDef, FixedUse, TiedUse, ConstraintConflict, ClassUse, ClassDef, GroupClassUse, GroupClassDef, BlockparamIn, BlockparamOut, Use, ClassData, Operand, Segment, Job, Room, Refusal, done, inst, cls}
+use Rattle.definition.specs.Types.{Inst, Value, RegClass, VirtReg, UseKind, FixedDef, FixedUse, TiedUse, ConstraintConflict, ClassUse, ClassDef, GroupClassUse, GroupClassDef, BlockparamIn, BlockparamOut, Use, ClassData, Operand, Segment, Job, Room, Refusal, done, inst, val, cls}
 use Rattle.definition.specs.RegInfo.{classAt, noClass}
 use Rattle.definition.specs.Place.{total}
 use Rattle.definition.specs.Build.{Result, build, one}
 use Rattle.definition.specs.Entry.{answer, answerTo, apart, bookOk, bookTests, classOk, classTests, conj, entry, entryTests, every, functionOk, functionTests, groupUseOk, groupUseTests, kindOk, limitTests, limitsOk, membersOf, operandOk, operandTests, samePlace, sized, some-is, useOk, useTests, usesOk, vgroupOk, vgroupTests}
 use Rattle.definition.specs.Promised.{Transitive, bitAt, holds}
 use Rattle.definition.proofs.Places.{All, all-map, all-getD, counted}
+use Rattle.definition.proofs.Tables.{nth, operandAt}
 use Rattle.definition.proofs.Classes.{Masks}
 use Rattle.definition.proofs.Entries.{and-both, conj-all, every-all, lowest-none}
 use Rattle.definition.proofs.Points.{ofOwn, points-same, Steady, ownUses, own-uses-same}
 use Rattle.definition.proofs.ReadBack.{Test, ofPiece, uses-same}
-use Rattle.definition.proofs.Admission.{askedIn, sizeOf, GroupUse, KindFits, UseFits, Sizes, ServedIn, SegFits, nth, admission}
+use Rattle.definition.proofs.Admission.{sizeOf, GroupUse, KindFits, UseFits, Sizes, ServedIn, SegFits, admission}
 
 all-at : {A : Type 0} (P : A → Type 0) (xs : List A) (n : ℕ) (d : A) → All P xs → n < length xs → P (getD xs n d)
 all-at P [] n d h l = absurd (omega arith)
@@ -86,28 +87,18 @@ module _ (job : Job) where
 
   -- ---- operands
 
-  abbrev There : Inst → ℕ → RegClass → ℕ → Operand → Type 0
-  There p s c i o = (o .inst ≡ p) × (o .slot ≡ s) × (o .class ≡ c) × (i < length (membersOf job (o .vgroup)))
+  abbrev pub There : Value → Inst → ℕ → RegClass → ℕ → Operand → Type 0
+  There v p s c i o =
+      (o .inst ≡ p) × (o .slot ≡ s) × (o .class ≡ c) × (i < length (membersOf job (o .vgroup))) × (getD (membersOf job (o .vgroup)) i (val 0) ≡ v)
 
-  there : (v : Value) (p : Inst) (s : ℕ) (c : RegClass) (i : ℕ) (o : Operand) → conj (groupUseTests job v p s c i o) ≡ true → There p s c i o
+  there : (v : Value) (p : Inst) (s : ℕ) (c : RegClass) (i : ℕ) (o : Operand) → conj (groupUseTests job v p s c i o) ≡ true → There v p s c i o
   there v p s c i o e =
       let a = conj-all (groupUseTests job v p s c i o) e in
-      (ap inst (eqb-true _ _ (a .0)), eqb-true _ _ (a .1 .0), ap cls (eqb-true _ _ (a .1 .1 .0)), ltb-true _ _ (a .1 .1 .1 .0))
-
-  -- an operand whose facts hold of all
-  module _ (P : Operand → Type 0) where
-    pick : (v : Value) (p : Inst) (s : ℕ) (c : RegClass) (i : ℕ) (os : List Operand) → All P os → some-is (λ o. conj (groupUseTests job v p s c i o)) os ≡ true → (o : Operand) × P o × There p s c i o
-    unfolding some-is
-    pick v p s c i [] h e = let z : _≡_ {A = ℕ} 0 1 = cc in absurd (omega arith)
-    pick v p s c i (o ∷ os) h e = go (conj (groupUseTests job v p s c i o)) refl e (λ d. pick v p s c i os (h .1) d)
-      where
-        go : (b : Bool) → conj (groupUseTests job v p s c i o) ≡ b → (b || some-is (λ o. conj (groupUseTests job v p s c i o)) os) ≡ true
-            → (some-is (λ o. conj (groupUseTests job v p s c i o)) os ≡ true → (o : Operand) × P o × There p s c i o) → (o : Operand) × P o × There p s c i o
-        go true a d ih = (o, h .0, there v p s c i o a)
-        go false a d ih = ih d
+      (ap inst (eqb-true _ _ (a .0)), eqb-true _ _ (a .1 .0), ap cls (eqb-true _ _ (a .1 .1 .0)), ltb-true _ _ (a .1 .1 .1 .0), ap val (eqb-true _ _ (a .1 .1 .1 .1 .0)))
 
   -- a second one at the same place would be found
-  pub again : (v : Value) (p : Inst) (s : ℕ) (c : RegClass) (i : ℕ) (o : Operand) (os : List Operand) → o .inst ≡ p → o .slot ≡ s → some-is (λ o. conj (groupUseTests job v p s c i o)) os ≡ true → some-is (samePlace o) os ≡ true
+  again : (v : Value) (p : Inst) (s : ℕ) (c : RegClass) (i : ℕ) (o : Operand) (os : List Operand) → o .inst ≡ p → o .slot ≡ s
+      → some-is (λ o. conj (groupUseTests job v p s c i o)) os ≡ true → some-is (samePlace o) os ≡ true
   unfolding some-is
   again v p s c i o [] x y e = e
   again v p s c i o (r ∷ os) x y e = go (conj (groupUseTests job v p s c i r)) refl e (λ d. again v p s c i o os x y d)
@@ -121,17 +112,20 @@ module _ (job : Job) where
           or-right true f = refl
           or-right false f = f
 
-  asked-is : (v : Value) (p : Inst) (s : ℕ) (c : RegClass) (i : ℕ) (os : List Operand) → apart samePlace os ≡ true → some-is (λ o. conj (groupUseTests job v p s c i o)) os ≡ true → askedIn os p s ≡ c
+  -- no two are at one place: the operand that is found first is the one that passed the tests; what holds of all holds of it
+  operand-is : (P : Operand → Type 0) (v : Value) (p : Inst) (s : ℕ) (c : RegClass) (i : ℕ) (os : List Operand) → All P os → apart samePlace os ≡ true
+      → some-is (λ o. conj (groupUseTests job v p s c i o)) os ≡ true → P (operandAt os p s) × There v p s c i (operandAt os p s)
   unfolding some-is apart
-  asked-is v p s c i [] ap′ e = let z : _≡_ {A = ℕ} 0 1 = cc in absurd (omega arith)
-  asked-is v p s c i (o ∷ os) ap′ e =
+  operand-is P v p s c i [] h ap′ e = let z : _≡_ {A = ℕ} 0 1 = cc in absurd (omega arith)
+  operand-is P v p s c i (o ∷ os) h ap′ e =
       let a = and-both (not (some-is (samePlace o) os)) (apart samePlace os) ap′ in
-      go (conj (groupUseTests job v p s c i o)) (eqb (o .inst .0) (p .0)) (eqb (o .slot) s) refl refl refl e (a .0) (λ d. asked-is v p s c i os (a .1) d)
+      go (conj (groupUseTests job v p s c i o)) (eqb (o .inst .0) (p .0)) (eqb (o .slot) s) refl refl refl e (a .0) (λ d. operand-is P v p s c i os (h .1) (a .1) d)
     where
       go : (b x y : Bool) → conj (groupUseTests job v p s c i o) ≡ b → eqb (o .inst .0) (p .0) ≡ x → eqb (o .slot) s ≡ y
           → (b || some-is (λ o. conj (groupUseTests job v p s c i o)) os) ≡ true → not (some-is (samePlace o) os) ≡ true
-          → (some-is (λ o. conj (groupUseTests job v p s c i o)) os ≡ true → askedIn os p s ≡ c) → cond (x && y) (o .class) (askedIn os p s) ≡ c
-      go true true true a x y d n ih = there v p s c i o a .2
+          → (some-is (λ o. conj (groupUseTests job v p s c i o)) os ≡ true → P (operandAt os p s) × There v p s c i (operandAt os p s))
+          → P (cond (x && y) o (operandAt os p s)) × There v p s c i (cond (x && y) o (operandAt os p s))
+      go true true true a x y d n ih = (h .0, there v p s c i o a)
       go true false y′ a x y d n ih = absurd (eqb-false _ _ x (ap (λ (j : Inst). j .0) (there v p s c i o a .0)))
       go true true false a x y d n ih = absurd (eqb-false _ _ y (there v p s c i o a .1))
       go false true true a x y d n ih =
@@ -155,14 +149,20 @@ module _ (job : Job) where
         let v : vgroupOk job (membersOf job (o .vgroup)) ≡ true = all-at (λ x. vgroupOk job x ≡ true) (job .vgroups) (o .vgroup .0) [] g l in
         (leb-true _ _ (conj-all (vgroupTests job (membersOf job (o .vgroup))) v .0), eqb-true _ _ (a .1 .1 .1 .1 .0))
 
-    group-use-fits : (v : Value) (p : Inst) (s : ℕ) (c : RegClass) (i : ℕ) → groupUseOk job v p s c i ≡ true → GroupUse job p s c i
+    -- the operand of a group use
+    pub group-operand : (v : Value) (p : Inst) (s : ℕ) (c : RegClass) (i : ℕ) → groupUseOk job v p s c i ≡ true
+        → OpFits (operandAt (job .operands) p s) × There v p s c i (operandAt (job .operands) p s)
     unfolding groupUseOk functionOk
-    group-use-fits v p s c i e =
+    group-operand v p s c i e =
         let f = conj-all (functionTests job) fn in
-        let all = all-map _ OpFits op-fits (job .operands) (every-all (operandOk job) (job .operands) (f .1 .1 .1 .0)) in
-        let o = pick OpFits v p s c i (job .operands) all e in
-        let size : sizeOf job c ≡ length (membersOf job (o .0 .vgroup)) = subst (λ (x : RegClass). classAt job x .size ≡ length (membersOf job (o .0 .vgroup))) (o .2 .2) (o .1 .1) in
-        (asked-is v p s c i (job .operands) (f .1 .1 .1 .1 .0) e, omega (arith, o .1 .0), omega (arith, o .2 .3))
+        operand-is OpFits v p s c i (job .operands) (all-map _ OpFits op-fits (job .operands) (every-all (operandOk job) (job .operands) (f .1 .1 .1 .0))) (f .1 .1 .1 .1 .0) e
+
+    group-use-fits : (v : Value) (p : Inst) (s : ℕ) (c : RegClass) (i : ℕ) → groupUseOk job v p s c i ≡ true → GroupUse job p s c i
+    group-use-fits v p s c i e =
+        let o = operandAt (job .operands) p s in
+        let t = group-operand v p s c i e in
+        let size : sizeOf job c ≡ length (membersOf job (o .vgroup)) = subst (λ (x : RegClass). classAt job x .size ≡ length (membersOf job (o .vgroup))) (t .1 .2) (t .0 .1) in
+        (t .1 .2, omega (arith, t .0 .0), omega (arith, t .1 .3))
 
     kind-fits : (v : Value) (p : Inst) (k : UseKind) → kindOk job v p k ≡ true → KindFits job p k
     unfolding kindOk

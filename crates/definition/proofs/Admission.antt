@@ -3,167 +3,34 @@ use mathlib.Core.Path.{_≡_, refl, ap, sym, _∙_, subst}
 use mathlib.Core.Logic.{inl, inr, _≢_}
 use Prim.Native.Nat.{ℕ, zero, suc, _≤_, _<_}
 use native.Mathlib.Omega.{arith}
-use mathlib.Core.Bool.{Bool, true, false, cond, _&&_, _||_}
+use mathlib.Core.Bool.{Bool, true, false, cond, _&&_}
 use mathlib.Core.Option.{Option, none, some, Option·some-injective}
 use mathlib.Core.List.{List, [], _∷_, _++_}
 use lib.ListN.{length, getD, set, replicate, length-append, List·getD-append, length-set}
 use lib.Seq.{getD-append-add, getD-set-same, getD-set-other}
-use lib.Dec.{leb, ltb, eqb}
+use lib.Dec.{ltb, eqb}
 use lib.Ieee.{Float}
-use borrow.Author.Tests.{ltb-true, ltb-false, eqb-true, eqb-false, eq-eqb, ne-eqb}
-use Rattle.definition.specs.Types.{Inst, ValueSet, RegClass, VirtReg, VirtRegGroup, LiveRangePoint, UseKind, FixedDef, FixedUse, TiedUse, ConstraintConflict, ClassUse, ClassDef, GroupClassUse, GroupClassDef, BlockparamIn, BlockparamOut, Use, ClassData, Operand, Segment, Job, Room, HeldGroup, Held, Piece, Register, Mapped, State, MappedTwice, Overlap, done, inst, cls, vreg, vrgroup}
+use borrow.Author.Tests.{ltb-true, ltb-false, eqb-false, eq-eqb, ne-eqb}
+use Rattle.definition.specs.Types.{Inst, ValueSet, RegClass, VirtReg, VirtRegGroup, UseKind, FixedDef, FixedUse, TiedUse, ConstraintConflict, ClassUse, ClassDef, GroupClassUse, GroupClassDef, BlockparamIn, BlockparamOut, Use, ClassData, Operand, Segment, Job, Room, HeldGroup, Held, Piece, Register, Mapped, State, MappedTwice, Overlap, done, inst, cls, vreg, vrgroup}
 use Rattle.definition.specs.RegInfo.{classAt, commonSubclass, setOf}
 use Rattle.definition.specs.Uses.{classOf, slotOf}
 use Rattle.definition.specs.Weights.{weightOf}
-use Rattle.definition.specs.Admit.{Scan, admit, admitClass, admitGroup, admitKind, atPlace, fails-at, fresh, groupFits, guard, inGroup, later, mappedAt, mappingFits, membersAt, narrowed, noRegister, onAdmit, registerAt, sameSets, scan, setsAt, through}
-use Rattle.definition.specs.Place.{alone, aloneState, firstFrom, groupWeight, hasRoom, inserted, isNone, join, joinState, lastTo, lead, leadState, made, mapOne, mapUses, merge, mergeState, onMapping, orElse, overlaps, place, placeBy, placeGroup, segsOf, slotD, spread, update, usesOf, withPieces, withWeight}
+use Rattle.definition.specs.Admit.{admit, admitClass, admitGroup, admitKind, atPlace, fresh, groupFits, guard, inGroup, mappedAt, mappingFits, membersAt, narrowed, registerAt, sameSets, scan, setsAt, through}
+use Rattle.definition.specs.Place.{alone, aloneState, firstFrom, groupWeight, hasRoom, inserted, isNone, join, joinState, lastTo, lead, leadState, made, mapUses, merge, mergeState, orElse, overlaps, place, placeBy, placeGroup, segsOf, spread, update, usesOf, withPieces}
 use Rattle.definition.specs.Build.{Result, build, buildSets, empty, runs, sameSet}
 use Rattle.definition.specs.Promised.{In, Transitive}
-use Rattle.definition.proofs.Places.{All, all-split, all-append, all-getD, all-set, all-map, bind-some, bind-done, update-length, gate-done}
+use Rattle.definition.proofs.Places.{All, all-getD, all-set, all-map, bind-some, bind-done, update-length, gate-done}
 use Rattle.definition.proofs.Classes.{Masks, Serves, Below, common-in, below-in, below-trans, serves-below, same-step, class-step}
+use Rattle.definition.proofs.Scans.{scan-step}
+use Rattle.definition.proofs.Tables.{nth, update-same, update-other, same-vreg, same-group, memb, Inside, spread-at, spread-in, spread-out, getD-memb, memb-all, all-memb, spread-len, nth-left, nth-last, AllMapped, OnMapped, mapped-found, map-all, or-empty, operandAt, all-inserted, by-pieces, piece-uses, guarded}
 use Rattle.definition.proofs.Entries.{and-both}
 use Rattle.definition.proofs.Runs.{SegOk, PieceOk, RunOk, runs-all, sets-kept}
-
--- ---- registers by number
-
-abbrev pub nth : List Register → VirtReg → Register
-nth rs v = getD rs (v .0) noRegister
-
-pub update-same : (f : Register → Register) (v : ℕ) (rs : List Register) → v < length rs → nth (update f v rs) (vreg v) ≡ f (nth rs (vreg v))
-unfolding update
-update-same f v [] h = absurd (omega arith)
-update-same f zero (r ∷ rs) h = refl
-update-same f (suc v) (r ∷ rs) h = update-same f v rs (omega arith)
-
-pub update-other : (f : Register → Register) (u v : ℕ) (rs : List Register) → u ≢ v → nth (update f u rs) (vreg v) ≡ nth rs (vreg v)
-unfolding update
-update-other f u v [] h = refl
-update-other f zero zero (r ∷ rs) h = absurd (omega arith)
-update-other f zero (suc v) (r ∷ rs) h = refl
-update-other f (suc u) zero (r ∷ rs) h = refl
-update-other f (suc u) (suc v) (r ∷ rs) h = update-other f u v rs (omega arith)
-
-pub same-vreg : (u v : VirtReg) → eqb (u .0) (v .0) ≡ true → u ≡ v
-same-vreg u v e = ap vreg (eqb-true _ _ e)
-
-pub same-group : (g f : VirtRegGroup) → eqb (g .0) (f .0) ≡ true → g ≡ f
-same-group g f e = ap vrgroup (eqb-true _ _ e)
-
--- v is a member
-abbrev pub memb : List (Option VirtReg) → VirtReg → Bool
-memb [] v = false
-memb (none ∷ ms) v = memb ms v
-memb (some u ∷ ms) v = eqb (u .0) (v .0) || memb ms v
-
-module _ (c : RegClass) (w : Float) where
-  -- what an update of a weight leaves
-  weight-at : (u v : VirtReg) (rs : List Register) → u .0 < length rs → (nth (update (withWeight c w) (u .0) rs) v .pieces ≡ nth rs v .pieces) × (nth (update (withWeight c w) (u .0) rs) v .group ≡ nth rs v .group)
-  weight-at u v rs h = go (eqb (u .0) (v .0)) refl
-    where
-      go : (b : Bool) → eqb (u .0) (v .0) ≡ b → (nth (update (withWeight c w) (u .0) rs) v .pieces ≡ nth rs v .pieces) × (nth (update (withWeight c w) (u .0) rs) v .group ≡ nth rs v .group)
-      go true e =
-          let q : u ≡ v = same-vreg u v e in
-          let s : nth (update (withWeight c w) (v .0) rs) v ≡ withWeight c w (nth rs v) = update-same (withWeight c w) (v .0) rs (omega (arith, eqb-true (u .0) (v .0) e)) in
-          rw q (ap (λ (r : Register). r .pieces) s, ap (λ (r : Register). r .group) s)
-      go false e =
-          let s = update-other (withWeight c w) (u .0) (v .0) rs (eqb-false _ _ e) in
-          (ap (λ (r : Register). r .pieces) s, ap (λ (r : Register). r .group) s)
-
-  abbrev Inside : ℕ → List (Option VirtReg) → Type 0
-  Inside n ms = All (λ o. (u : VirtReg) → o ≡ some u → u .0 < n) ms
-
-  inside-update : (u : VirtReg) (rs : List Register) (ms : List (Option VirtReg)) → Inside (length rs) ms → Inside (length (update (withWeight c w) (u .0) rs)) ms
-  inside-update u rs ms h = rw (update-length (withWeight c w) (u .0) rs) h
-
-  spread-at : (ms : List (Option VirtReg)) (rs : List Register) (v : VirtReg) → Inside (length rs) ms
-      → (nth (spread c w ms rs) v .pieces ≡ nth rs v .pieces) × (nth (spread c w ms rs) v .group ≡ nth rs v .group)
-  unfolding spread
-  spread-at [] rs v h = (refl, refl)
-  spread-at (none ∷ ms) rs v h = spread-at ms rs v (h .1)
-  spread-at (some u ∷ ms) rs v h =
-      let i = spread-at ms (update (withWeight c w) (u .0) rs) v (inside-update u rs ms (h .1)) in
-      let a = weight-at u v rs (h .0 u refl) in
-      (i .0 ∙ a .0, i .1 ∙ a .1)
-
-  -- a register that has the class keeps it
-  spread-keeps : (ms : List (Option VirtReg)) (rs : List Register) (v : VirtReg) → Inside (length rs) ms → nth rs v .class ≡ c → nth (spread c w ms rs) v .class ≡ c
-  unfolding spread
-  spread-keeps [] rs v h e = e
-  spread-keeps (none ∷ ms) rs v h e = spread-keeps ms rs v (h .1) e
-  spread-keeps (some u ∷ ms) rs v h e = spread-keeps ms (update (withWeight c w) (u .0) rs) v (inside-update u rs ms (h .1)) (go (eqb (u .0) (v .0)) refl)
-    where
-      go : (b : Bool) → eqb (u .0) (v .0) ≡ b → nth (update (withWeight c w) (u .0) rs) v .class ≡ c
-      go true f = let q : u ≡ v = same-vreg u v f in rw (← q) (ap (λ (r : Register). r .class) (update-same (withWeight c w) (u .0) rs (h .0 u refl)))
-      go false f = ap (λ (r : Register). r .class) (update-other (withWeight c w) (u .0) (v .0) rs (eqb-false _ _ f)) ∙ e
-
-  spread-in : (ms : List (Option VirtReg)) (rs : List Register) (v : VirtReg) → Inside (length rs) ms → memb ms v ≡ true → nth (spread c w ms rs) v .class ≡ c
-  unfolding spread
-  spread-in [] rs v h e = let z : _≡_ {A = ℕ} 0 1 = cc in absurd (omega arith)
-  spread-in (none ∷ ms) rs v h e = spread-in ms rs v (h .1) e
-  spread-in (some u ∷ ms) rs v h e = go (eqb (u .0) (v .0)) refl e (λ k. spread-in ms (update (withWeight c w) (u .0) rs) v (inside-update u rs ms (h .1)) k)
-    where
-      go : (b : Bool) → eqb (u .0) (v .0) ≡ b → (b || memb ms v) ≡ true → (memb ms v ≡ true → nth (spread c w ms (update (withWeight c w) (u .0) rs)) v .class ≡ c) → nth (spread c w ms (update (withWeight c w) (u .0) rs)) v .class ≡ c
-      go true f g ih =
-          let q : u ≡ v = same-vreg u v f in
-          spread-keeps ms (update (withWeight c w) (u .0) rs) v (inside-update u rs ms (h .1)) (rw (← q) (ap (λ (r : Register). r .class) (update-same (withWeight c w) (u .0) rs (h .0 u refl))))
-      go false f g ih = ih g
-
-  spread-out : (ms : List (Option VirtReg)) (rs : List Register) (v : VirtReg) → memb ms v ≡ false → nth (spread c w ms rs) v ≡ nth rs v
-  unfolding spread
-  spread-out [] rs v e = refl
-  spread-out (none ∷ ms) rs v e = spread-out ms rs v e
-  spread-out (some u ∷ ms) rs v e = go (eqb (u .0) (v .0)) refl e (λ k. spread-out ms (update (withWeight c w) (u .0) rs) v k)
-    where
-      go : (b : Bool) → eqb (u .0) (v .0) ≡ b → (b || memb ms v) ≡ false → (memb ms v ≡ false → nth (spread c w ms (update (withWeight c w) (u .0) rs)) v ≡ nth (update (withWeight c w) (u .0) rs) v)
-          → nth (spread c w ms (update (withWeight c w) (u .0) rs)) v ≡ nth rs v
-      go true f g ih = let z : _≡_ {A = ℕ} 0 1 = cc in absurd (omega arith)
-      go false f g ih = ih g ∙ update-other (withWeight c w) (u .0) (v .0) rs (eqb-false _ _ f)
-
-getD-memb : (ms : List (Option VirtReg)) (i : ℕ) (v : VirtReg) → getD ms i none ≡ some v → memb ms v ≡ true
-getD-memb [] i v e = let z : _≡_ {A = ℕ} 0 1 = cc in absurd (omega arith)
-getD-memb (none ∷ ms) zero v e = let z : _≡_ {A = ℕ} 0 1 = cc in absurd (omega arith)
-getD-memb (none ∷ ms) (suc i) v e = getD-memb ms i v e
-getD-memb (some u ∷ ms) zero v e = rw (eq-eqb (u .0) (v .0) (ap (λ (x : VirtReg). x .0) (Option·some-injective u v e)))
-getD-memb (some u ∷ ms) (suc i) v e = go (eqb (u .0) (v .0)) (getD-memb ms i v e)
-  where
-    go : (b : Bool) → memb ms v ≡ true → (b || memb ms v) ≡ true
-    go true f = refl
-    go false f = f
-
--- of a list and of each of its members
-memb-all : (P : Option VirtReg → Type 0) (ms : List (Option VirtReg)) (v : VirtReg) → All P ms → memb ms v ≡ true → P (some v)
-memb-all P [] v h e = let z : _≡_ {A = ℕ} 0 1 = cc in absurd (omega arith)
-memb-all P (none ∷ ms) v h e = memb-all P ms v (h .1) e
-memb-all P (some u ∷ ms) v h e = go (eqb (u .0) (v .0)) refl e (λ k. memb-all P ms v (h .1) k)
-  where
-    go : (b : Bool) → eqb (u .0) (v .0) ≡ b → (b || memb ms v) ≡ true → (memb ms v ≡ true → P (some v)) → P (some v)
-    go true f g ih = let q : u ≡ v = same-vreg u v f in subst (λ (x : VirtReg). P (some x)) q (h .0)
-    go false f g ih = ih g
-
-all-memb : (P : Option VirtReg → Type 0) (ms : List (Option VirtReg)) → P none → ((v : VirtReg) → memb ms v ≡ true → P (some v)) → All P ms
-all-memb P [] n f = tt
-all-memb P (none ∷ ms) n f = (n, all-memb P ms n f)
-all-memb P (some u ∷ ms) n f = (f u (here u), all-memb P ms n (λ v e. f v (there v e)))
-  where
-    here : (v : VirtReg) → (eqb (v .0) (v .0) || memb ms v) ≡ true
-    here v = rw (eq-eqb (v .0) (v .0) refl)
-
-    there : (v : VirtReg) → memb ms v ≡ true → (eqb (u .0) (v .0) || memb ms v) ≡ true
-    there v e = go (eqb (u .0) (v .0))
-      where
-        go : (b : Bool) → (b || memb ms v) ≡ true
-        go true = refl
-        go false = e
 
 -- ---- what holds of the tables
 
 -- the class that an operand asks for
-abbrev pub askedIn : List Operand → Inst → ℕ → RegClass
-askedIn [] i s = cls 0
-askedIn (o ∷ os) i s = cond (eqb (o .inst .0) (i .0) && eqb (o .slot) s) (o .class) (askedIn os i s)
-
 abbrev pub asked : Job → Inst → ℕ → RegClass
-asked job i s = askedIn (job .operands) i s
+asked job i s = operandAt (job .operands) i s .class
 
 abbrev pub sizeOf : Job → RegClass → ℕ
 sizeOf job c = classAt job c .size
@@ -176,11 +43,15 @@ Is st g k (some v) = (v .0 < length (st .registers)) × (registerAt st v .group 
 abbrev pub NonEmpty : List (Option VirtReg) → Type 0
 NonEmpty ms = (v : VirtReg) × (memb ms v ≡ true)
 
+-- an operand that is mapped to group g, one of n groups, asks for a class that admits g's
+abbrev Asks : Job → ℕ → (VirtRegGroup → RegClass) → Inst → ℕ → VirtRegGroup → Type 0
+Asks job n κ i s g = (g .0 < n) × In job (κ g) (asked job i s)
+
 -- κ gives each group's class
 pub record Sound (job : Job) (st : State) (κ : VirtRegGroup → RegClass) : Type 0 where
   pub served : (v : VirtReg) → v .0 < length (st .registers) → All (λ p. All (Serves job (registerAt st v .class)) (p .seg .uses)) (registerAt st v .pieces)
   pub grouped : (g : VirtRegGroup) → g .0 < length (st .groups) → All (Is st g (κ g)) (membersAt st g) × NonEmpty (membersAt st g)
-  pub mapped : All (λ m. (m .group .0 < length (st .groups)) × In job (κ (m .group)) (asked job (m .inst) (m .slot))) (st .mapping)
+  pub mapped : AllMapped (Asks job (length (st .groups)) κ) (st .mapping)
 
 -- what the entry rules say of a group use: its class is its operand's, of two places or more, and its place is one of them
 abbrev pub GroupUse : Job → Inst → ℕ → RegClass → ℕ → Type 0
@@ -230,23 +101,6 @@ module _ (job : Job) (ms : Masks job) (tr : Transitive job) (sz : Sizes job) (st
   narrow-group c d t (some hg) i h =
       let s : sizeOf job d ≡ sizeOf job c = sz c d i (h .1) in
       (omega arith, omega arith, narrow-mapped c d t (hg .mapped) i (h .2))
-
-  -- the mapping of an operand
-  found : (maps : List Mapped) (p : Inst) (s : ℕ) (g : VirtRegGroup) → All (λ m. (m .group .0 < length (st .groups)) × In job (κ (m .group)) (asked job (m .inst) (m .slot))) maps
-      → mappedAt maps p s ≡ some g → (g .0 < length (st .groups)) × In job (κ g) (asked job p s)
-  unfolding mappedAt
-  found [] p s g h e = let z : _≡_ {A = ℕ} 0 1 = cc in absurd (omega arith)
-  found (m ∷ maps) p s g h e = go (eqb (m .inst .0) (p .0)) (eqb (m .slot) s) refl refl e (λ k. found maps p s g (h .1) k)
-    where
-      go : (a b : Bool) → eqb (m .inst .0) (p .0) ≡ a → eqb (m .slot) s ≡ b → cond (a && b) (some (m .group)) (mappedAt maps p s) ≡ some g
-          → (mappedAt maps p s ≡ some g → (g .0 < length (st .groups)) × In job (κ g) (asked job p s)) → (g .0 < length (st .groups)) × In job (κ g) (asked job p s)
-      go true true x y k ih =
-          let q : m .group ≡ g = Option·some-injective _ _ k in
-          let i : m .inst ≡ p = ap inst (eqb-true _ _ x) in
-          let j : m .slot ≡ s = eqb-true _ _ y in
-          rw (← q, ← i, ← j) (h .0)
-      go true false x y k ih = ih k
-      go false b x y k ih = ih k
 
   -- narrowed by members of class k, each in turn
   narrowed-in : (g : VirtRegGroup) (mem : List (Option VirtReg)) (k n : RegClass) → All (Is st g (κ g)) mem → narrowed job st mem k ≡ some n
@@ -305,18 +159,13 @@ module _ (job : Job) (ms : Masks job) (tr : Transitive job) (sz : Sizes job) (st
   in-step h p s c k i none sets n o q f fit a b e =
       subst (Taken h c none) (Option·some-injective _ _ e) (a, b, target-none (h .class) (h .target) (h .group) i sets o fit)
   in-step h p s c k i (some g) sets n o q f fit a b e =
-      let d = found (st .mapping) p s g (ok .mapped) f in
+      let d = mapped-found (Asks job (length (st .groups)) κ) (st .mapping) p s g (ok .mapped) f in
       let up : In job (κ g) c = subst (λ (x : RegClass). In job (κ g) x) q (d .1) in
       place-step h c k g (getD (membersAt st g) i none) n a b (d .0) up (target-in (h .class) (h .target) (h .group) i g sets o fit)
       (all-getD (Is st g (κ g)) (membersAt st g) i none (ok .grouped g (d .0) .0) tt) (λ v. getD-memb (membersAt st g) i v) e
 
   abbrev Next : Held → Held → UseKind → Type 0
   Next h g k = Below job (g .class) (h .class) × ((c : RegClass) → classOf k ≡ some c → In job (g .class) c) × HeldOk job st κ g
-
-  guarded : (b : Bool) (u : Unit {0}) → guard b ≡ some u → b ≡ true
-  unfolding guard
-  guarded true u e = refl
-  guarded false u e = let z : _≡_ {A = ℕ} 0 1 = cc in absurd (omega arith)
 
   group-step : (h : Held) (p : Inst) (s : ℕ) (c : RegClass) (i : ℕ) (g : Held) (k : UseKind) → classOf k ≡ some c → HeldOk job st κ h → GroupUse job p s c i → admitGroup job st h p s c i ≡ some g → Next h g k
   unfolding admitGroup
@@ -366,26 +215,12 @@ module _ (job : Job) (ms : Masks job) (tr : Transitive job) (sz : Sizes job) (st
       → Below job (g .class) (h .class) × All (Serves job (g .class)) us × HeldOk job st κ g
   unfolding scan admit
   scan-sound [] h g o n e = let q : h ≡ g = cc in (inl (ap (λ (x : Held). x .class) (sym q)), tt, subst (HeldOk job st κ) q o)
-  scan-sound (u ∷ us) h g o n e = go (admit job st h u) refl e (λ k o′ d. scan-sound us k g o′ (n .1) d)
-    where
-      go : (r : Option Held) → admit job st h u ≡ r → onAdmit r (λ k. scan job st us k) ≡ through g
-          → ((k : Held) → HeldOk job st κ k → scan job st us k ≡ through g → Below job (g .class) (k .class) × All (Serves job (g .class)) us × HeldOk job st κ g)
-          → Below job (g .class) (h .class) × All (Serves job (g .class)) (u ∷ us) × HeldOk job st κ g
-      go none a f ih = let z : _≡_ {A = ℕ} 0 1 = cc in absurd (omega arith)
-      go (some k) a f ih = back (scan job st us k) refl f
-        where
-          back : (r : Scan) → scan job st us k ≡ r → later r ≡ through g → Below job (g .class) (h .class) × All (Serves job (g .class)) (u ∷ us) × HeldOk job st κ g
-          back (through l) b c =
-              let s = kind-next h (u .pos) (u .kind) k o (n .0) a in
-              let i = ih k (s .2) (b ∙ c) in
-              (below-trans job ms tr (g .class) (k .class) (h .class) (i .0) (s .0), (serves-below job ms tr (g .class) (k .class) u (i .0) (s .1), i .1), i .2)
-          back (fails-at m) b c = let z : _≡_ {A = ℕ} 0 1 = cc in absurd (omega arith)
-
-spread-len : (c : RegClass) (w : Float) (ms : List (Option VirtReg)) (rs : List Register) → length (spread c w ms rs) ≡ length rs
-unfolding spread
-spread-len c w [] rs = refl
-spread-len c w (none ∷ ms) rs = spread-len c w ms rs
-spread-len c w (some n ∷ ms) rs = spread-len c w ms (update (withWeight c w) (n .0) rs) ∙ update-length (withWeight c w) (n .0) rs
+  scan-sound (u ∷ us) h g o n e =
+      let r = scan-step job st u us h g e in
+      let k = r .0 in
+      let s = kind-next h (u .pos) (u .kind) k o (n .0) (r .1) in
+      let i = scan-sound us k g (s .2) (n .1) (r .2) in
+      (below-trans job ms tr (g .class) (k .class) (h .class) (i .0) (s .0), (serves-below job ms tr (g .class) (k .class) u (i .0) (s .1), i .1), i .2)
 
 -- ---- placing
 
@@ -409,12 +244,6 @@ module _ (job : Job) where
   abbrev IsIn : List Register → VirtRegGroup → RegClass → Option VirtReg → Type 0
   IsIn rs g k none = Unit {0}
   IsIn rs g k (some v) = (v .0 < length rs) × (nth rs v .group ≡ some g) × (nth rs v .class ≡ k)
-
-  nth-left : (rs : List Register) (r : Register) (v : VirtReg) → v .0 < length rs → nth (rs ++ (r ∷ [])) v ≡ nth rs v
-  nth-left rs r v h = List·getD-append rs (r ∷ []) noRegister (v .0) h
-
-  nth-last : (rs : List Register) (r : Register) → nth (rs ++ (r ∷ [])) (vreg (length rs)) ≡ r
-  nth-last rs r = ap (λ (i : ℕ). nth (rs ++ (r ∷ [])) (vreg i)) (omega arith) ∙ getD-append-add rs (r ∷ []) 0 noRegister
 
   served-snoc : (rs : List Register) (r : Register) → AllServed rs → ServedIn (r .class) (r .pieces) → AllServed (rs ++ (r ∷ []))
   served-snoc rs r h k v l = go (ltb (v .0) (length rs)) refl
@@ -458,7 +287,7 @@ module _ (job : Job) (ms : Masks job) (tr : Transitive job) (st : State) (κ : V
   -- from facts on the lists to the state
   make : (st′ : State) (κ′ : VirtRegGroup → RegClass) → AllServed job (st′ .registers)
       → ((g : VirtRegGroup) → g .0 < length (st′ .groups) → All (IsIn job (st′ .registers) g (κ′ g)) (membersAt st′ g) × NonEmpty (membersAt st′ g))
-      → All (λ m. (m .group .0 < length (st′ .groups)) × In job (κ′ (m .group)) (asked job (m .inst) (m .slot))) (st′ .mapping) → Sound job st′ κ′
+      → AllMapped (Asks job (length (st′ .groups)) κ′) (st′ .mapping) → Sound job st′ κ′
   unfolding registerAt
   make st′ κ′ a b c = record {
     served = a;
@@ -541,11 +370,10 @@ module _ (job : Job) (ms : Masks job) (tr : Transitive job) (st : State) (κ : V
             (omega (arith, spread-length), ap (λ (r : Register). r .group) q ∙ groups′ v ∙ a .1, ap (λ (r : Register). r .class) q ∙ classes′ v ∙ a .2)
 
     -- the mapping, with g's class narrowed
-    spread-mapped : All (λ m. (m .group .0 < length (st .groups)) × In job (over κ g (h .class) (m .group)) (asked job (m .inst) (m .slot))) (st .mapping)
+    spread-mapped : AllMapped (Asks job (length (st .groups)) (over κ g (h .class))) (st .mapping)
     spread-mapped = all-map _ _ go (st .mapping) (ok .mapped)
       where
-        go : (m : Mapped) → (m .group .0 < length (st .groups)) × In job (κ (m .group)) (asked job (m .inst) (m .slot))
-            → (m .group .0 < length (st .groups)) × In job (over κ g (h .class) (m .group)) (asked job (m .inst) (m .slot))
+        go : (m : Mapped) → Asks job (length (st .groups)) κ (m .inst) (m .slot) (m .group) → Asks job (length (st .groups)) (over κ g (h .class)) (m .inst) (m .slot) (m .group)
         go m a = (a .0, by (eqb (m .group .0) (g .0)) refl)
           where
             by : (b : Bool) → eqb (m .group .0) (g .0) ≡ b → In job (cond b (h .class) (κ (m .group))) (asked job (m .inst) (m .slot))
@@ -611,15 +439,6 @@ module _ (job : Job) (ms : Masks job) (tr : Transitive job) (st : State) (κ : V
       (λ f k. by f k (eqb (f .0) (g .0)) refl)
       (rw (length-set (st .groups) (g .0) X) (spread-mapped g l w i rs₀ refl (λ v. refl) (λ v. refl) ins (λ v e. refl)))
 
-  served-inserted : (c : RegClass) (a : LiveRangePoint) (ps qs : List Piece) → ServedIn job c ps → ServedIn job c qs → ServedIn job c (inserted a ps qs)
-  unfolding inserted
-  served-inserted c a ps [] x y = x
-  served-inserted c a ps (q ∷ qs) x y = go (leb (q .seg .to .0) (a .0)) refl (served-inserted c a ps qs x (y .1))
-    where
-      go : (b : Bool) → leb (q .seg .to .0) (a .0) ≡ b → ServedIn job c (inserted a ps qs) → ServedIn job c (inserted a ps (q ∷ qs))
-      go true e ih = rw (e, inserted) (y .0, ih)
-      go false e ih = rw (e, inserted) (all-append (λ p. All (Serves job c) (p .seg .uses)) ps (q ∷ qs) x y)
-
   merge-sound : (hg : HeldGroup) (g : VirtRegGroup) (v : VirtReg) → g .0 < length (st .groups) → In job (h .class) (κ g) → memb (membersAt st g) v ≡ true
       → Sound job (mergeState job h hg g v new st) (over κ g (h .class))
   unfolding mergeState membersAt registerAt
@@ -648,7 +467,7 @@ module _ (job : Job) (ms : Masks job) (tr : Transitive job) (st : State) (κ : V
             let s = update-same (withPieces ps) (v .0) rs₀ vl in
             subst (λ (x : VirtReg). ServedIn job (h .class) (nth rs x .pieces)) q
             (subst (λ (r : Register). ServedIn job (h .class) (r .pieces)) (sym s)
-            (served-inserted (h .class) (firstFrom new) new old sv (members-served g l i v vl me)))
+            (all-inserted (λ p. All (Serves job (h .class)) (p .seg .uses)) (firstFrom new) new old sv (members-served g l i v vl me)))
         | false ↦ λ e.
             subst (λ (r : Register). ServedIn job (h .class) (r .pieces)) (sym (update-other (withPieces ps) (v .0) (u .0) rs₀ (eqb-false (v .0) (u .0) e))) (members-served g l i u k m)
       ] in
@@ -692,31 +511,18 @@ module _ (job : Job) (ms : Masks job) (tr : Transitive job) (st : State) (κ : V
   asked-of p (BlockparamIn q) s u e = cc
   asked-of p BlockparamOut s u e = cc
 
-  abbrev Entry′ : VirtRegGroup → Mapped → Type 0
-  Entry′ g m = (m .group .0 < suc (g .0)) × In job (over κ g (h .class) (m .group)) (asked job (m .inst) (m .slot))
+  -- with the new group g, of the class held
+  abbrev Entered : VirtRegGroup → Inst → ℕ → VirtRegGroup → Type 0
+  Entered g = Asks job (suc (g .0)) (over κ g (h .class))
 
-  abbrev AllIn : VirtRegGroup → Option (List Mapped) → Type 0
-  AllIn g none = Unit {0}
-  AllIn g (some maps) = All (Entry′ g) maps
-
-  map-one : (g : VirtRegGroup) (p : Inst) (k : UseKind) (o : Option ℕ) (at : Option VirtRegGroup) (maps : List Mapped) → slotOf k ≡ o → ((s : ℕ) → slotOf k ≡ some s → In job (h .class) (asked job p s)) → All (Entry′ g) maps → AllIn g (mapOne p o g maps at)
-  map-one g p k none at maps e f a = a
-  map-one g p k (some s) (some t) maps e f a = tt
-  map-one g p k (some s) none maps e f a =
-      all-append (Entry′ g) maps (record { inst = p; slot = s; group = g } ∷ []) a
-      ((omega arith, subst (λ (x : RegClass). In job x (asked job p s)) (sym (over-same κ g (h .class))) (f s e)), tt)
-
-  map-all : (g : VirtRegGroup) (us : List Use) (maps : List Mapped) → All (λ u. KindFits job (u .pos) (u .kind)) us → All (Serves job (h .class)) us → All (Entry′ g) maps → AllIn g (mapUses g us maps)
-  unfolding mapUses
-  map-all g [] maps u s a = a
-  map-all g (w ∷ us) maps u s a =
-      go (mapOne (w .pos) (slotOf (w .kind)) g maps (mappedAt maps (w .pos) (slotD (slotOf (w .kind)))))
-      (map-one g (w .pos) (w .kind) (slotOf (w .kind)) (mappedAt maps (w .pos) (slotD (slotOf (w .kind)))) maps refl (λ t e. s .0 (asked job (w .pos) t) (asked-of (w .pos) (w .kind) t (u .0) e)) a)
-      (λ ns b. map-all g us ns (u .1) (s .1) b)
+  new-entries : (g : VirtRegGroup) (us : List Use) → All (λ u. KindFits job (u .pos) (u .kind)) us → All (Serves job (h .class)) us
+      → All (λ u. (s : ℕ) → slotOf (u .kind) ≡ some s → Entered g (u .pos) s g) us
+  new-entries g [] f a = tt
+  new-entries g (u ∷ us) f a = (here, new-entries g us (f .1) (a .1))
     where
-      go : (o : Option (List Mapped)) → AllIn g o → ((ns : List Mapped) → All (Entry′ g) ns → AllIn g (mapUses g us ns)) → AllIn g (onMapping o (λ ns. mapUses g us ns))
-      go none b f = tt
-      go (some ns) b f = f ns b
+      here : (s : ℕ) → slotOf (u .kind) ≡ some s → Entered g (u .pos) s g
+      here s e =
+          (omega arith, subst (λ (x : RegClass). In job x (asked job (u .pos) s)) (sym (over-same κ g (h .class))) (a .0 (asked job (u .pos) s) (asked-of (u .pos) (u .kind) s (f .0) e)))
 
   replicate-is : (rs : List Register) (g : VirtRegGroup) (k : RegClass) (n : ℕ) → All (IsIn job rs g k) (replicate n none)
   replicate-is rs g k zero = tt
@@ -727,7 +533,7 @@ module _ (job : Job) (ms : Masks job) (tr : Transitive job) (st : State) (κ : V
   set-memb (suc n) zero v k = rw (eq-eqb (v .0) (v .0) refl)
   set-memb (suc n) (suc i) v k = set-memb n i v (omega arith)
 
-  lead-sound : (hg : HeldGroup) (o : Option (List Mapped)) → hg .index < sizeOf job (h .class) → AllIn (vrgroup (length (st .groups))) o
+  lead-sound : (hg : HeldGroup) (o : Option (List Mapped)) → hg .index < sizeOf job (h .class) → OnMapped (Entered (vrgroup (length (st .groups)))) o
       → Sound job (leadState job set′ h hg new st (orElse o [])) (over κ (vrgroup (length (st .groups))) (h .class))
   unfolding leadState membersAt
   lead-sound hg o k a =
@@ -756,25 +562,16 @@ module _ (job : Job) (ms : Masks job) (tr : Transitive job) (st : State) (κ : V
             (all-map (IsIn job rs₀ f (κ f)) (IsIn job rs f (κ f)) (is-snoc job rs₀ r f (κ f)) (membersAt st f) (q .0), q .1)
       ] in
       make (leadState job set′ h hg new st (orElse o [])) (over κ g (h .class)) (served-snoc job rs₀ r served₀ sv) (λ f l. by f l (eqb (f .0) (g .0)) refl)
-      (rw len (maps o a))
-    where
-      maps : (o : Option (List Mapped)) → AllIn (vrgroup (length (st .groups))) o → All (Entry′ (vrgroup (length (st .groups)))) (orElse o [])
-      maps none a = tt
-      maps (some ms) a = a
+      (rw len (or-empty (Entered g) o a))
 
   -- the entries that are there, seen with the new group
-  old-entries : All (Entry′ (vrgroup (length (st .groups)))) (st .mapping)
+  old-entries : AllMapped (Entered (vrgroup (length (st .groups)))) (st .mapping)
   old-entries = all-map _ _ go (st .mapping) (ok .mapped)
     where
-      go : (m : Mapped) → (m .group .0 < length (st .groups)) × In job (κ (m .group)) (asked job (m .inst) (m .slot)) → Entry′ (vrgroup (length (st .groups))) m
+      go : (m : Mapped) → Asks job (length (st .groups)) κ (m .inst) (m .slot) (m .group) → Entered (vrgroup (length (st .groups))) (m .inst) (m .slot) (m .group)
       go m a = (omega arith, subst (λ (x : RegClass). In job x (asked job (m .inst) (m .slot))) (sym (over-other κ (vrgroup (length (st .groups))) (h .class) (m .group) (λ e. omega arith))) (a .1))
 
 -- ---- lists of facts
-
-by-pieces : (P : Use → Type 0) (ps : List Piece) → All P (usesOf (segsOf ps)) → All (λ p. All P (p .seg .uses)) ps
-unfolding usesOf
-by-pieces P [] h = tt
-by-pieces P (p ∷ ps) h = let r = all-split P (p .seg .uses) (usesOf (segsOf ps)) h in (r .0, by-pieces P ps (r .1))
 
 abbrev pub UseFits : Job → Use → Type 0
 UseFits job u = KindFits job (u .pos) (u .kind)
@@ -803,7 +600,7 @@ module _ (job : Job) (ms : Masks job) (tr : Transitive job) (sz : Sizes job) (ro
           let g = vrgroup (length (st .groups)) in (
             over κ g (h .class),
             subst (λ (x : State). Sound job x (over κ g (h .class))) q
-                (lead-sound job ms tr st κ ok set′ h new sp hg o k (map-all job ms tr st κ ok set′ h new sp g (usesOf (segsOf new)) (st .mapping) fit sv (old-entries job ms tr st κ ok set′ h new sp))),
+                (lead-sound job ms tr st κ ok set′ h new sp hg o k (map-all (Entered job ms tr st κ ok set′ h new sp g) g (usesOf (segsOf new)) (st .mapping) (old-entries job ms tr st κ ok set′ h new sp) (new-entries job ms tr st κ ok set′ h new sp g (usesOf (segsOf new)) fit sv))),
           )
       grp hg (some g) none k a f =
           let q : joinState job set′ h hg g new st ≡ st′ = gate-done false (hasRoom room st 1 0 new) Overlap (joinState job set′ h hg g new st) st′ f in
@@ -818,16 +615,11 @@ module _ (job : Job) (ms : Masks job) (tr : Transitive job) (sz : Sizes job) (ro
           (κ, subst (λ (x : State). Sound job x κ) q (alone-sound job ms tr st κ ok set′ h new sp))
       go (some hg) a f = grp hg (hg .mapped) (h .target) (a .0) (a .2) f
 
-  fit-uses : (u : ValueSet) (ps : List Piece) → All (PieceOk (λ u v. Unit {0}) (λ u w. UseFits job w) u) ps → All (UseFits job) (usesOf (segsOf ps))
-  unfolding usesOf
-  fit-uses u [] a = tt
-  fit-uses u (p ∷ ps) a = all-append (UseFits job) (p .seg .uses) (usesOf (segsOf ps)) (a .0 .1) (fit-uses u ps (a .1))
-
   place-keeps : (u : ValueSet) (top : RegClass) (h : Held) (new : List Piece) (st st′ : State) → SoundIn st → All (PieceOk (λ u v. Unit {0}) (λ u w. UseFits job w) u) new
       → scan job st (usesOf (segsOf new)) (fresh top) ≡ through h → place job room u h new st ≡ done st′ → SoundIn st′
   unfolding fresh
   place-keeps u top h new st st′ s a e f =
-      let fit = fit-uses u new a in
+      let fit = piece-uses (λ u v. Unit {0}) (λ u w. UseFits job w) u new a in
       let r = scan-sound job ms tr sz st (s .0) (s .1) (usesOf (segsOf new)) (fresh top) h refl fit e in
       place-sound u h new st st′ (s .0) (s .1) (r .2) fit (r .1) f
 

@@ -1,19 +1,18 @@
--- Class admission: where subclassing is transitive, the class held admits every class use that was admitted. Here for uses of no group. Assumes nothing.
-use mathlib.Core.Path.{_≡_, refl, ap, sym, _∙_, subst}
+-- Classes as bits of masks: what a common subclass is, and what admitting one class use leaves held where subclassing is transitive. Assumes nothing.
+use mathlib.Core.Path.{_≡_, refl, ap, sym, subst}
 use mathlib.Core.Logic.{_⊎_, inl, inr}
 use Prim.Native.Nat.{ℕ, zero, suc, _/_, _%_, _^_, _<_}
 use native.Mathlib.Nat.{pow-suc}
 use native.Mathlib.Omega.{arith}
-use mathlib.Core.Option.{Option, none, some, Option·some-injective}
-use mathlib.Core.List.{List, [], _∷_}
+use mathlib.Core.Option.{none, some, Option·some-injective}
 use lib.Bits.{bitAnd, and-step, and-lt}
 use lib.Count.{trailingZeros, under}
-use Rattle.definition.specs.Types.{Inst, RegClass, UseKind, FixedDef, FixedUse, TiedUse, ConstraintConflict, ClassUse, ClassDef, GroupClassUse, GroupClassDef, BlockparamIn, BlockparamOut, Use, ClassData, Job, Held, State, cls}
+use Rattle.definition.specs.Types.{RegClass, UseKind, Use, ClassData, Job, Held, cls}
 use Rattle.definition.specs.RegInfo.{classAt, commonSubclass, lowest}
-use Rattle.definition.specs.Uses.{classOf, slotOf}
-use Rattle.definition.specs.Admit.{Scan, admit, admitClass, admitKind, fails-at, later, onAdmit, scan, through}
+use Rattle.definition.specs.Uses.{classOf}
+use Rattle.definition.specs.Admit.{admitClass}
 use Rattle.definition.specs.Promised.{In, Transitive, bitAt}
-use Rattle.definition.proofs.Places.{All, bind-some}
+use Rattle.definition.proofs.Places.{bind-some}
 
 -- ---- bit k of m
 
@@ -105,36 +104,3 @@ module _ (job : Job) (ms : Masks job) (tr : Transitive job) where
   class-step h c g k f e =
       let i = class-admits h c g e in
       (inr (i .0), λ d a. let q : c ≡ d = cc in rw q at (i .1))
-
-  kind-step : (st : State) (h : Held) (p : Inst) (k : UseKind) (g : Held) → slotOf k ≡ none → admitKind job st h p k ≡ some g → Step h g k
-  unfolding admitKind
-  kind-step st h p (FixedDef r) g n e = same-step h g (FixedDef r) e refl
-  kind-step st h p (FixedUse r) g n e = same-step h g (FixedUse r) e refl
-  kind-step st h p (TiedUse u d c i) g n e = same-step h g (TiedUse u d c i) e refl
-  kind-step st h p ConstraintConflict g n e = same-step h g ConstraintConflict e refl
-  kind-step st h p (ClassUse s c) g n e = class-step h c g (ClassUse s c) refl e
-  kind-step st h p (ClassDef s c) g n e = class-step h c g (ClassDef s c) refl e
-  kind-step st h p (GroupClassUse s c i) g n e = let z : _≡_ {A = ℕ} 0 1 = cc in absurd (omega arith)
-  kind-step st h p (GroupClassDef s c i) g n e = let z : _≡_ {A = ℕ} 0 1 = cc in absurd (omega arith)
-  kind-step st h p (BlockparamIn q) g n e = same-step h g (BlockparamIn q) e refl
-  kind-step st h p BlockparamOut g n e = same-step h g BlockparamOut e refl
-
-  -- a scan that goes through: the class then held is admitted by every use
-  pub scan-admits : (st : State) (us : List Use) (h g : Held) → All (λ u. slotOf (u .kind) ≡ none) us → scan job st us h ≡ through g
-      → Below job (g .class) (h .class) × All (Serves job (g .class)) us
-  unfolding scan admit
-  scan-admits st [] h g n e = let q : g .class ≡ h .class = cc in (inl q, tt)
-  scan-admits st (u ∷ us) h g n e = go (admit job st h u) refl e (λ k d. scan-admits st us k g (n .1) d)
-    where
-      go : (r : Option Held) → admit job st h u ≡ r → onAdmit r (λ k. scan job st us k) ≡ through g
-          → ((k : Held) → scan job st us k ≡ through g → Below job (g .class) (k .class) × All (Serves job (g .class)) us)
-          → Below job (g .class) (h .class) × All (Serves job (g .class)) (u ∷ us)
-      go none a f ih = let z : _≡_ {A = ℕ} 0 1 = cc in absurd (omega arith)
-      go (some k) a f ih = back (scan job st us k) refl f
-        where
-          back : (r : Scan) → scan job st us k ≡ r → later r ≡ through g → Below job (g .class) (h .class) × All (Serves job (g .class)) (u ∷ us)
-          back (through l) b c =
-              let s = kind-step st h (u .pos) (u .kind) k (n .0) a in
-              let i = ih k (b ∙ c) in
-              (below-trans (g .class) (k .class) (h .class) (i .0) (s .0), (serves-below (g .class) (k .class) u (i .0) (s .1), i .1))
-          back (fails-at m) b c = let z : _≡_ {A = ℕ} 0 1 = cc in absurd (omega arith)

@@ -208,7 +208,7 @@ no-marks job e =
 
 module _ (v : Value) (P : Use → Bool) where
   abbrev pub passed : List Segment → ℕ
-  passed ss = total (λ s. cond (eqb (s .value .0) (v .0)) (total (λ u. one (P u)) (s .uses)) 0) ss
+  passed ss = total (ownUses v P) ss
 
   module _ (Q : Use → Type 0) (fails : (u : Use) → Q u → P u ≡ false) where
     none-in : (us : List Use) → All Q us → total (λ u. one (P u)) us ≡ 0

@@ -19,7 +19,7 @@ use Rattle.definition.specs.Promised.{Follows, In, Listed, Transitive, a
 use Rattle.definition.proofs.Places.{All}
 use Rattle.definition.proofs.Points.{Additive, ofOwn, ownUses, built-same}
 use Rattle.definition.proofs.Entries.{lowest-none}
-use Rattle.definition.proofs.Admission.{nth}
+use Rattle.definition.proofs.Tables.{nth}
 use Rattle.definition.proofs.Accepted.{Kept, kept, accepted}
 use Rattle.definition.proofs.Order.{ledBy, InOrder, built-in-order, of-total, Rise}
 use Rattle.definition.proofs.Same.{class-test, other-test, first-total, first-is}

@@ -4,28 +4,29 @@ use mathlib.Core.Path.{_≡_, refl, ap, sym, _∙_, subst}
 use mathlib.Core.Logic.{_⊎_, inl, inr}
 use Prim.Native.Nat.{ℕ, zero, suc, _+_, _-_, _≤_, _<_}
 use native.Mathlib.Omega.{arith}
-use mathlib.Core.Bool.{Bool, true, false, cond, not, _&&_, _||_}
+use mathlib.Core.Bool.{Bool, true, false, cond, _&&_}
 use mathlib.Core.Option.{Option, none, some, Option·some-injective}
 use mathlib.Core.List.{List, [], _∷_, _++_, map}
 use lib.ListN.{length, getD, set, replicate, length-append, List·getD-append, length-set}
 use lib.Seq.{getD-append-add, getD-set-same, getD-set-other}
-use lib.Dec.{leb, ltb, eqb}
+use lib.Dec.{ltb, eqb}
 use lib.Ieee.{Float}
 use borrow.Author.Tests.{ltb-true, ltb-false, eqb-true, eqb-false, eq-eqb, ne-eqb}
-use Rattle.definition.specs.Types.{Inst, Value, ValueGroup, ValueSet, RegClass, VirtReg, VirtRegGroup, LiveRangePoint, UseKind, FixedDef, FixedUse, TiedUse, ConstraintConflict, ClassUse, ClassDef, GroupClassUse, GroupClassDef, BlockparamIn, BlockparamOut, Use, ClassData, Operand, Segment, Job, Room, HeldGroup, Held, Piece, Register, Mapped, State, MappedTwice, Overlap, done, inst, val, vset, vreg, vrgroup}
+use Rattle.definition.specs.Types.{Inst, Value, ValueSet, RegClass, VirtReg, VirtRegGroup, UseKind, FixedDef, FixedUse, TiedUse, ConstraintConflict, ClassUse, ClassDef, GroupClassUse, GroupClassDef, BlockparamIn, BlockparamOut, Use, ClassData, Operand, Segment, Job, Room, HeldGroup, Held, Piece, Register, Mapped, State, MappedTwice, Overlap, done, inst, val, vset, vreg, vrgroup}
 use Rattle.definition.specs.RegInfo.{classAt, commonSubclass, setOf}
 use Rattle.definition.specs.Uses.{slotOf}
 use Rattle.definition.specs.Weights.{weightOf}
-use Rattle.definition.specs.Admit.{Scan, admit, admitClass, admitGroup, admitKind, atPlace, fails-at, fresh, groupFits, guard, inGroup, later, mappedAt, mappingFits, membersAt, narrowed, noRegister, onAdmit, registerAt, sameSets, scan, setsAt, through, vgroupAt}
-use Rattle.definition.specs.Place.{alone, aloneState, firstFrom, groupWeight, hasRoom, inserted, isNone, join, joinState, lastTo, lead, leadState, made, mapOne, mapUses, merge, mergeState, onMapping, orElse, overlaps, place, placeBy, placeGroup, segsOf, slotD, spread, update, usesOf, withPieces, withWeight}
+use Rattle.definition.specs.Admit.{admit, admitClass, admitGroup, admitKind, atPlace, fresh, groupFits, guard, inGroup, mappedAt, mappingFits, membersAt, narrowed, noRegister, registerAt, sameSets, scan, setsAt, through, vgroupAt}
+use Rattle.definition.specs.Place.{alone, aloneState, firstFrom, groupWeight, hasRoom, inserted, isNone, join, joinState, lastTo, lead, leadState, made, mapUses, merge, mergeState, orElse, overlaps, place, placeBy, placeGroup, segsOf, spread, update, usesOf, withPieces, withWeight}
 use Rattle.definition.specs.Build.{Result, build, buildSets, empty, runs, sameSet}
-use Rattle.definition.specs.Entry.{apart, conj, every, functionOk, functionTests, groupUseOk, groupUseTests, kindOk, membersOf, samePlace, some-is, useOk, useTests, usesOk}
+use Rattle.definition.specs.Entry.{every, functionOk, groupUseOk, kindOk, membersOf, useOk, useTests, usesOk}
 use Rattle.definition.proofs.Places.{All, all-append, all-getD, all-map, bind-some, bind-done, gate-done, update-length}
 use Rattle.definition.proofs.Entries.{and-both, conj-all, every-all}
-use Rattle.definition.proofs.Admission.{nth, same-group}
+use Rattle.definition.proofs.Scans.{scan-step}
+use Rattle.definition.proofs.Tables.{nth, same-group, nth-left, AllMapped, mapped-found, map-all, or-empty, operandAt, vgroup-at, all-inserted, piece-uses, guarded}
 use Rattle.definition.proofs.Runs.{SegOk, PieceOk, RunOk, runs-all, sets-kept}
 use Rattle.definition.proofs.Order.{AllOf, Rise}
-use Rattle.definition.proofs.Accepted.{again}
+use Rattle.definition.proofs.Accepted.{group-operand}
 
 -- the pieces of a register are of values of its set
 abbrev pub InSet : Job → Register → Type 0
@@ -50,11 +51,15 @@ UseIn job u w = KindIn job u (w .pos) (w .kind)
 abbrev pub ValueIn : Job → ValueSet → Value → Type 0
 ValueIn job u v = setOf job v ≡ u
 
+-- an operand that is mapped to group g, one of n groups, has the value sets of g
+abbrev Meets : Job → ℕ → (VirtRegGroup → List ValueSet) → Inst → ℕ → VirtRegGroup → Type 0
+Meets job n σ i s g = (g .0 < n) × (setsAt job i s ≡ σ g)
+
 -- σ g: the value sets of group g, place by place
 pub record Right (job : Job) (st : State) (σ : VirtRegGroup → List ValueSet) : Type 0 where
   pub own-sets : All (InSet job) (st .registers)
   pub members : (g : VirtRegGroup) (j : ℕ) (v : VirtReg) → getD (membersAt st g) j none ≡ some v → (v .0 < length (st .registers)) × (nth (st .registers) v .set ≡ getD (σ g) j (vset 0))
-  pub maps : (i : Inst) (s : ℕ) (g : VirtRegGroup) → mappedAt (st .mapping) i s ≡ some g → (g .0 < length (st .groups)) × (setsAt job i s ≡ σ g)
+  pub maps : AllMapped (Meets job (length (st .groups)) σ) (st .mapping)
 
 -- ---- what is held
 
@@ -77,11 +82,6 @@ Persists h g = (xs : List ValueSet) → SetsIs (h .group) xs → SetsIs (g .grou
 -- a group use is of an operand with the sets held
 abbrev Agrees : Job → Option HeldGroup → Inst → UseKind → Type 0
 Agrees job o p k = (s : ℕ) → slotOf k ≡ some s → SetsIs o (setsAt job p s)
-
-guarded : (b : Bool) (u : Unit {0}) → guard b ≡ some u → b ≡ true
-unfolding guard
-guarded true u e = refl
-guarded false u e = let z : _≡_ {A = ℕ} 0 1 = cc in absurd (omega arith)
 
 sets-equal : (xs ys : List ValueSet) → sameSets xs ys ≡ true → xs ≡ ys
 sets-equal [] [] e = refl
@@ -159,7 +159,7 @@ module _ (job : Job) (st : State) (σ : VirtRegGroup → List ValueSet) (ok : Ri
       let now : Held = record { class = n .0 .0; group = some (record { index = i; mapped = m; sets = sets }); target = n .0 .1 } in
       let q : now ≡ g = Option·some-injective _ _ (n .2) in
       subst (λ (x : Held). Next h x p k) q (
-        (target-after h (a .0) i m sets (n .0) r f (n .1), λ x d. ok .maps p s x d, us),
+        (target-after h (a .0) i m sets (n .0) r f (n .1), λ x d. mapped-found (Meets job (length (st .groups)) σ) (st .mapping) p s x (ok .maps) d, us),
         λ xs d. sets-before (h .group) i m sets xs f d,
         λ s′ d. ap (λ (y : ℕ). setsAt job p y) (Option·some-injective s s′ (sym sl ∙ d)),
       )
@@ -193,20 +193,11 @@ module _ (job : Job) (st : State) (σ : VirtRegGroup → List ValueSet) (ok : Ri
       → HeldRight g × Persists h g × All (λ w. Agrees job (g .group) (w .pos) (w .kind)) us
   unfolding scan admit
   scan-next [] h g r i e = let q : h ≡ g = cc in subst (λ (x : Held). HeldRight x × Persists h x × Unit {0}) q (r, λ xs d. d, tt)
-  scan-next (w ∷ us) h g r i e = go (admit job st h w) refl e (λ k r′ f. scan-next us k g r′ (i .1) f)
-    where
-      go : (o : Option Held) → admit job st h w ≡ o → onAdmit o (λ k. scan job st us k) ≡ through g
-          → ((k : Held) → HeldRight k → scan job st us k ≡ through g → HeldRight g × Persists k g × All (λ w. Agrees job (g .group) (w .pos) (w .kind)) us)
-          → HeldRight g × Persists h g × All (λ w. Agrees job (g .group) (w .pos) (w .kind)) (w ∷ us)
-      go none a f ih = let z : _≡_ {A = ℕ} 0 1 = cc in absurd (omega arith)
-      go (some k) a f ih = back (scan job st us k) refl f
-        where
-          back : (x : Scan) → scan job st us k ≡ x → later x ≡ through g → HeldRight g × Persists h g × All (λ w. Agrees job (g .group) (w .pos) (w .kind)) (w ∷ us)
-          back (through l) b c =
-              let n = kind-next h k (w .pos) (w .kind) r (i .0) a in
-              let m = ih k (n .0) (b ∙ c) in
-              (m .0, λ xs d. m .1 xs (n .1 xs d), (λ s d. m .1 (setsAt job (w .pos) s) (n .2 s d), m .2))
-          back (fails-at x) b c = let z : _≡_ {A = ℕ} 0 1 = cc in absurd (omega arith)
+  scan-next (w ∷ us) h g r i e =
+      let t = scan-step job st w us h g e in
+      let n = kind-next h (t .0) (w .pos) (w .kind) r (i .0) (t .1) in
+      let m = scan-next us (t .0) g (n .0) (i .1) (t .2) in
+      (m .0, λ xs d. m .1 xs (n .1 xs d), (λ s d. m .1 (setsAt job (w .pos) s) (n .2 s d), m .2))
 
 -- ---- tables: registers with the same sets
 
@@ -250,7 +241,7 @@ module _ (job : Job) where
   unfolding Member
   member-old rs ts r v x s m =
       let l : v .0 < length ts = omega (arith, s .0, m .0) in
-      (omega (arith, length-append ts (r ∷ [])), ap (λ (q : Register). q .set) (List·getD-append ts (r ∷ []) noRegister (v .0) l) ∙ s .1 v ∙ m .1)
+      (omega (arith, length-append ts (r ∷ [])), ap (λ (q : Register). q .set) (nth-left ts r v l) ∙ s .1 v ∙ m .1)
 
   member-new : (ts : List Register) (r : Register) (v : VirtReg) (x : ValueSet) → v .0 ≡ length ts → r .set ≡ x → Member (ts ++ (r ∷ [])) v x
   unfolding Member
@@ -273,69 +264,6 @@ module _ (job : Job) where
   none-there zero j v e = let z : _≡_ {A = ℕ} 0 1 = cc in omega arith
   none-there (suc n) zero v e = let z : _≡_ {A = ℕ} 0 1 = cc in omega arith
   none-there (suc n) (suc j) v e = none-there n j v e
-
-  all-inserted : (P : Piece → Type 0) (a : LiveRangePoint) (new old : List Piece) → All P new → All P old → All P (inserted a new old)
-  unfolding inserted
-  all-inserted P a new [] h k = h
-  all-inserted P a new (p ∷ ps) h k = go (leb (p .seg .to .0) (a .0)) refl (all-inserted P a new ps h (k .1))
-    where
-      go : (b : Bool) → leb (p .seg .to .0) (a .0) ≡ b → All P (inserted a new ps) → All P (inserted a new (p ∷ ps))
-      go true e ih = rw (e, inserted) (k .0, ih)
-      go false e ih = rw (e, inserted) (all-append P new (p ∷ ps) h k)
-
--- ---- the mapping: what holds of each entry
-
-module _ (M : Inst → ℕ → VirtRegGroup → Type 0) where
-  abbrev AllMapped : List Mapped → Type 0
-  AllMapped ms = (i : Inst) (s : ℕ) (g : VirtRegGroup) → mappedAt ms i s ≡ some g → M i s g
-
-  mapped-snoc : (ms : List Mapped) (m : Mapped) → AllMapped ms → M (m .inst) (m .slot) (m .group) → AllMapped (ms ++ (m ∷ []))
-  unfolding mappedAt
-  mapped-snoc ms m a b i s g e = go ms (a i s g) e
-    where
-      hit : (x y : Bool) → eqb (m .inst .0) (i .0) ≡ x → eqb (m .slot) s ≡ y → cond (x && y) (some (m .group)) none ≡ some g → M i s g
-      hit true true p q f =
-          let l : m .inst ≡ i = ap inst (eqb-true _ _ p) in
-          let n : m .slot ≡ s = eqb-true _ _ q in
-          let o : m .group ≡ g = Option·some-injective _ _ f in
-          subst (λ (z : VirtRegGroup). M i s z) o (subst (λ (z : ℕ). M i z (m .group)) n (subst (λ (z : Inst). M z (m .slot) (m .group)) l b))
-      hit true false p q f = let z : _≡_ {A = ℕ} 0 1 = cc in absurd (omega arith)
-      hit false y p q f = let z : _≡_ {A = ℕ} 0 1 = cc in absurd (omega arith)
-
-      go : (ns : List Mapped) → (mappedAt ns i s ≡ some g → M i s g) → mappedAt (ns ++ (m ∷ [])) i s ≡ some g → M i s g
-      go [] k f = hit (eqb (m .inst .0) (i .0)) (eqb (m .slot) s) refl refl f
-      go (n ∷ ns) k f = pick (eqb (n .inst .0) (i .0) && eqb (n .slot) s) refl f (λ l d. go ns l d)
-        where
-          pick : (b : Bool) → (eqb (n .inst .0) (i .0) && eqb (n .slot) s) ≡ b → cond b (some (n .group)) (mappedAt (ns ++ (m ∷ [])) i s) ≡ some g
-              → ((mappedAt ns i s ≡ some g → M i s g) → mappedAt (ns ++ (m ∷ [])) i s ≡ some g → M i s g) → M i s g
-          pick true x f ih = k (rw x f)
-          pick false x f ih = ih (λ d. k (rw x d)) f
-
-  OnMapped : Option (List Mapped) → Type 0
-  OnMapped none = Unit {0}
-  OnMapped (some ms) = AllMapped ms
-
-  map-one : (g : VirtRegGroup) (p : Inst) (k : UseKind) (o : Option ℕ) (at : Option VirtRegGroup) (ms : List Mapped) → slotOf k ≡ o → ((s : ℕ) → slotOf k ≡ some s → M p s g) → AllMapped ms → OnMapped (mapOne p o g ms at)
-  unfolding OnMapped
-  map-one g p k none at ms e f a = a
-  map-one g p k (some s) none ms e f a = mapped-snoc ms (record { inst = p; slot = s; group = g }) a (f s e)
-  map-one g p k (some s) (some x) ms e f a = tt
-
-  map-all : (g : VirtRegGroup) (us : List Use) (ms : List Mapped) → AllMapped ms → All (λ w. (s : ℕ) → slotOf (w .kind) ≡ some s → M (w .pos) s g) us → OnMapped (mapUses g us ms)
-  unfolding mapUses OnMapped
-  map-all g [] ms a b = a
-  map-all g (w ∷ us) ms a b =
-      go (mapOne (w .pos) (slotOf (w .kind)) g ms (mappedAt ms (w .pos) (slotD (slotOf (w .kind)))))
-      (map-one g (w .pos) (w .kind) (slotOf (w .kind)) (mappedAt ms (w .pos) (slotD (slotOf (w .kind)))) ms refl (b .0) a) (λ ns c. map-all g us ns c (b .1))
-    where
-      go : (o : Option (List Mapped)) → OnMapped o → ((ns : List Mapped) → AllMapped ns → OnMapped (mapUses g us ns)) → OnMapped (onMapping o (λ ns. mapUses g us ns))
-      go none c ih = tt
-      go (some ns) c ih = ih ns c
-
-  or-empty : (o : Option (List Mapped)) → OnMapped o → AllMapped (orElse o [])
-  unfolding OnMapped mappedAt
-  or-empty none h i s g e = let z : _≡_ {A = ℕ} 0 1 = cc in absurd (omega arith)
-  or-empty (some ms) h i s g e = h i s g e
 
 -- ---- placing
 
@@ -373,7 +301,7 @@ module _ (job : Job) (room : Room) (u : ValueSet) (h : Held) (new : List Piece) 
           record {
             own-sets = all-append (InSet job) old (r ∷ []) (same .2 (ok .own-sets)) (of, tt);
             members = λ f j v e. go old r ms f j v same here (set-cases job (membersAt st g) (hg .index) j (vreg (length (st .registers))) v) (eqb (f .0) (g .0)) refl e;
-            maps = λ i s f e. let m = ok .maps i s f e in (omega (arith, m .0, length-set (st .groups) (g .0) ms), m .1);
+            maps = rw (length-set (st .groups) (g .0) ms) (ok .maps);
           },
         )
       where
@@ -407,7 +335,7 @@ module _ (job : Job) (room : Room) (u : ValueSet) (h : Held) (new : List Piece) 
         let mem = ok .members g (hg .index) v pl in
         let its : u ≡ nth rs v .set = sym at ∙ ap (λ (x : List ValueSet). getD x (hg .index) (vset 0)) sg ∙ sym (mem .1) in
         let all : InSet job (withPieces ps (nth rs v)) =
-        all-inserted job (λ p. setOf job (p .seg .value) ≡ nth rs v .set) (firstFrom new) new old (all-map _ (λ p. setOf job (p .seg .value) ≡ nth rs v .set) (λ p e. e ∙ its) new of) (in-set-at job rs v (ok .own-sets)) in
+        all-inserted (λ p. setOf job (p .seg .value) ≡ nth rs v .set) (firstFrom new) new old (all-map _ (λ p. setOf job (p .seg .value) ≡ nth rs v .set) (λ p e. e ∙ its) new of) (in-set-at job rs v (ok .own-sets)) in
         let ts = update (withPieces ps) (v .0) rs in
         let same = spread-same job (h .class) w (membersAt st g) ts in (
           σ,
@@ -429,7 +357,7 @@ module _ (job : Job) (room : Room) (u : ValueSet) (h : Held) (new : List Piece) 
     over-other x l = rw (ne-eqb (x .0) (length (st .groups)) (λ e. omega arith))
 
     abbrev Entered : Inst → ℕ → VirtRegGroup → Type 0
-    Entered i s g = (g .0 < suc (length (st .groups))) × (setsAt job i s ≡ over g)
+    Entered = Meets job (suc (length (st .groups))) over
 
     abbrev fresh′ : List (Option VirtReg)
     fresh′ = set (replicate (classAt job (h .class) .size) none) (hg .index) (some (vreg (length (st .registers))))
@@ -444,7 +372,7 @@ module _ (job : Job) (room : Room) (u : ValueSet) (h : Held) (new : List Piece) 
           record {
             own-sets = all-append (InSet job) (st .registers) (r ∷ []) (ok .own-sets) (of, tt);
             members = λ f j v e. go r f j v (sym at) e (ltb (f .0) (length (st .groups))) refl;
-            maps = λ i s f e. let m = am i s f e in (omega (arith, m .0, length-append (st .groups) (g′ ∷ [])), m .1);
+            maps = rw length-append (subst (λ (n : ℕ). AllMapped (Meets job n over) ms) (omega arith) am);
           },
         )
       where
@@ -480,7 +408,7 @@ module _ (job : Job) (room : Room) (u : ValueSet) (h : Held) (new : List Piece) 
     unfolding placeGroup lead join merge
     place-group none t st′ q pl sg ag e =
         let o = mapUses (vrgroup (length (st .groups))) (usesOf (segsOf new)) (st .mapping) in
-        let old : AllMapped Entered (st .mapping) = λ i s g d. let m = ok .maps i s g d in (omega (arith, m .0), m .1 ∙ sym (over-other g (m .0))) in
+        let old : AllMapped Entered (st .mapping) = all-map _ (λ m. Entered (m .inst) (m .slot) (m .group)) (λ m a. (omega (arith, a .0), a .1 ∙ sym (over-other (m .group) (a .0)))) (st .mapping) (ok .maps) in
         let all = map-all Entered (vrgroup (length (st .groups))) (usesOf (segsOf new)) (st .mapping) old
         (all-map _ (λ w. (s : ℕ) → slotOf (w .kind) ≡ some s → Entered (w .pos) s (vrgroup (length (st .groups)))) (λ w f s d. (omega arith, sym (f s d) ∙ sym over-same)) (usesOf (segsOf new)) ag) in
         subst (RightIn job) (gate-done (isNone o) (hasRoom room st 1 1 new) MappedTwice (leadState job u h hg new st (orElse o [])) st′ e) (lead-right (orElse o []) (or-empty Entered o all))
@@ -512,16 +440,11 @@ module _ (job : Job) (room : Room) where
   piece-values u [] a = tt
   piece-values u (p ∷ ps) a = (a .0 .0, piece-values u ps (a .1))
 
-  piece-uses : (u : ValueSet) (ps : List Piece) → All (PieceOk (ValueIn job) (UseIn job) u) ps → All (UseIn job u) (usesOf (segsOf ps))
-  unfolding usesOf
-  piece-uses u [] a = tt
-  piece-uses u (p ∷ ps) a = all-append (UseIn job u) (p .seg .uses) (usesOf (segsOf ps)) (a .0 .1) (piece-uses u ps (a .1))
-
   place-keeps : (u : ValueSet) (top : RegClass) (h : Held) (new : List Piece) (st st′ : State) → RightIn job st → All (PieceOk (ValueIn job) (UseIn job) u) new
       → scan job st (usesOf (segsOf new)) (fresh top) ≡ through h → place job room u h new st ≡ done st′ → RightIn job st′
   unfolding fresh
   place-keeps u top h new st st′ i a e f =
-      let n = scan-next job st (i .0) (i .1) u (usesOf (segsOf new)) (fresh top) h refl (piece-uses u new a) e in
+      let n = scan-next job st (i .0) (i .1) u (usesOf (segsOf new)) (fresh top) h refl (piece-uses (ValueIn job) (UseIn job) u new a) e in
       place-right job room u h new st (i .0) (i .1) (piece-values u new a) st′ (n .0) (n .2) f
 
   empty-right : RightIn job empty
@@ -531,7 +454,7 @@ module _ (job : Job) (room : Room) where
     record {
       own-sets = tt;
       members = λ g j v e. let z : _≡_ {A = ℕ} 0 1 = cc in absurd (omega arith);
-      maps = λ i s g e. let z : _≡_ {A = ℕ} 0 1 = cc in absurd (omega arith);
+      maps = tt;
     },
   )
 
@@ -553,42 +476,15 @@ getD-map f a b (x ∷ xs) zero l = refl
 getD-map f a b (x ∷ xs) (suc i) l = getD-map f a b xs i (omega arith)
 
 module _ (job : Job) where
-  abbrev MemberIs : Value → ℕ → ValueGroup → Type 0
-  MemberIs v i g = (i < length (membersOf job g)) × (getD (membersOf job g) i (val 0) ≡ v)
-
-  there : (v : Value) (p : Inst) (s : ℕ) (c : RegClass) (i : ℕ) (o : Operand) → conj (groupUseTests job v p s c i o) ≡ true → (o .inst ≡ p) × (o .slot ≡ s) × MemberIs v i (o .vgroup)
-  there v p s c i o e =
-      let a = conj-all (groupUseTests job v p s c i o) e in
-      (ap inst (eqb-true _ _ (a .0)), eqb-true _ _ (a .1 .0), (ltb-true _ _ (a .1 .1 .1 .0), ap val (eqb-true _ _ (a .1 .1 .1 .1 .0))))
-
-  -- the operand that is found first is the one that was tested: no two are at one place
-  vgroup-is : (v : Value) (p : Inst) (s : ℕ) (c : RegClass) (i : ℕ) (os : List Operand) → apart samePlace os ≡ true → some-is (λ o. conj (groupUseTests job v p s c i o)) os ≡ true → MemberIs v i (record { 0 = vgroupAt os p s })
-  unfolding some-is apart vgroupAt
-  vgroup-is v p s c i [] ap′ e = let z : _≡_ {A = ℕ} 0 1 = cc in absurd (omega arith)
-  vgroup-is v p s c i (o ∷ os) ap′ e =
-      let a = and-both (not (some-is (samePlace o) os)) (apart samePlace os) ap′ in
-      go (conj (groupUseTests job v p s c i o)) (eqb (o .inst .0) (p .0)) (eqb (o .slot) s) refl refl refl e (a .0) (λ d. vgroup-is v p s c i os (a .1) d)
-    where
-      go : (b x y : Bool) → conj (groupUseTests job v p s c i o) ≡ b → eqb (o .inst .0) (p .0) ≡ x → eqb (o .slot) s ≡ y
-          → (b || some-is (λ o. conj (groupUseTests job v p s c i o)) os) ≡ true → not (some-is (samePlace o) os) ≡ true
-          → (some-is (λ o. conj (groupUseTests job v p s c i o)) os ≡ true → MemberIs v i (record { 0 = vgroupAt os p s })) → MemberIs v i (record { 0 = cond (x && y) (o .vgroup .0) (vgroupAt os p s) })
-      go true true true a x y d n ih = there v p s c i o a .2
-      go true false y′ a x y d n ih = absurd (eqb-false _ _ x (ap (λ (j : Inst). j .0) (there v p s c i o a .0)))
-      go true true false a x y d n ih = absurd (eqb-false _ _ y (there v p s c i o a .1))
-      go false true true a x y d n ih =
-          let q : some-is (samePlace o) os ≡ true = again job v p s c i o os (ap inst (eqb-true _ _ x)) (eqb-true _ _ y) d in
-          let r : not true ≡ true = subst (λ (t : Bool). not t ≡ true) q n in
-          let z : _≡_ {A = ℕ} 0 1 = cc in absurd (omega arith)
-      go false true false a x y d n ih = ih d
-      go false false y′ a x y d n ih = ih d
-
   module _ (fn : functionOk job ≡ true) where
     group-in : (v : Value) (p : Inst) (s : ℕ) (c : RegClass) (i : ℕ) → groupUseOk job v p s c i ≡ true → getD (setsAt job p s) i (vset 0) ≡ setOf job v
-    unfolding groupUseOk functionOk setsAt membersOf
+    unfolding setsAt membersOf
     group-in v p s c i e =
-        let f = conj-all (functionTests job) fn in
-        let m = vgroup-is v p s c i (job .operands) (f .1 .1 .1 .1 .0) e in
-        getD-map (λ x. setOf job x) (val 0) (vset 0) (membersOf job (record { 0 = vgroupAt (job .operands) p s })) i (m .0) ∙ ap (λ (x : Value). setOf job x) (m .1)
+        let t = group-operand job fn v p s c i e .1 in
+        let q : getD (job .vgroups) (vgroupAt (job .operands) p s) [] ≡ membersOf job (operandAt (job .operands) p s .vgroup) =
+        ap (λ (n : ℕ). getD (job .vgroups) n []) (vgroup-at (job .operands) p s) in
+        ap (λ (xs : List Value). getD (map (λ x. setOf job x) xs) i (vset 0)) q
+        ∙ getD-map (λ x. setOf job x) (val 0) (vset 0) (membersOf job (operandAt (job .operands) p s .vgroup)) i (t .3) ∙ ap (λ (x : Value). setOf job x) (t .4)
 
     kind-in : (v : Value) (p : Inst) (k : UseKind) → kindOk job v p k ≡ true → KindIn job (setOf job v) p k
     unfolding kindOk
