@@ -6,7 +6,7 @@ use mathlib.Core.Option.{Option, none, some}
 use mathlib.Core.List.{List, [], _∷_, map}
 use lib.Dec.{eqb}
 use lib.Ieee.{Float, binary32, ofBits}
-use Rattle.definition.specs.Types.{BadBook, BadFunction, BadHint, BadSegment, BadUse, BlockData, BlockparamOut, ClassData, ClassDef, ClassUse, Conflict, ConstraintConflict, Early, GroupClassUse, Hint, Inst, Job, Late, Never, NoStart, NoneAdmitted, Operand, Options, Origin, Out, OverALimit, Own, Piece, Refusal, Register, Segment, Side, Stop, Stopped, TurnedDef, Use, UseFlags, UseKind, Value, ValueData, VirtReg, VirtRegGroup, cls, done, inst, point, refused, val, vreg, vrgroup, vset}
+use Rattle.definition.specs.Types.{BadBook, BadFunction, BadHint, BadSegment, BadUse, BlockData, BlockparamOut, ClassData, ClassDef, ClassUse, Conflict, ConstraintConflict, Early, GroupClassUse, Inst, Job, Late, Never, NoStart, NoneAdmitted, Operand, Out, OverALimit, Own, Piece, Register, Segment, Side, Stop, Stopped, TurnedDef, Use, UseFlags, UseKind, Value, ValueData, VirtReg, VirtRegGroup, cls, done, inst, point, refused, val, vreg, vrgroup, vset}
 use Rattle.definition.specs.Limits.{vregsRoom}
 use Rattle.definition.specs.LiveRange.{liveInsts}
 use Rattle.definition.specs.Build.{Result}

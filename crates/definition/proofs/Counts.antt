@@ -1,19 +1,18 @@
 -- Class uses counted: of two parts, of a list with one use turned. The list of all uses of turned segments. Assumes nothing.
-use mathlib.Core.Path.{_≡_, refl, ap, sym, _∙_}
+use mathlib.Core.Path.{_≡_, refl, ap}
 use Prim.Native.Nat.{ℕ, zero, suc, _+_, _-_, _≤_, _<_}
-use native.Mathlib.Nat.{le-of-suc-le-suc, not-suc-le-zero, suc-sub-suc, sub-zero}
+use native.Mathlib.Nat.{suc-sub-suc, sub-zero}
 use native.Mathlib.Omega.{arith}
 use mathlib.Core.Bool.{Bool, true, false}
 use mathlib.Core.List.{List, [], _∷_, _++_, reverse, reverseAux}
-use lib.ListN.{length, getD, length-append, List·getD-append}
-use lib.Seq.{getD-append-add}
+use lib.ListN.{length, getD}
 use lib.Dec.{ltb}
-use borrow.Author.Tests.{ltb-true, ltb-false, lt-ltb, le-ltb}
-use Rattle.definition.specs.Types.{ConstraintConflict, Segment, Use}
+use borrow.Author.Tests.{ltb-true, ltb-false}
+use Rattle.definition.specs.Types.{Segment, Use}
 use Rattle.definition.specs.Uses.{isClassUse}
-use Rattle.definition.specs.Admit.{noUse, useAt}
+use Rattle.definition.specs.Admit.{useAt}
 use Rattle.definition.specs.Place.{usesOf}
-use Rattle.definition.specs.Build.{classUses, one, turnAt, turnIn}
+use Rattle.definition.specs.Build.{classUses, turnAt, turnIn}
 
 pub classUses-append : (us vs : List Use) → classUses (us ++ vs) ≡ classUses us + classUses vs
 unfolding classUses

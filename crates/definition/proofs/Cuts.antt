@@ -1,11 +1,11 @@
 -- A cut keeps the uses, in order, and each value's points exactly as often as before. Nothing is asked of the segments. Assumes nothing.
-use mathlib.Core.Path.{_≡_, refl, ap, sym, _∙_}
-use Prim.Native.Nat.{ℕ, zero, suc, _+_, _*_, _≤_, _<_}
+use mathlib.Core.Path.{_≡_, refl, ap}
+use Prim.Native.Nat.{ℕ, _+_, _*_, _<_}
 use native.Mathlib.Omega.{arith}
-use mathlib.Core.Bool.{Bool, true, false, cond, _&&_}
+use mathlib.Core.Bool.{Bool, true, false, _&&_}
 use mathlib.Core.List.{List, [], _∷_, _++_, append-assoc, append-nil}
 use lib.Dec.{leb, ltb, eqb}
-use borrow.Author.Tests.{ltb-true, ltb-false, leb-true, leb-false, lt-ltb, le-ltb, le-leb, lt-leb}
+use borrow.Author.Tests.{ltb-true, ltb-false, leb-false, lt-ltb, le-ltb, le-leb, lt-leb}
 use Rattle.definition.specs.Types.{Hint, Inst, Segment, Use, Value}
 use Rattle.definition.specs.Cuts.{leftCut, leftOf, rightCut, rightOf, usesBefore, usesFrom}
 use Rattle.definition.specs.Place.{total, usesOf}

@@ -1,17 +1,17 @@
 -- A job that passes the entry rules: each set's segments fit. The tests are Bools in the definition; here they become the facts that the other proofs ask for. Assumes nothing.
-use mathlib.Core.Path.{_≡_, refl, ap, sym, _∙_, subst}
-use Prim.Native.Nat.{ℕ, zero, suc, _+_, _-_, _*_, _≤_, _<_}
+use mathlib.Core.Path.{_≡_, refl}
+use Prim.Native.Nat.{ℕ, _+_, _*_, _≤_, _<_}
 use native.Mathlib.Omega.{arith}
 use mathlib.Core.Bool.{Bool, true, false, cond, _&&_, _||_}
 use mathlib.Core.Option.{Option, none, some}
-use mathlib.Core.List.{List, [], _∷_, _++_}
-use lib.Dec.{leb, ltb, eqb}
+use mathlib.Core.List.{List, [], _∷_}
+use lib.Dec.{leb, ltb}
 use borrow.Author.Tests.{ltb-true, leb-true, eqb-true}
 use Rattle.definition.specs.Types.{Job, Refusal, Segment, Use}
 use Rattle.definition.specs.RegInfo.{setOf}
 use Rattle.definition.specs.Uses.{endPoint}
 use Rattle.definition.specs.Build.{onto, runs, sameSet}
-use Rattle.definition.specs.Entry.{behind, bookOk, chained, conj, entry, entryTests, every, functionOk, hintsOk, insts, kindOk, limitsOk, lowestOf, segmentOk, segmentTests, segmentsOk, useOk, useTests, usesOk}
+use Rattle.definition.specs.Entry.{behind, chained, conj, entry, entryTests, every, lowestOf, segmentOk, segmentTests, segmentsOk, useOk, useTests, usesOk}
 use Rattle.definition.proofs.Fits.{UsesFit, SegsFit}
 use Rattle.definition.proofs.Places.{All}
 

@@ -1,18 +1,18 @@
--- What the entry rules for segments and uses give (6 and 7), and that turning a use and cutting keep it. Assumes nothing.
-use mathlib.Core.Path.{_≡_, refl, ap, sym, _∙_}
+-- Segments and uses that fit, as the entry rules 6 and 7 have them (`Entries`): all uses do not fall; a turn keeps it, and so does a cut behind it. Assumes nothing.
+use mathlib.Core.Path.{_≡_, refl}
 use Prim.Native.Nat.{ℕ, zero, suc, _+_, _-_, _*_, _≤_, _<_}
 use native.Mathlib.Omega.{arith}
-use mathlib.Core.Bool.{Bool, true, false, cond}
+use mathlib.Core.Bool.{Bool, true, false}
 use mathlib.Core.List.{List, [], _∷_, _++_}
 use lib.ListN.{length}
 use lib.Dec.{leb, ltb}
-use borrow.Author.Tests.{ltb-true, ltb-false, leb-true, leb-false}
+use borrow.Author.Tests.{ltb-false, leb-false}
 use Rattle.definition.specs.Types.{Hint, Inst, Segment, Use}
-use Rattle.definition.specs.Uses.{endPoint, endSlot}
-use Rattle.definition.specs.Cuts.{leftCut, leftOf, rightCut, rightOf, usesBefore, usesFrom}
+use Rattle.definition.specs.Uses.{endPoint}
+use Rattle.definition.specs.Cuts.{rightCut, rightOf, usesFrom}
 use Rattle.definition.specs.Admit.{useAt}
 use Rattle.definition.specs.Place.{usesOf}
-use Rattle.definition.specs.Build.{turnAt, turnIn, turnedUse, withUses}
+use Rattle.definition.specs.Build.{turnAt, turnIn}
 
 -- uses of a segment [a, b), none before instruction l: not falling, each begun before its next Boundary and ended by b
 abbrev pub UsesFit : ℕ → ℕ → ℕ → List Use → Type 0

@@ -1,29 +1,28 @@
--- (c) A turn and a cut lower the number of class uses that are left, so the count of steps never runs out. And the part before a cut is always admitted.
--- Assumes nothing.
-use mathlib.Core.Path.{_≡_, refl, ap, sym, _∙_, subst}
+-- A turn and a cut lower the number of class uses that are left, so the count of steps never runs out; and the part before a cut is always admitted.
+-- `run` is the builder with no count, and `run-step` its one equation. Assumes nothing.
+use mathlib.Core.Path.{_≡_, refl, ap, _∙_}
 use Prim.Native.Nat.{ℕ, zero, suc, _+_, _-_, _*_, _≤_, _<_}
 use native.Mathlib.Nat.{zero-add, suc-add}
 use native.Mathlib.Omega.{arith}
 use mathlib.Core.Logic.{_≢_}
-use mathlib.Core.Bool.{Bool, true, false, cond}
+use mathlib.Core.Bool.{Bool, true, false}
 use mathlib.Core.List.{List, [], _∷_, _++_}
 use lib.ListN.{length, getD, length-append, List·getD-append}
 use lib.Seq.{getD-append-add}
 use lib.Dec.{leb, ltb}
-use borrow.Author.Tests.{ltb-true, ltb-false, leb-true, leb-false}
-use Rattle.definition.specs.Types.{BlockparamIn, BlockparamOut, ClassDef, ClassUse, ConstraintConflict, FixedDef, FixedUse, GroupClassDef, GroupClassUse, Held, Hint, Inst, Job, Out, Refusal, RegClass, Room, Segment, State, TiedUse, Turned, Use, UseKind, ValueSet, done, refused}
+use borrow.Author.Tests.{ltb-true, ltb-false, leb-true}
+use Rattle.definition.specs.Types.{BlockparamIn, BlockparamOut, ClassDef, ClassUse, ConstraintConflict, FixedDef, FixedUse, GroupClassDef, GroupClassUse, Hint, Inst, Job, Out, RegClass, Room, Segment, State, TiedUse, Turned, Use, UseKind, ValueSet}
 use Rattle.definition.specs.Uses.{endPoint, endSlot, isClassUse}
-use Rattle.definition.specs.SplitPlacement.{earlyCut}
 use Rattle.definition.specs.Cuts.{leftCut, leftOf, rightCut, usesBefore}
-use Rattle.definition.specs.Admit.{Move, Scan, cut, fails-at, fresh, halt, move, noUse, scan, through, turn, useAt, whole}
-use Rattle.definition.specs.Place.{_>>=_, usesOf}
-use Rattle.definition.specs.Build.{Built, classUses, one, placeFront, step, steps, turnAt, turnIn, turnedAt}
+use Rattle.definition.specs.Admit.{Move, cut, fresh, halt, move, noUse, turn, useAt, whole}
+use Rattle.definition.specs.Place.{usesOf}
+use Rattle.definition.specs.Build.{Built, classUses, placeFront, step, steps, turnAt, turnedAt}
 use Rattle.definition.proofs.Cuts.{cut-uses}
 use Rattle.definition.proofs.Scans.{Admits, scan-before}
 use Rattle.definition.proofs.Counts.{classUses-append, classUses-at, classUses-turn, uses-turn}
-use Rattle.definition.proofs.Moves.{Clash, CutAt, move-turn, move-cut, early-in}
-use Rattle.definition.proofs.Places.{bind-cong}
-use Rattle.definition.proofs.Fits.{UsesFit, SegsFit, Rising, rising, rising-from, rising-le, turn-fit, right-fit}
+use Rattle.definition.proofs.Moves.{CutAt, move-turn, move-cut, early-in}
+use Rattle.definition.proofs.Places.{All, all-append, all-getD, bind-cong}
+use Rattle.definition.proofs.Fits.{UsesFit, SegsFit, rising, rising-from, rising-le, turn-fit, right-fit}
 
 -- ---- class uses in the part before a cut lie before it
 
@@ -40,17 +39,13 @@ class-slot (BlockparamIn p) e = let z : _≡_ {A = ℕ} 0 1 = cc in absurd (omeg
 class-slot BlockparamOut e = omega arith
 
 abbrev Below : Inst → List Use → Type 0
-Below p [] = Unit {0}
-Below p (u ∷ us) = (isClassUse (u .kind) ≡ true → u .pos .0 < p .0) × Below p us
+Below p us = All (λ u. isClassUse (u .kind) ≡ true → u .pos .0 < p .0) us
 
-below-append : (p : Inst) (us vs : List Use) → Below p us → Below p vs → Below p (us ++ vs)
-below-append p [] vs h k = k
-below-append p (u ∷ us) vs h k = (h .0, below-append p us vs (h .1) k)
-
-below-at : (p : Inst) (us : List Use) (n : ℕ) → Below p us → n < length us → isClassUse (useAt us n .kind) ≡ true → useAt us n .pos .0 < p .0
-below-at p [] n h k e = absurd (omega arith)
-below-at p (u ∷ us) zero h k e = h .0 e
-below-at p (u ∷ us) (suc n) h k e = below-at p us n (h .1) (omega arith) e
+below-at : (p : Inst) (us : List Use) (n : ℕ) → Below p us → isClassUse (useAt us n .kind) ≡ true → useAt us n .pos .0 < p .0
+below-at p us n h e = all-getD (λ u. isClassUse (u .kind) ≡ true → u .pos .0 < p .0) us n noUse h none-there e
+  where
+    none-there : isClassUse (noUse .kind) ≡ true → noUse .pos .0 < p .0
+    none-there f = let z : _≡_ {A = ℕ} 0 1 = cc in absurd (omega arith)
 
 ended-below : (p : Inst) (us : List Use) (l a b : ℕ) → UsesFit l a b us → b ≤ 4 * p .0 → Below p us
 unfolding endPoint
@@ -72,8 +67,8 @@ left-below hs p [] q h = tt
 left-below hs p (s ∷ ss) q h = go (leb (s .to .0) (4 * p .0)) (ltb (s .«from» .0) (4 * p .0)) refl refl (left-below hs p ss (s .to .0) (h .3))
   where
     go : (a b : Bool) → leb (s .to .0) (4 * p .0) ≡ a → ltb (s .«from» .0) (4 * p .0) ≡ b → Below p (usesOf (leftCut hs p ss)) → Below p (usesOf (leftCut hs p (s ∷ ss)))
-    go true b e f ih = rw (e, leftCut) (below-append p (s .uses) (usesOf (leftCut hs p ss)) (ended-below p (s .uses) 0 (s .«from» .0) (s .to .0) (h .2) (leb-true _ _ e)) ih)
-    go false true e f ih = rw (e, f, leftCut) (below-append p (usesBefore p (s .uses)) [] (before-below p (s .uses)) tt)
+    go true b e f ih = rw (e, leftCut) (all-append _ (s .uses) (usesOf (leftCut hs p ss)) (ended-below p (s .uses) 0 (s .«from» .0) (s .to .0) (h .2) (leb-true _ _ e)) ih)
+    go false true e f ih = rw (e, f, leftCut) (all-append _ (usesBefore p (s .uses)) [] (before-below p (s .uses)) tt)
     go false false e f ih = rw (e, f, leftCut) tt
 
 -- ---- a cut parts its start from its end
@@ -126,7 +121,7 @@ module _ (job : Job) (st : State) (top : RegClass) (ss : List Segment) (q : ℕ)
       go true e =
           let k : c .1 < length L = ltb-true _ _ e in
           let at : useAt (usesOf ss) (c .1) ≡ useAt L (c .1) = rw (← both) (List·getD-append L R noUse (c .1) k) in
-          let lt : useAt L (c .1) .pos .0 < p .0 = below-at p L (c .1) (left-below (job .hints) p ss q h) k (rw at at (c .2 .end .1)) in
+          let lt : useAt L (c .1) .pos .0 < p .0 = below-at p L (c .1) (left-below (job .hints) p ss q h) (rw at at (c .2 .end .1)) in
           let ge : p .0 ≤ useAt L (c .1) .pos .0 = rw at at (between .1) in
           absurd (omega arith)
 

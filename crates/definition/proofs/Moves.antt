@@ -1,20 +1,22 @@
--- What a move says of the uses that it was made from: the use to turn is a class use; the start of a cut is a class use, and lies before the cut. Assumes nothing.
+-- What a move says of the uses that it was made from: the use to turn is a class use; start and end of a cut are class uses
+-- of two instructions, and an early cut lies behind the first and not behind the second. Assumes nothing.
 use mathlib.Core.Path.{_≡_, refl, ap, _∙_, subst}
-use Prim.Native.Nat.{ℕ, zero, suc, _+_, _-_, _≤_, _<_}
+use Prim.Native.Nat.{ℕ, zero, suc, _-_, _≤_, _<_}
 use native.Mathlib.Omega.{arith}
 use mathlib.Core.Bool.{Bool, true, false, cond, _&&_}
-use mathlib.Core.Option.{Option, none, some}
-use mathlib.Core.List.{List, [], _∷_, _++_, reverse}
-use lib.ListN.{length, getD, take, length-take, length-reverse}
+use mathlib.Core.Option.{none}
+use mathlib.Core.List.{List, [], _∷_, reverse}
+use lib.ListN.{length, getD, take, length-reverse}
 use lib.Seq.{getD-take, length-take-le}
 use lib.Dec.{leb, ltb, eqb}
 use lib.Ieee.{Float, lt}
-use borrow.Author.Tests.{ltb-true, ltb-false, leb-true, leb-false, eqb-true, eqb-false}
-use Rattle.definition.specs.Types.{BlockData, BlockparamIn, BlockparamOut, ClassDef, ClassUse, ConstraintConflict, FixedDef, FixedUse, GroupClassDef, GroupClassUse, Held, Inst, Job, RegClass, State, Stop, TiedUse, TurnedDef, Use, UseKind, inst}
+use borrow.Author.Tests.{ltb-true, leb-true, eqb-false}
+use Rattle.definition.specs.Types.{BlockData, BlockparamIn, BlockparamOut, ClassDef, ClassUse, ConstraintConflict, FixedDef, FixedUse, GroupClassDef, GroupClassUse, Held, Inst, Job, RegClass, State, TiedUse, TurnedDef, Use, UseKind, inst}
 use Rattle.definition.specs.Uses.{isClassUse, isDef}
 use Rattle.definition.specs.SplitPlacement.{earliest, earlyCut, freqAt, keep, starts}
-use Rattle.definition.specs.Admit.{Move, Scan, admit, admitKind, cut, fails-at, fresh, fromEnd, fromStart, halt, later, move, noUse, onAdmit, parted, scan, through, turn, turning, useAt, whole}
+use Rattle.definition.specs.Admit.{Move, Scan, admit, admitKind, cut, fails-at, fresh, fromEnd, fromStart, halt, move, noUse, parted, scan, through, turn, turning, useAt, whole}
 use Rattle.definition.proofs.Scans.{scan-first, scan-later}
+use Rattle.definition.proofs.Places.{All}
 use Rattle.definition.proofs.Counts.{getD-reverse}
 
 -- ---- a scan fails at a class use
@@ -50,26 +52,22 @@ module _ (job : Job) (st : State) where
 abbrev Within : ℕ → ℕ → ℕ → Type 0
 Within lo hi x = (lo < x) × (x ≤ hi)
 
-abbrev AllWithin : ℕ → ℕ → List ℕ → Type 0
-AllWithin lo hi [] = Unit {0}
-AllWithin lo hi (x ∷ xs) = Within lo hi x × AllWithin lo hi xs
-
 either : (P : ℕ → Type 0) (b : Bool) (x y : ℕ) → P x → P y → P (cond b x y)
 either P true x y p q = p
 either P false x y p q = q
 
-earliest-in : (price : ℕ → Float) (lo hi c : ℕ) (ds : List ℕ) → Within lo hi c → AllWithin lo hi ds → Within lo hi (earliest price c ds)
+earliest-in : (price : ℕ → Float) (lo hi c : ℕ) (ds : List ℕ) → Within lo hi c → All (Within lo hi) ds → Within lo hi (earliest price c ds)
 unfolding earliest
 earliest-in price lo hi c [] h k = h
 earliest-in price lo hi c (d ∷ ds) h k = earliest-in price lo hi _ ds (either (Within lo hi) (lt (price d) (price c)) d c (k .0) h) (k .1)
 
-keep-in : (lo hi : ℕ) (xs : List ℕ) → AllWithin lo hi (keep (λ i. ltb (suc lo) i && leb i hi) xs)
+keep-in : (lo hi : ℕ) (xs : List ℕ) → All (Within lo hi) (keep (λ i. ltb (suc lo) i && leb i hi) xs)
 unfolding keep
 keep-in lo hi [] = tt
 keep-in lo hi (x ∷ xs) = go (ltb (suc lo) x) (leb x hi) refl refl (keep-in lo hi xs)
   where
-    go : (a b : Bool) → ltb (suc lo) x ≡ a → leb x hi ≡ b → AllWithin lo hi (keep (λ i. ltb (suc lo) i && leb i hi) xs)
-        → AllWithin lo hi (cond (a && b) (x ∷ keep (λ i. ltb (suc lo) i && leb i hi) xs) (keep (λ i. ltb (suc lo) i && leb i hi) xs))
+    go : (a b : Bool) → ltb (suc lo) x ≡ a → leb x hi ≡ b → All (Within lo hi) (keep (λ i. ltb (suc lo) i && leb i hi) xs)
+        → All (Within lo hi) (cond (a && b) (x ∷ keep (λ i. ltb (suc lo) i && leb i hi) xs) (keep (λ i. ltb (suc lo) i && leb i hi) xs))
     go true true e f ih = let q : suc lo < x = ltb-true _ _ e in let r : x ≤ hi = leb-true _ _ f in ((omega arith, omega arith), ih)
     go true false e f ih = ih
     go false b e f ih = ih

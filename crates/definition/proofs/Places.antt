@@ -1,21 +1,20 @@
--- Placing a register adds its pieces to those that are there, whatever is counted of a piece. Assumes nothing.
-use mathlib.Core.Path.{_≡_, refl, ap, sym, _∙_, subst}
-use Prim.Native.Nat.{ℕ, zero, suc, _+_, _-_, _*_, _≤_, _<_}
-use native.Mathlib.Nat.{zero-add, suc-add}
+-- Placing a register adds its pieces to those that are there, whatever is counted of a piece; groups and what is held name registers.
+-- Before that, facts on lists (`All`) and on one answer after another. Assumes nothing.
+use mathlib.Core.Path.{_≡_, refl, ap, _∙_, subst}
+use Prim.Native.Nat.{ℕ, zero, suc, _+_, _≤_, _<_}
 use native.Mathlib.Omega.{arith}
-use mathlib.Core.Bool.{Bool, true, false, cond}
+use mathlib.Core.Bool.{Bool, true, false}
 use mathlib.Core.Option.{Option, none, some, bind, Option·some-injective}
-use mathlib.Core.List.{List, [], _∷_, _++_, append-nil, reverse, reverseAux}
+use mathlib.Core.List.{List, [], _∷_, _++_, reverse, reverseAux}
 use lib.ListN.{length, getD, set, replicate, length-append}
-use lib.Dec.{leb, ltb}
+use lib.Dec.{leb}
 use lib.Ieee.{Float}
-use borrow.Author.Tests.{ltb-true, ltb-false, leb-true, leb-false}
-use Rattle.definition.specs.Types.{BlockparamIn, BlockparamOut, ClassData, ClassDef, ClassUse, ConstraintConflict, FixedDef, FixedUse, GroupClassDef, GroupClassUse, Held, HeldGroup, Hint, Inst, Job, LiveRangePoint, Mapped, MappedTwice, Out, Overlap, Piece, Refusal, RegClass, Register, Room, Segment, State, Stop, TiedUse, Turned, Use, UseKind, ValueSet, VirtReg, VirtRegGroup, done, refused, vreg, vrgroup}
+use Rattle.definition.specs.Types.{BlockparamIn, BlockparamOut, ClassDef, ClassUse, ConstraintConflict, FixedDef, FixedUse, GroupClassDef, GroupClassUse, Held, HeldGroup, Inst, Job, LiveRangePoint, Mapped, MappedTwice, Out, Overlap, Piece, RegClass, Register, Room, Segment, State, Stop, TiedUse, Turned, Use, UseKind, ValueSet, VirtReg, VirtRegGroup, done, refused, vreg, vrgroup}
 use Rattle.definition.specs.RegInfo.{classAt, commonSubclass}
 use Rattle.definition.specs.Weights.{weightOf}
-use Rattle.definition.specs.Admit.{Scan, admit, admitClass, admitGroup, admitKind, atPlace, fails-at, fresh, groupFits, guard, inGroup, later, mappedAt, membersAt, narrowed, noRegister, onAdmit, registerAt, scan, setsAt, through}
+use Rattle.definition.specs.Admit.{admit, admitClass, admitGroup, admitKind, atPlace, groupFits, guard, inGroup, mappedAt, membersAt, narrowed, noRegister, registerAt, scan, setsAt, through}
 use Rattle.definition.specs.Place.{_>>=_, alone, aloneState, firstFrom, gate, groupWeight, hasRoom, inserted, isNone, join, joinState, lastTo, lead, leadState, made, mapUses, merge, mergeState, orElse, overlaps, place, placeBy, placeGroup, segsOf, spread, total, update, usesOf, withPieces, withWeight}
-use Rattle.definition.specs.Build.{Round, asOwn, lastFirst, lastFirst′, try}
+use Rattle.definition.specs.Build.{asOwn, lastFirst, lastFirst′, try}
 use Rattle.definition.proofs.Scans.{scan-keeps}
 
 -- ---- one answer after another

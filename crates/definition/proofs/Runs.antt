@@ -1,24 +1,24 @@
 -- One induction over the whole builder: what every placing keeps, the run over all sets keeps. Of the segments of a set, a fact on their values and one on
 -- their uses is carried along: cuts, turns and conflict pieces have it too. Assumes nothing.
-use mathlib.Core.Path.{_≡_, refl, ap, _∙_, subst}
-use Prim.Native.Nat.{ℕ, zero, suc, _+_, _-_, _*_, _≤_, _<_}
+use mathlib.Core.Path.{_≡_, refl, ap, subst}
+use Prim.Native.Nat.{ℕ, zero, suc, _-_, _*_, _≤_, _<_}
 use native.Mathlib.Omega.{arith}
 use mathlib.Core.Bool.{Bool, true, false, cond}
 use mathlib.Core.Option.{Option, none, some}
 use mathlib.Core.List.{List, [], _∷_, _++_, map, append-nil}
-use lib.ListN.{length, getD, length-append}
+use lib.ListN.{length, length-append}
 use lib.Dec.{leb, ltb}
 use borrow.Author.Tests.{ltb-false}
-use Rattle.definition.specs.Types.{BlockparamIn, ConstraintConflict, Held, Hint, Inst, Job, Origin, Piece, RegClass, Register, Room, Segment, State, Stopped, Turned, Use, Value, ValueSet, ValuesDiffer, done, inst, refused}
+use Rattle.definition.specs.Types.{BlockparamIn, ConstraintConflict, Held, Hint, Inst, Job, Piece, RegClass, Room, Segment, State, Stopped, Turned, Use, Value, ValueSet, ValuesDiffer, done, inst, refused}
 use Rattle.definition.specs.RegInfo.{setOf, topOf}
 use Rattle.definition.specs.Cuts.{leftCut, leftOf, rightCut, rightOf, usesBefore, usesFrom}
-use Rattle.definition.specs.Admit.{Move, Scan, admit, admitKind, cut, fails-at, fresh, halt, later, move, noUse, onAdmit, scan, through, turn, whole}
+use Rattle.definition.specs.Admit.{Move, Scan, admit, admitKind, cut, fails-at, fresh, halt, move, noUse, scan, through, turn, whole}
 use Rattle.definition.specs.Place.{place, segsOf, usesOf}
 use Rattle.definition.specs.Build.{Built, Round, allOf, asOwn, atInst, buildSet, buildSets, classUses, conflictPiece, conflicts, lastFirst, onto, opening, placeFront, placeRound, placeScan, rounds, runs, sameInst, step, steps, try, turnAt, turnIn, turnedAt, turnedOf}
 use Rattle.definition.proofs.Cuts.{uses-cut}
 use Rattle.definition.proofs.Scans.{scan-snoc}
 use Rattle.definition.proofs.Moves.{move-whole, move-turn}
-use Rattle.definition.proofs.Places.{All, all-append, all-split, all-first, bind-done, own-uses}
+use Rattle.definition.proofs.Places.{All, all-append, all-getD, all-split, all-first, bind-done, own-uses}
 
 -- ---- scans, and a round as a scan over what it took
 
@@ -126,18 +126,13 @@ module _ (OfValue : ValueSet → Value → Type 0) (OfUse : ValueSet → Use →
         go true e ih = rw (e, turnAt) ((a .0 .0, turn-uses u n (s .uses) (a .0 .1)), a .1)
         go false e ih = rw (e, turnAt) (a .0, ih)
 
-    use-at : (u : ValueSet) (n : ℕ) (us : List Use) → All (OfUse u) us → OfUse u (getD us n noUse)
-    use-at u n [] a = mark u (inst 0)
-    use-at u zero (w ∷ us) a = a .0
-    use-at u (suc n) (w ∷ us) a = use-at u n us (a .1)
-
     turned-ok : (u : ValueSet) (n : ℕ) (ss : List Segment) → n < length (usesOf ss) → All (SegOk u) ss → TurnedOk u (turnedAt n ss)
     unfolding turnedAt turnedOf usesOf
     turned-ok u n [] l a = absurd (omega arith)
     turned-ok u n (s ∷ ss) l a = go (ltb n (length (s .uses))) refl (λ k. turned-ok u (n - length (s .uses)) ss k (a .1))
       where
         go : (b : Bool) → ltb n (length (s .uses)) ≡ b → (n - length (s .uses) < length (usesOf ss) → TurnedOk u (turnedAt (n - length (s .uses)) ss)) → TurnedOk u (turnedAt n (s ∷ ss))
-        go true e ih = rw (e, turnedAt) (a .0 .0, use-at u n (s .uses) (a .0 .1))
+        go true e ih = rw (e, turnedAt) (a .0 .0, all-getD (OfUse u) (s .uses) n noUse (a .0 .1) (mark u (inst 0)))
         go false e ih =
             let k : length (s .uses) ≤ n = ltb-false _ _ e in
             rw (e, turnedAt) (ih (omega (arith, length-append (s .uses) (usesOf ss))))
