@@ -57,7 +57,7 @@ module _ (ν : Segment → ℕ) where
 
 -- ---- each value's points
 
-points-additive : (v : Value) (x : ℕ) → Additive (λ s. one (holds v x s))
+pub points-additive : (v : Value) (x : ℕ) → Additive (λ s. one (holds v x s))
 points-additive v x = record { parted = point-parted v x; kept = λ n s c. refl }
 
 -- a point of value v stands in own pieces of an accepted job's result exactly as often as in the job
