@@ -10,19 +10,19 @@ use lib.ListN.{length, getD}
 use lib.Pow.{pow-mono, pow-pos}
 use lib.Dec.{ltb, eqb}
 use borrow.Author.Tests.{ltb-true, leb-true, eqb-true, eqb-false, eq-eqb}
-use Rattle.definition.specs.Types.{Inst, Value, RegClass, VirtReg, UseKind, FixedDef, FixedUse, TiedUse, ConstraintConflict, ClassUse, ClassDef, GroupClassUse, GroupClassDef, BlockparamIn, BlockparamOut, Use, ClassData, Operand, Segment, Job, Room, Refusal, done, inst, val, cls}
+use Rattle.definition.specs.Types.{Inst, Value, RegClass, VirtReg, Use, ClassData, Operand, Segment, Job, Room, Refusal, done, inst, val, cls}
 use Rattle.definition.specs.RegInfo.{classAt, noClass}
 use Rattle.definition.specs.Place.{total}
 use Rattle.definition.specs.Build.{Result, build, one}
-use Rattle.definition.specs.Entry.{answer, answerTo, apart, bookOk, bookTests, classOk, classTests, conj, entry, entryTests, every, functionOk, functionTests, groupUseOk, groupUseTests, kindOk, limitTests, limitsOk, membersOf, operandOk, operandTests, samePlace, sized, some-is, useOk, useTests, usesOk, vgroupOk, vgroupTests}
+use Rattle.definition.specs.Entry.{answer, answerTo, apart, bookOk, bookTests, classOk, classTests, conj, entry, entryTests, functionOk, functionTests, groupUseOk, groupUseTests, limitTests, limitsOk, membersOf, operandOk, operandTests, samePlace, sized, some-is, usesOk, vgroupOk, vgroupTests}
 use Rattle.definition.specs.Promised.{Transitive, bitAt, holds}
 use Rattle.definition.proofs.Places.{All, all-map, all-getD, counted}
-use Rattle.definition.proofs.Tables.{nth, operandAt}
+use Rattle.definition.proofs.Tables.{nth, operandAt, uses-are}
 use Rattle.definition.proofs.Classes.{Masks}
 use Rattle.definition.proofs.Entries.{and-both, conj-all, every-all, lowest-none}
 use Rattle.definition.proofs.Points.{ofOwn, points-same, Steady, ownUses, own-uses-same}
 use Rattle.definition.proofs.ReadBack.{Test, ofPiece, uses-same}
-use Rattle.definition.proofs.Admission.{sizeOf, GroupUse, KindFits, UseFits, Sizes, ServedIn, SegFits, admission}
+use Rattle.definition.proofs.Admission.{sizeOf, GroupUse, UseFits, Sizes, ServedIn, SegFits, admission}
 
 all-at : {A : Type 0} (P : A → Type 0) (xs : List A) (n : ℕ) (d : A) → All P xs → n < length xs → P (getD xs n d)
 all-at P [] n d h l = absurd (omega arith)
@@ -164,24 +164,8 @@ module _ (job : Job) where
         let size : sizeOf job c ≡ length (membersOf job (o .vgroup)) = subst (λ (x : RegClass). classAt job x .size ≡ length (membersOf job (o .vgroup))) (t .1 .2) (t .0 .1) in
         (t .1 .2, omega (arith, t .0 .0), omega (arith, t .1 .3))
 
-    kind-fits : (v : Value) (p : Inst) (k : UseKind) → kindOk job v p k ≡ true → KindFits job p k
-    unfolding kindOk
-    kind-fits v p (FixedDef r) e = tt
-    kind-fits v p (FixedUse r) e = tt
-    kind-fits v p (TiedUse u d c i) e = tt
-    kind-fits v p ConstraintConflict e = tt
-    kind-fits v p (ClassUse s c) e = tt
-    kind-fits v p (ClassDef s c) e = tt
-    kind-fits v p (GroupClassUse s c i) e = group-use-fits v p s c i e
-    kind-fits v p (GroupClassDef s c i) e = group-use-fits v p s c i e
-    kind-fits v p (BlockparamIn q) e = tt
-    kind-fits v p BlockparamOut e = tt
-
     uses-fit : (s : Segment) → usesOk job s ≡ true → All (UseFits job) (s .uses)
-    unfolding usesOk useOk
-    uses-fit s e =
-        all-map _ (UseFits job) (λ u d. kind-fits (s .value) (u .pos) (u .kind) (conj-all (useTests job s u) d .1 .0)) (s .uses)
-        (every-all (useOk job s) (s .uses) (and-both (every (useOk job s) (s .uses)) _ e .0))
+    uses-fit s e = uses-are job (GroupUse job) s (group-use-fits (s .value)) e
 
 -- ---- the promises for an accepted job
 

@@ -22,7 +22,7 @@ use Rattle.definition.specs.Promised.{In, Transitive}
 use Rattle.definition.proofs.Places.{All, all-getD, all-set, all-map, bind-some, bind-done, update-length, gate-done}
 use Rattle.definition.proofs.Classes.{Masks, Serves, Below, common-in, below-in, below-trans, serves-below, same-step, class-step}
 use Rattle.definition.proofs.Scans.{scan-step}
-use Rattle.definition.proofs.Tables.{nth, update-same, update-other, same-vreg, same-group, memb, Inside, spread-at, spread-in, spread-out, getD-memb, memb-all, all-memb, spread-len, nth-left, nth-last, AllMapped, OnMapped, mapped-found, map-all, or-empty, operandAt, all-inserted, by-pieces, piece-uses, guarded}
+use Rattle.definition.proofs.Tables.{nth, update-same, update-other, same-vreg, same-group, memb, Inside, spread-at, spread-in, spread-out, getD-memb, memb-all, all-memb, spread-len, nth-left, nth-last, AllMapped, OnMapped, mapped-found, map-all, or-empty, operandAt, all-inserted, by-pieces, piece-uses, guarded, KindIs, kind-cases}
 use Rattle.definition.proofs.Entries.{and-both}
 use Rattle.definition.proofs.Runs.{SegOk, PieceOk, RunOk, runs-all, sets-kept}
 
@@ -58,16 +58,7 @@ abbrev pub GroupUse : Job → Inst → ℕ → RegClass → ℕ → Type 0
 GroupUse job p s c i = (asked job p s ≡ c) × (2 ≤ sizeOf job c) × (i < sizeOf job c)
 
 abbrev pub KindFits : Job → Inst → UseKind → Type 0
-KindFits job p (FixedDef r) = Unit {0}
-KindFits job p (FixedUse r) = Unit {0}
-KindFits job p (TiedUse u d c i) = Unit {0}
-KindFits job p ConstraintConflict = Unit {0}
-KindFits job p (ClassUse s c) = Unit {0}
-KindFits job p (ClassDef s c) = Unit {0}
-KindFits job p (GroupClassUse s c i) = GroupUse job p s c i
-KindFits job p (GroupClassDef s c i) = GroupUse job p s c i
-KindFits job p (BlockparamIn q) = Unit {0}
-KindFits job p BlockparamOut = Unit {0}
+KindFits job p k = KindIs (GroupUse job p) k
 
 -- a class of two places or more has subclasses of its own size only
 abbrev pub Sizes : Job → Type 0
@@ -198,17 +189,9 @@ module _ (job : Job) (ms : Masks job) (tr : Transitive job) (sz : Sizes job) (st
       (s .0, s .1, subst (HeldOk job st κ) (Option·some-injective _ _ (r .2)) (narrow-group (h .class) (r .0) (h .target) (h .group) (j .0) o))
 
   kind-next : (h : Held) (p : Inst) (k : UseKind) (g : Held) → HeldOk job st κ h → KindFits job p k → admitKind job st h p k ≡ some g → Next h g k
-  unfolding admitKind
-  kind-next h p (FixedDef r) g o u e = plain-next h g (FixedDef r) o e refl
-  kind-next h p (FixedUse r) g o u e = plain-next h g (FixedUse r) o e refl
-  kind-next h p (TiedUse a b c i) g o u e = plain-next h g (TiedUse a b c i) o e refl
-  kind-next h p ConstraintConflict g o u e = plain-next h g ConstraintConflict o e refl
-  kind-next h p (ClassUse s c) g o u e = class-next h c g (ClassUse s c) o refl e
-  kind-next h p (ClassDef s c) g o u e = class-next h c g (ClassDef s c) o refl e
-  kind-next h p (GroupClassUse s c i) g o u e = group-step h p s c i g (GroupClassUse s c i) refl o u e
-  kind-next h p (GroupClassDef s c i) g o u e = group-step h p s c i g (GroupClassDef s c i) refl o u e
-  kind-next h p (BlockparamIn q) g o u e = plain-next h g (BlockparamIn q) o e refl
-  kind-next h p BlockparamOut g o u e = plain-next h g BlockparamOut o e refl
+  kind-next h p k g o u e =
+      kind-cases job st h g p (GroupUse job p) (Next h g) (λ k n m f. plain-next h g k o f n) (λ k c n m f. class-next h c g k o n f)
+      (λ k s c i n m a f. group-step h p s c i g k n o a f) k u e
 
   -- a scan that goes through, groups and all
   pub scan-sound : (us : List Use) (h g : Held) → HeldOk job st κ h → All (λ u. KindFits job (u .pos) (u .kind)) us → scan job st us h ≡ through g

@@ -12,18 +12,18 @@ use lib.Seq.{getD-append-add, getD-set-same, getD-set-other}
 use lib.Dec.{ltb, eqb}
 use lib.Ieee.{Float}
 use borrow.Author.Tests.{ltb-true, ltb-false, eqb-true, eqb-false, eq-eqb, ne-eqb}
-use Rattle.definition.specs.Types.{Inst, Value, ValueSet, RegClass, VirtReg, VirtRegGroup, UseKind, FixedDef, FixedUse, TiedUse, ConstraintConflict, ClassUse, ClassDef, GroupClassUse, GroupClassDef, BlockparamIn, BlockparamOut, Use, ClassData, Operand, Segment, Job, Room, HeldGroup, Held, Piece, Register, Mapped, State, MappedTwice, Overlap, done, inst, val, vset, vreg, vrgroup}
+use Rattle.definition.specs.Types.{Inst, Value, ValueSet, RegClass, VirtReg, VirtRegGroup, UseKind, Use, ClassData, Operand, Segment, Job, Room, HeldGroup, Held, Piece, Register, Mapped, State, MappedTwice, Overlap, done, inst, val, vset, vreg, vrgroup}
 use Rattle.definition.specs.RegInfo.{classAt, commonSubclass, setOf}
 use Rattle.definition.specs.Uses.{slotOf}
 use Rattle.definition.specs.Weights.{weightOf}
 use Rattle.definition.specs.Admit.{admit, admitClass, admitGroup, admitKind, atPlace, fresh, groupFits, guard, inGroup, mappedAt, mappingFits, membersAt, narrowed, noRegister, registerAt, sameSets, scan, setsAt, through, vgroupAt}
 use Rattle.definition.specs.Place.{alone, aloneState, firstFrom, groupWeight, hasRoom, inserted, isNone, join, joinState, lastTo, lead, leadState, made, mapUses, merge, mergeState, orElse, overlaps, place, placeBy, placeGroup, segsOf, spread, update, usesOf, withPieces, withWeight}
 use Rattle.definition.specs.Build.{Result, build, buildSets, empty, runs, sameSet}
-use Rattle.definition.specs.Entry.{every, functionOk, groupUseOk, kindOk, membersOf, useOk, useTests, usesOk}
+use Rattle.definition.specs.Entry.{every, functionOk, groupUseOk, membersOf, usesOk}
 use Rattle.definition.proofs.Places.{All, all-append, all-getD, all-map, bind-some, bind-done, gate-done, update-length}
-use Rattle.definition.proofs.Entries.{and-both, conj-all, every-all}
+use Rattle.definition.proofs.Entries.{and-both, every-all}
 use Rattle.definition.proofs.Scans.{scan-step}
-use Rattle.definition.proofs.Tables.{nth, same-group, nth-left, AllMapped, mapped-found, map-all, or-empty, operandAt, vgroup-at, all-inserted, piece-uses, guarded}
+use Rattle.definition.proofs.Tables.{nth, same-group, nth-left, AllMapped, mapped-found, map-all, or-empty, operandAt, vgroup-at, all-inserted, piece-uses, guarded, KindIs, kind-cases, uses-are}
 use Rattle.definition.proofs.Runs.{SegOk, PieceOk, RunOk, runs-all, sets-kept}
 use Rattle.definition.proofs.Order.{AllOf, Rise}
 use Rattle.definition.proofs.Accepted.{group-operand}
@@ -33,17 +33,11 @@ abbrev pub InSet : Job → Register → Type 0
 InSet job r = All (λ p. setOf job (p .seg .value) ≡ r .set) (r .pieces)
 
 -- a group use's index names a member of the set u
+abbrev IndexIn : Job → ValueSet → Inst → ℕ → RegClass → ℕ → Type 0
+IndexIn job u p s c i = getD (setsAt job p s) i (vset 0) ≡ u
+
 abbrev pub KindIn : Job → ValueSet → Inst → UseKind → Type 0
-KindIn job u p (FixedDef r) = Unit {0}
-KindIn job u p (FixedUse r) = Unit {0}
-KindIn job u p (TiedUse x d c i) = Unit {0}
-KindIn job u p ConstraintConflict = Unit {0}
-KindIn job u p (ClassUse s c) = Unit {0}
-KindIn job u p (ClassDef s c) = Unit {0}
-KindIn job u p (GroupClassUse s c i) = getD (setsAt job p s) i (vset 0) ≡ u
-KindIn job u p (GroupClassDef s c i) = getD (setsAt job p s) i (vset 0) ≡ u
-KindIn job u p (BlockparamIn q) = Unit {0}
-KindIn job u p BlockparamOut = Unit {0}
+KindIn job u p k = KindIs (IndexIn job u p) k
 
 abbrev pub UseIn : Job → ValueSet → Use → Type 0
 UseIn job u w = KindIn job u (w .pos) (w .kind)
@@ -177,17 +171,9 @@ module _ (job : Job) (st : State) (σ : VirtRegGroup → List ValueSet) (ok : Ri
       subst (λ (x : Held). Next h x p k) q (r, λ xs d. d, λ s d. let z : _≡_ {A = ℕ} 0 1 = cc in absurd (omega arith))
 
   kind-next : (h g : Held) (p : Inst) (k : UseKind) → HeldRight h → KindIn job u p k → admitKind job st h p k ≡ some g → Next h g p k
-  unfolding admitKind
-  kind-next h g p (FixedDef x) r i e = plain-next h g p (FixedDef x) refl r e
-  kind-next h g p (FixedUse x) r i e = plain-next h g p (FixedUse x) refl r e
-  kind-next h g p (TiedUse x d c y) r i e = plain-next h g p (TiedUse x d c y) refl r e
-  kind-next h g p ConstraintConflict r i e = plain-next h g p ConstraintConflict refl r e
-  kind-next h g p (ClassUse s c) r i e = class-next h g p c (ClassUse s c) refl r e
-  kind-next h g p (ClassDef s c) r i e = class-next h g p c (ClassDef s c) refl r e
-  kind-next h g p (GroupClassUse s c x) r i e = group-next h g p s c x (GroupClassUse s c x) refl r i e
-  kind-next h g p (GroupClassDef s c x) r i e = group-next h g p s c x (GroupClassDef s c x) refl r i e
-  kind-next h g p (BlockparamIn q) r i e = plain-next h g p (BlockparamIn q) refl r e
-  kind-next h g p BlockparamOut r i e = plain-next h g p BlockparamOut refl r e
+  kind-next h g p k r i e =
+      kind-cases job st h g p (IndexIn job u p) (Next h g p) (λ k n m f. plain-next h g p k m r f) (λ k c n m f. class-next h g p c k m r f)
+      (λ k s c x n m a f. group-next h g p s c x k m r a f) k i e
 
   scan-next : (us : List Use) (h g : Held) → HeldRight h → All (UseIn job u) us → scan job st us h ≡ through g
       → HeldRight g × Persists h g × All (λ w. Agrees job (g .group) (w .pos) (w .kind)) us
@@ -486,27 +472,11 @@ module _ (job : Job) where
         ap (λ (xs : List Value). getD (map (λ x. setOf job x) xs) i (vset 0)) q
         ∙ getD-map (λ x. setOf job x) (val 0) (vset 0) (membersOf job (operandAt (job .operands) p s .vgroup)) i (t .3) ∙ ap (λ (x : Value). setOf job x) (t .4)
 
-    kind-in : (v : Value) (p : Inst) (k : UseKind) → kindOk job v p k ≡ true → KindIn job (setOf job v) p k
-    unfolding kindOk
-    kind-in v p (FixedDef r) e = tt
-    kind-in v p (FixedUse r) e = tt
-    kind-in v p (TiedUse u d c i) e = tt
-    kind-in v p ConstraintConflict e = tt
-    kind-in v p (ClassUse s c) e = tt
-    kind-in v p (ClassDef s c) e = tt
-    kind-in v p (GroupClassUse s c i) e = group-in v p s c i e
-    kind-in v p (GroupClassDef s c i) e = group-in v p s c i e
-    kind-in v p (BlockparamIn q) e = tt
-    kind-in v p BlockparamOut e = tt
-
     abbrev pub UsesIn : Segment → Type 0
     UsesIn s = All (UseIn job (setOf job (s .value))) (s .uses)
 
     uses-in : (s : Segment) → usesOk job s ≡ true → UsesIn s
-    unfolding usesOk useOk
-    uses-in s e =
-        all-map _ (UseIn job (setOf job (s .value))) (λ u d. kind-in (s .value) (u .pos) (u .kind) (conj-all (useTests job s u) d .1 .0)) (s .uses)
-        (every-all (useOk job s) (s .uses) (and-both (every (useOk job s) (s .uses)) _ e .0))
+    uses-in s e = uses-are job (IndexIn job (setOf job (s .value))) s (group-in (s .value)) e
 
     one-run : (u : ValueSet) (ss : List Segment) → AllOf job u ss → All UsesIn ss → All (SegOk (ValueIn job) (UseIn job) u) ss
     one-run u [] a b = tt

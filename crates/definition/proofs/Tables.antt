@@ -11,11 +11,13 @@ use lib.Seq.{getD-append-add}
 use lib.Dec.{leb, eqb}
 use lib.Ieee.{Float}
 use borrow.Author.Tests.{eqb-true, eqb-false, eq-eqb}
-use Rattle.definition.specs.Types.{Inst, Value, ValueSet, RegClass, VirtReg, VirtRegGroup, LiveRangePoint, UseKind, Use, Operand, Segment, Piece, Register, Mapped, inst, cls, vreg, vrgroup}
-use Rattle.definition.specs.Uses.{slotOf}
-use Rattle.definition.specs.Admit.{guard, mappedAt, noRegister, vgroupAt}
+use Rattle.definition.specs.Types.{Inst, Value, ValueSet, RegClass, VirtReg, VirtRegGroup, LiveRangePoint, UseKind, FixedDef, FixedUse, TiedUse, ConstraintConflict, ClassUse, ClassDef, GroupClassUse, GroupClassDef, BlockparamIn, BlockparamOut, Use, Operand, Segment, Job, Held, Piece, Register, Mapped, State, inst, cls, vreg, vrgroup}
+use Rattle.definition.specs.Uses.{classOf, slotOf}
+use Rattle.definition.specs.Admit.{admitClass, admitGroup, admitKind, guard, mappedAt, noRegister, vgroupAt}
 use Rattle.definition.specs.Place.{inserted, mapOne, mapUses, onMapping, orElse, segsOf, slotD, spread, update, usesOf, withWeight}
-use Rattle.definition.proofs.Places.{All, all-split, all-append, update-length}
+use Rattle.definition.specs.Entry.{every, groupUseOk, kindOk, useOk, useTests, usesOk}
+use Rattle.definition.proofs.Places.{All, all-map, all-split, all-append, update-length}
+use Rattle.definition.proofs.Entries.{and-both, conj-all, every-all}
 use Rattle.definition.proofs.Runs.{PieceOk}
 
 -- ---- registers by number
@@ -253,3 +255,59 @@ pub guarded : (b : Bool) (u : Unit {0}) → guard b ≡ some u → b ≡ true
 unfolding guard
 guarded true u e = refl
 guarded false u e = let z : _≡_ {A = ℕ} 0 1 = cc in absurd (omega arith)
+
+-- ---- uses by their kinds
+
+-- a fact on slot, class and index of a group use
+abbrev pub KindIs : (ℕ → RegClass → ℕ → Type 0) → UseKind → Type 0
+KindIs G (FixedDef r) = Unit {0}
+KindIs G (FixedUse r) = Unit {0}
+KindIs G (TiedUse u d c i) = Unit {0}
+KindIs G ConstraintConflict = Unit {0}
+KindIs G (ClassUse s c) = Unit {0}
+KindIs G (ClassDef s c) = Unit {0}
+KindIs G (GroupClassUse s c i) = G s c i
+KindIs G (GroupClassDef s c i) = G s c i
+KindIs G (BlockparamIn q) = Unit {0}
+KindIs G BlockparamOut = Unit {0}
+
+module _ (job : Job) where
+  -- what the entry rules give of each group use
+  kind-is : (v : Value) (p : Inst) (G : ℕ → RegClass → ℕ → Type 0) → ((s : ℕ) (c : RegClass) (i : ℕ) → groupUseOk job v p s c i ≡ true → G s c i)
+      → (k : UseKind) → kindOk job v p k ≡ true → KindIs G k
+  unfolding kindOk
+  kind-is v p G f (FixedDef r) e = tt
+  kind-is v p G f (FixedUse r) e = tt
+  kind-is v p G f (TiedUse u d c i) e = tt
+  kind-is v p G f ConstraintConflict e = tt
+  kind-is v p G f (ClassUse s c) e = tt
+  kind-is v p G f (ClassDef s c) e = tt
+  kind-is v p G f (GroupClassUse s c i) e = f s c i e
+  kind-is v p G f (GroupClassDef s c i) e = f s c i e
+  kind-is v p G f (BlockparamIn q) e = tt
+  kind-is v p G f BlockparamOut e = tt
+
+  pub uses-are : (G : Inst → ℕ → RegClass → ℕ → Type 0) (t : Segment) → ((p : Inst) (s : ℕ) (c : RegClass) (i : ℕ) → groupUseOk job (t .value) p s c i ≡ true → G p s c i)
+      → usesOk job t ≡ true → All (λ u. KindIs (G (u .pos)) (u .kind)) (t .uses)
+  unfolding usesOk useOk
+  uses-are G t f e =
+      all-map _ (λ u. KindIs (G (u .pos)) (u .kind)) (λ u d. kind-is (t .value) (u .pos) (G (u .pos)) (f (u .pos)) (u .kind) (conj-all (useTests job t u) d .1 .0)) (t .uses)
+      (every-all (useOk job t) (t .uses) (and-both (every (useOk job t) (t .uses)) _ e .0))
+
+  -- an admitted use is of a kind that changes nothing held, a class use of no group, or a group use
+  pub kind-cases : (st : State) (h g : Held) (p : Inst) (G : ℕ → RegClass → ℕ → Type 0) (Q : UseKind → Type 0)
+      → ((k : UseKind) → classOf k ≡ none → slotOf k ≡ none → some h ≡ some g → Q k)
+      → ((k : UseKind) (c : RegClass) → classOf k ≡ some c → slotOf k ≡ none → admitClass job h c ≡ some g → Q k)
+      → ((k : UseKind) (s : ℕ) (c : RegClass) (i : ℕ) → classOf k ≡ some c → slotOf k ≡ some s → G s c i → admitGroup job st h p s c i ≡ some g → Q k)
+      → (k : UseKind) → KindIs G k → admitKind job st h p k ≡ some g → Q k
+  unfolding admitKind
+  kind-cases st h g p G Q plain class group (FixedDef r) a e = plain (FixedDef r) refl refl e
+  kind-cases st h g p G Q plain class group (FixedUse r) a e = plain (FixedUse r) refl refl e
+  kind-cases st h g p G Q plain class group (TiedUse u d c i) a e = plain (TiedUse u d c i) refl refl e
+  kind-cases st h g p G Q plain class group ConstraintConflict a e = plain ConstraintConflict refl refl e
+  kind-cases st h g p G Q plain class group (ClassUse s c) a e = class (ClassUse s c) c refl refl e
+  kind-cases st h g p G Q plain class group (ClassDef s c) a e = class (ClassDef s c) c refl refl e
+  kind-cases st h g p G Q plain class group (GroupClassUse s c i) a e = group (GroupClassUse s c i) s c i refl refl a e
+  kind-cases st h g p G Q plain class group (GroupClassDef s c i) a e = group (GroupClassDef s c i) s c i refl refl a e
+  kind-cases st h g p G Q plain class group (BlockparamIn q) a e = plain (BlockparamIn q) refl refl e
+  kind-cases st h g p G Q plain class group BlockparamOut a e = plain BlockparamOut refl refl e
