@@ -1,4 +1,4 @@
--- An accepted job: the entry rules give what class admission asks for, and the three promises in one place. Assumes nothing.
+-- An accepted job: what the entry rules give of its classes and of the operands of its group uses, and what holds of its result, in one record. Assumes nothing.
 use mathlib.Core.Path.{_≡_, refl, ap, sym, _∙_, subst}
 use Prim.Native.Nat.{ℕ, zero, suc, _/_, _%_, _^_, _≤_, _<_}
 use native.Mathlib.Nat.{pow-suc, le-trans}

@@ -13,8 +13,8 @@ use Rattle.definition.specs.Cuts.{leftOf, rightOf}
 use Rattle.definition.specs.Place.{total}
 use Rattle.definition.specs.Build.{one, runs, sameSet}
 use Rattle.definition.specs.Entry.{behind, chained, every, kindOk, segmentOk, segmentsOk, useOk, useTests, usesOk}
-use Rattle.definition.specs.Promised.{Follows, addedIn, addedPieces, classUsesAt, covered, covers, had, held, holds, isMark, marksAt, ofSet, ownIn, ownOf, ownPieces, sameUse}
-use Rattle.definition.proofs.Cuts.{halves, point-parted}
+use Rattle.definition.specs.Promised.{Follows, addedIn, addedPieces, classUsesAt, covered, covers, had, held, isMark, marksAt, ofSet, ownIn, ownOf, ownPieces, sameUse}
+use Rattle.definition.proofs.Cuts.{halves}
 use Rattle.definition.proofs.Places.{total-append, counted, All, all-map}
 use Rattle.definition.proofs.Points.{Additive, cond-sum, ofOwn, Steady, ownUses}
 use Rattle.definition.proofs.ReadBack.{Test, ofPiece}
@@ -94,9 +94,6 @@ led-additive job s ν add = record {
   parted = λ hs p t a b. cond-sum (eqb (setOf job (t .value) .0) (s .0)) (ν (leftOf hs p t)) (ν (rightOf hs p t)) (ν t) (add .parted hs p t a b);
   kept = λ n t c. ap (λ (m : ℕ). cond (eqb (setOf job (t .value) .0) (s .0)) m 0) (add .kept n t c);
 }
-
-pub held-additive : (v : Value) (x : ℕ) → Additive (λ t. one (holds v x t))
-held-additive v x = record { parted = point-parted v x; kept = λ n t c. refl }
 
 pub covered-additive : (x : ℕ) → Additive (λ t. one (covers x t))
 unfolding leftOf rightOf

@@ -17,7 +17,7 @@ use Rattle.definition.specs.Entry.{answer, entry, entryTests, every, use
 use Rattle.definition.specs.Lines.{Line, printed}
 use Rattle.definition.specs.Promised.{Follows, In, Listed, Transitive, addedIn, byFirst, classUsesAt, covered, had, held, inputOf, isMark, marksAt, ofSet, ownIn, ownOf, sameUse, valued}
 use Rattle.definition.proofs.Places.{All}
-use Rattle.definition.proofs.Points.{Additive, ofOwn, ownUses, built-same}
+use Rattle.definition.proofs.Points.{Additive, points-additive, ofOwn, ownUses, built-same}
 use Rattle.definition.proofs.Entries.{lowest-none}
 use Rattle.definition.proofs.Tables.{nth}
 use Rattle.definition.proofs.Accepted.{Kept, kept, accepted}
@@ -26,7 +26,7 @@ use Rattle.definition.proofs.Same.{class-test, other-test, first-total,
 use Rattle.definition.proofs.Printed.{readPoint, readUse, usesIn, points-read, uses-read}
 use Rattle.definition.proofs.Sets.{InSet, built-in-set, runs-in}
 use Rattle.definition.proofs.Marks.{markedFor, valued-had, listed-marked}
-use Rattle.definition.proofs.Owned.{both-counted, led-counted, led-additive, held-additive, covered-additive, covered-once, held-covered, counted-same, of-led, own-led, accepted-rise, no-mark-had, marks-turned}
+use Rattle.definition.proofs.Owned.{both-counted, led-counted, led-additive, covered-additive, covered-once, held-covered, counted-same, of-led, own-led, accepted-rise, no-mark-had, marks-turned}
 
 -- ---- what an accepted job is known to be
 
@@ -120,7 +120,7 @@ pub promise-points : (job : Job) (room : Room) (res : Result) → answer job roo
     × ((x : ℕ) → (covered x (ownOf s (res .registers)) ≡ covered x (inputOf job s)) × (covered x (inputOf job s) ≤ 1))
 unfolding held covered inputOf
 promise-points job room res e s = (
-  λ v x. (same _ (held-additive v x), omega (arith, held-covered v x (inputOf job s), once x)),
+  λ v x. (same _ (points-additive v x), omega (arith, held-covered v x (inputOf job s), once x)),
   λ x. (same _ (covered-additive x), once x),
 )
   where
