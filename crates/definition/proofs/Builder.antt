@@ -224,16 +224,16 @@ set-kept job room s ss Inv k st st′ i e =
 module _ (job : Job) (room : Room) (Inv : State → List (List Segment) → Type 0)
     (set : (s : Segment) (ss : List Segment) (rest : List (List Segment)) (st st′ : State) → Inv st ((s ∷ ss) ∷ rest) → buildSet job room (s ∷ ss) st ≡ done st′ → Inv st′ rest)
     (skip : (rest : List (List Segment)) (st : State) → Inv st ([] ∷ rest) → Inv st rest) where
-  pub sets-kept : (rest : List (List Segment)) (st st′ : State) → Inv st rest → buildSets job room rest st ≡ done st′ → Inv st′ []
+  pub all-sets-kept : (rest : List (List Segment)) (st st′ : State) → Inv st rest → buildSets job room rest st ≡ done st′ → Inv st′ []
   unfolding buildSets buildSet
-  sets-kept [] st st′ i e = let q : st ≡ st′ = cc in subst (λ (x : State). Inv x []) q i
-  sets-kept ([] ∷ rest) st st′ i e = sets-kept rest st st′ (skip rest st i) e
-  sets-kept ((s ∷ ss) ∷ rest) st st′ i e =
+  all-sets-kept [] st st′ i e = let q : st ≡ st′ = cc in subst (λ (x : State). Inv x []) q i
+  all-sets-kept ([] ∷ rest) st st′ i e = all-sets-kept rest st st′ (skip rest st i) e
+  all-sets-kept ((s ∷ ss) ∷ rest) st st′ i e =
       let b = bind-done (buildSet job room (s ∷ ss) st) _ st′ e in
-      sets-kept rest (b .0) st′ (set s ss rest st (b .0) i (b .1)) (b .2)
+      all-sets-kept rest (b .0) st′ (set s ss rest st (b .0) i (b .1)) (b .2)
 
   pub built-kept : (res : Result) → Inv empty (runs (sameSet job) (job .segments)) → build job room ≡ done res → (st : State) × Inv st [] × (st .registers ≡ res .registers)
   unfolding build
   built-kept res i e =
       let b = bind-done (buildSets job room (runs (sameSet job) (job .segments)) empty) _ res e in
-      (b .0, sets-kept (runs (sameSet job) (job .segments)) empty (b .0) i (b .1), cc)
+      (b .0, all-sets-kept (runs (sameSet job) (job .segments)) empty (b .0) i (b .1), cc)
