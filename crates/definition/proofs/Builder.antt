@@ -1,20 +1,20 @@
 -- One induction over the builder. A fact on the state, the segments of a set that are not placed yet and its turned uses: where every placing and every turn keep it, it holds when the set is built.
 -- Assumes nothing.
-use mathlib.Core.Path.{_≡_, refl, ap, sym, _∙_, subst}
-use Prim.Native.Nat.{ℕ, zero, suc, _+_, _≤_}
+use mathlib.Core.Path.{_≡_, refl, ap, _∙_, subst}
+use Prim.Native.Nat.{ℕ, zero, suc, _+_, _-_, _*_, _≤_}
 use native.Mathlib.Omega.{arith}
 use mathlib.Core.Bool.{Bool, true, false, cond}
 use mathlib.Core.Option.{Option, none, some}
-use mathlib.Core.List.{List, [], _∷_, _++_, map, append-assoc, append-nil, reverse, reverseAux}
+use mathlib.Core.List.{List, [], _∷_, _++_, map, append-nil, reverse, reverseAux}
 use lib.ListN.{length}
-use lib.Dec.{eqb}
+use lib.Dec.{eqb, leb, ltb}
 use borrow.Author.Tests.{eqb-true}
 use Rattle.definition.specs.Types.{Held, Hint, Inst, Job, Piece, RegClass, Room, Segment, State, Stopped, Turned, Use, Value, ValueSet, ValuesDiffer, done, refused, val}
 use Rattle.definition.specs.RegInfo.{setOf, topOf}
-use Rattle.definition.specs.Cuts.{leftCut, rightCut}
+use Rattle.definition.specs.Cuts.{leftCut, leftOf, rightCut, rightOf}
 use Rattle.definition.specs.Admit.{Move, Scan, admit, admitKind, cut, fails-at, fresh, halt, move, scan, through, turn, whole}
 use Rattle.definition.specs.Place.{place, segsOf, total, usesOf}
-use Rattle.definition.specs.Build.{Built, Result, Round, allOf, asOwn, atInst, build, buildSet, buildSets, classUses, conflictPiece, conflicts, empty, lastFirst, lastFirst′, onto, opening, placeFront, placeRound, placeScan, rounds, runs, sameInst, sameSet, step, steps, try, turnAt, turnedAt}
+use Rattle.definition.specs.Build.{Built, Result, Round, allOf, asOwn, atInst, build, buildSet, buildSets, classUses, conflictPiece, conflicts, empty, lastFirst, lastFirst′, onto, opening, placeFront, placeRound, placeScan, rounds, runs, sameInst, sameSet, step, steps, try, turnAt, turnIn, turnedAt, withUses}
 use Rattle.definition.proofs.Scans.{scan-snoc}
 use Rattle.definition.proofs.Moves.{ClassAt, move-whole, move-turn}
 use Rattle.definition.proofs.Places.{All, all-append, all-first, bind-done, own-uses, total-append}
@@ -122,6 +122,32 @@ all-of v (t ∷ ts) e =
 pub data Part (hs : List Hint) : List Segment → List Segment → List Segment → Type 0 where
   all : (ss : List Segment) → Part hs ss ss []
   before : (p : Inst) (ss : List Segment) → Part hs ss (leftCut hs p ss) (rightCut hs p ss)
+
+-- a fact on segments that both halves of a cut one have, and one with a use turned
+module _ (P : Segment → Type 0) where
+  pub part-all : (hs : List Hint) → ((p : Inst) (s : Segment) → P s → P (leftOf hs p s) × P (rightOf hs p s)) → {ss l r : List Segment} → Part hs ss l r → All P ss → All P l × All P r
+  unfolding leftCut rightCut
+  part-all hs f (all ss) a = (a, tt)
+  part-all hs f (before p ss) a = cut-all ss a
+    where
+      cut-all : (ss : List Segment) → All P ss → All P (leftCut hs p ss) × All P (rightCut hs p ss)
+      cut-all [] a = (tt, tt)
+      cut-all (s ∷ ss) a = go (leb (s .to .0) (4 * p .0)) (ltb (s .«from» .0) (4 * p .0)) refl refl (cut-all ss (a .1))
+        where
+          go : (b c : Bool) → leb (s .to .0) (4 * p .0) ≡ b → ltb (s .«from» .0) (4 * p .0) ≡ c → All P (leftCut hs p ss) × All P (rightCut hs p ss)
+              → All P (leftCut hs p (s ∷ ss)) × All P (rightCut hs p (s ∷ ss))
+          go true c e d ih = rw (e, leftCut, rightCut) ((a .0, ih .0), ih .1)
+          go false true e d ih = let q = f p s (a .0) in rw (e, d, leftCut, rightCut) ((q .0, tt), (q .1, a .1))
+          go false false e d ih = rw (e, d, leftCut, rightCut) (tt, a)
+
+  pub turn-all : ((n : ℕ) (s : Segment) → P s → P (withUses (turnIn n (s .uses)) s)) → (n : ℕ) (ss : List Segment) → All P ss → All P (turnAt n ss)
+  unfolding turnAt
+  turn-all f n [] a = tt
+  turn-all f n (s ∷ ss) a = go (ltb n (length (s .uses))) refl (turn-all f (n - length (s .uses)) ss (a .1))
+    where
+      go : (b : Bool) → ltb n (length (s .uses)) ≡ b → All P (turnAt (n - length (s .uses)) ss) → All P (turnAt n (s ∷ ss))
+      go true e ih = rw (e, turnAt) (f n s (a .0), a .1)
+      go false e ih = rw (e, turnAt) (a .0, ih)
 
 -- a register was placed: the uses of its pieces were all admitted, from the top class
 pub record Placing (job : Job) (room : Room) (u : ValueSet) (new : List Piece) (st st′ : State) : Type 0 where

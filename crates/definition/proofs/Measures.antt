@@ -1,6 +1,6 @@
 -- Counting: where a cut parts what is counted of pieces, a turn moves it to the turned use and a conflict piece takes it from there, the result has as much of it as the job.
 -- Assumes nothing.
-use mathlib.Core.Path.{_≡_, refl, ap, sym, _∙_, subst}
+use mathlib.Core.Path.{_≡_, refl, ap, _∙_, subst}
 use Prim.Native.Nat.{ℕ, _+_, _-_, _≤_, _<_}
 use native.Mathlib.Omega.{arith}
 use mathlib.Core.Bool.{Bool, true, false}
@@ -15,7 +15,7 @@ use Rattle.definition.specs.RegInfo.{setOf}
 use Rattle.definition.specs.Uses.{isClassUse}
 use Rattle.definition.specs.Admit.{fresh, noUse, useAt}
 use Rattle.definition.specs.Place.{segsOf, total, usesOf}
-use Rattle.definition.specs.Build.{Result, asOwn, build, buildSet, conflictPiece, empty, runs, sameSet, turnAt, turnIn, turnedAt, turnedOf, withUses}
+use Rattle.definition.specs.Build.{Result, asOwn, build, buildSet, conflictPiece, runs, sameSet, turnAt, turnIn, turnedAt, turnedOf, withUses}
 use Rattle.definition.proofs.Cuts.{PartedBy, cut-total}
 use Rattle.definition.proofs.Moves.{ClassAt}
 use Rattle.definition.proofs.Places.{All, Groups, counted, placed, scan-target, total-append}

@@ -6,26 +6,23 @@ use Prim.Native.Nat.{ℕ, zero, suc, _+_, _-_, _*_, _≤_, _<_}
 use native.Mathlib.Nat.{zero-add}
 use native.Mathlib.Omega.{arith}
 use mathlib.Core.Bool.{Bool, true, false, cond, _&&_, _||_}
-use mathlib.Core.Option.{Option}
 use mathlib.Core.List.{List, [], _∷_, _++_, append-assoc, append-nil}
-use lib.ListN.{length, getD, length-append, List·getD-append}
-use lib.Seq.{getD-append-add}
+use lib.ListN.{length}
 use lib.Dec.{leb, ltb, eqb}
 use borrow.Author.Tests.{ltb-true, ltb-false, eqb-true, eqb-false, eq-eqb, ne-eqb}
-use Rattle.definition.specs.Types.{Held, Hint, Inst, Job, Origin, Piece, RegClass, Register, Room, Segment, State, Turned, Use, Value, ValueSet, done, vset}
-use Rattle.definition.specs.RegInfo.{setOf, topOf}
+use Rattle.definition.specs.Types.{Hint, Inst, Job, Register, Room, Segment, State, Use, Value, ValueSet, done, vset}
+use Rattle.definition.specs.RegInfo.{setOf}
 use Rattle.definition.specs.Uses.{isClassUse}
 use Rattle.definition.specs.Cuts.{leftCut, leftOf, rightCut, rightOf}
-use Rattle.definition.specs.Admit.{Move, cut, fresh, halt, move, noUse, turn, useAt, whole}
-use Rattle.definition.specs.Place.{place, total, usesOf}
+use Rattle.definition.specs.Place.{total, usesOf}
 use Rattle.definition.specs.Build.{Result, build, buildSet, buildSets, conflictPiece, empty, onto, runs, sameSet, turnAt, turnIn, turnedUse}
 use Rattle.definition.specs.Entry.{behind, chained}
 use Rattle.definition.specs.Promised.{Follows, Listed, StandsFor, ofSet, under, valued}
 use Rattle.definition.proofs.Cuts.{uses-cut}
-use Rattle.definition.proofs.Moves.{ClassAt, move-whole, move-turn}
+use Rattle.definition.proofs.Moves.{ClassAt}
 use Rattle.definition.proofs.Fits.{SegsFit, turn-fit, right-fit}
-use Rattle.definition.proofs.Places.{total-append, bind-done, counted, Groups, placed, scan-target, All, all-append}
-use Rattle.definition.proofs.Builder.{Keeps, Part, Placing, all, before, joined, joined-runs, set-kept}
+use Rattle.definition.proofs.Places.{total-append, bind-done, counted, Groups, All, all-append}
+use Rattle.definition.proofs.Builder.{Keeps, Part, all, before, joined, joined-runs, part-all, set-kept, turn-all}
 use Rattle.definition.proofs.Measures.{Grown, class-left, class-right, own-grown, placing-grown}
 use Rattle.definition.proofs.Points.{ofOwn}
 use Rattle.definition.proofs.Entries.{and-both, Good, next-to, from-on}
@@ -126,26 +123,6 @@ cut-follows hs p made (s ∷ ss) q h f = go (leb (s .to .0) (4 * p .0)) (ltb (s 
 abbrev pub AllOf : Job → ValueSet → List Segment → Type 0
 AllOf job u ss = All (λ s. setOf job (s .value) ≡ u) ss
 
-cut-of : (job : Job) (u : ValueSet) (hs : List Hint) (p : Inst) (ss : List Segment) → AllOf job u ss → AllOf job u (leftCut hs p ss) × AllOf job u (rightCut hs p ss)
-unfolding leftCut rightCut leftOf rightOf
-cut-of job u hs p [] a = (tt, tt)
-cut-of job u hs p (s ∷ ss) a = go (leb (s .to .0) (4 * p .0)) (ltb (s .«from» .0) (4 * p .0)) refl refl (cut-of job u hs p ss (a .1))
-  where
-    go : (b c : Bool) → leb (s .to .0) (4 * p .0) ≡ b → ltb (s .«from» .0) (4 * p .0) ≡ c → AllOf job u (leftCut hs p ss) × AllOf job u (rightCut hs p ss)
-        → AllOf job u (leftCut hs p (s ∷ ss)) × AllOf job u (rightCut hs p (s ∷ ss))
-    go true c e f ih = rw (e, leftCut, rightCut) ((a .0, ih .0), ih .1)
-    go false true e f ih = rw (e, f, leftCut, rightCut) ((a .0, tt), (a .0, a .1))
-    go false false e f ih = rw (e, f, leftCut, rightCut) (tt, a)
-
-turn-of : (job : Job) (u : ValueSet) (n : ℕ) (ss : List Segment) → AllOf job u ss → AllOf job u (turnAt n ss)
-unfolding turnAt
-turn-of job u n [] a = tt
-turn-of job u n (s ∷ ss) a = go (ltb n (length (s .uses))) refl (turn-of job u (n - length (s .uses)) ss (a .1))
-  where
-    go : (b : Bool) → ltb n (length (s .uses)) ≡ b → AllOf job u (turnAt (n - length (s .uses)) ss) → AllOf job u (turnAt n (s ∷ ss))
-    go true e ih = rw (e, turnAt) a
-    go false e ih = rw (e, turnAt) (a .0, ih)
-
 -- ---- a part that is placed, and what is left
 
 module _ (hs : List Hint) where
@@ -162,10 +139,6 @@ module _ (hs : List Hint) where
       go (s ∷ ss) q h = (h .0, h .1, go ss (s .to .0) (h .3))
   part-follows (before p ss) made q h f = cut-follows hs p made ss q h f
 
-  part-of : (job : Job) (u : ValueSet) {ss l r : List Segment} → Part hs ss l r → AllOf job u ss → AllOf job u l × AllOf job u r
-  part-of job u (all ss) a = (a, tt)
-  part-of job u (before p ss) a = cut-of job u hs p ss a
-
 -- ---- what a run over the segments ss₀ has made where the segments ss are left
 
 pub record Made (job : Job) (st₀ : State) (ss₀ : List Segment) (st : State) (ss : List Segment) : Type 0 where
@@ -178,7 +151,7 @@ pub record Made (job : Job) (st₀ : State) (ss₀ : List Segment) (st : State) 
   pub groups : Groups st
 
 made-kept : (job : Job) (room : Room) (set′ : ValueSet) (st₀ : State) (ss₀ : List Segment) → Keeps job room set′ (λ st ss ts. Made job st₀ ss₀ st ss)
-unfolding conflictPiece total
+unfolding conflictPiece total leftOf rightOf
 made-kept job room set′ st₀ ss₀ = record {
   part = λ ss l r ts st st′ p x i.
       let g : (ν : Segment → ℕ) → Grown (ofOwn ν) (total ν l) st st′ = λ ν. own-grown (ofOwn ν) job room set′ l st st′ (i .groups) x in
@@ -189,7 +162,7 @@ made-kept job room set′ st₀ ss₀ = record {
         listed = rw (valued-append, append-assoc, part-valued (job .hints) p) (i .listed);
         led = λ u a.
             let c = i .led u a in
-            let d = part-of (job .hints) job u p (c .1) in
+            let d = part-all (λ s. setOf job (s .value) ≡ u) (job .hints) (λ p s a. (a, a)) p (c .1) in
             (all-append (λ s. setOf job (s .value) ≡ u) (i .pieces) l (c .0) (d .0), d .1);
         groups = g (λ _. 0) .1;
       };
@@ -199,7 +172,7 @@ made-kept job room set′ st₀ ss₀ = record {
     follow = λ made f. i .follow made (λ q h. f q (turn-fit ss n q h));
     listed = listed-trans (valued ss₀) (valued (i .pieces) ++ valued ss) (valued (i .pieces) ++ valued (turnAt n ss)) (i .listed)
         (listed-append (valued (i .pieces)) (valued (i .pieces)) (valued ss) (valued (turnAt n ss)) (listed-refl (valued (i .pieces))) (turn-listed n ss c));
-    led = λ u a. (i .led u a .0, turn-of job u n ss (i .led u a .1));
+    led = λ u a. (i .led u a .0, turn-all (λ s. setOf job (s .value) ≡ u) (λ n s a. a) n ss (i .led u a .1));
     groups = i .groups;
   };
   conflict = λ v p o w ws us left more st st′ x a y i.

@@ -5,7 +5,6 @@ use Prim.Native.Nat.{ℕ, zero, suc, _+_}
 use native.Mathlib.Omega.{arith}
 use mathlib.Core.Bool.{Bool, true, false, cond}
 use mathlib.Core.List.{List, [], _∷_}
-use lib.ListN.{length}
 use lib.Dec.{eqb}
 use Rattle.definition.specs.Types.{Conflict, Hint, Inst, Job, Own, Piece, Room, Segment, Turned, Use, Value, done}
 use Rattle.definition.specs.Uses.{isClassUse}

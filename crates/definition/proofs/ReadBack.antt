@@ -7,7 +7,7 @@ use mathlib.Core.Option.{Option, none, some}
 use mathlib.Core.List.{List, [], _∷_, _++_, map}
 use lib.ListN.{length, getD}
 use lib.Dec.{eqb}
-use Rattle.definition.specs.Types.{BlockparamIn, Inst, Job, Piece, Room, Segment, Turned, Use, UseKind, Value, done}
+use Rattle.definition.specs.Types.{BlockparamIn, Inst, Job, Piece, Room, Turned, Use, Value, done}
 use Rattle.definition.specs.Admit.{noUse}
 use Rattle.definition.specs.Place.{total}
 use Rattle.definition.specs.Build.{Result, build, conflictPiece, one, opening, turnIn, turnedOf, turnedUse}
