@@ -7,6 +7,7 @@ pub mod Fits
 pub mod Fuel
 pub mod Places
 pub mod Measures
+pub mod Builder
 pub mod Points
 pub mod Entries
 pub mod ReadBack

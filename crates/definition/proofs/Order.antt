@@ -6,27 +6,25 @@ use Prim.Native.Nat.{ℕ, zero, suc, _+_, _-_, _*_, _≤_, _<_}
 use native.Mathlib.Nat.{zero-add}
 use native.Mathlib.Omega.{arith}
 use mathlib.Core.Bool.{Bool, true, false, cond, _&&_, _||_}
-use mathlib.Core.Option.{Option}
 use mathlib.Core.List.{List, [], _∷_, _++_, append-assoc, append-nil}
-use lib.ListN.{length, getD, length-append, List·getD-append}
-use lib.Seq.{getD-append-add}
+use lib.ListN.{length}
 use lib.Dec.{leb, ltb, eqb}
 use borrow.Author.Tests.{ltb-true, ltb-false, eqb-true, eqb-false, eq-eqb, ne-eqb}
-use Rattle.definition.specs.Types.{Held, Hint, Inst, Job, Origin, Piece, RegClass, Register, Room, Segment, State, Turned, Use, Value, ValueSet, done, vset}
-use Rattle.definition.specs.RegInfo.{setOf, topOf}
+use Rattle.definition.specs.Types.{Hint, Inst, Job, Register, Room, Segment, State, Use, Value, ValueSet, done, vset}
+use Rattle.definition.specs.RegInfo.{setOf}
 use Rattle.definition.specs.Uses.{isClassUse}
 use Rattle.definition.specs.Cuts.{leftCut, leftOf, rightCut, rightOf}
-use Rattle.definition.specs.Admit.{Move, cut, fresh, halt, move, noUse, turn, useAt, whole}
-use Rattle.definition.specs.Place.{place, total, usesOf}
-use Rattle.definition.specs.Build.{Built, Result, asOwn, build, buildSet, buildSets, classUses, empty, onto, placeFront, runs, sameInst, sameSet, step, steps, turnAt, turnIn, turnedAt, turnedUse}
+use Rattle.definition.specs.Place.{total, usesOf}
+use Rattle.definition.specs.Build.{Result, build, buildSet, buildSets, conflictPiece, empty, onto, runs, sameSet, turnAt, turnIn, turnedUse}
 use Rattle.definition.specs.Entry.{behind, chained}
 use Rattle.definition.specs.Promised.{Follows, Listed, StandsFor, ofSet, under, valued}
 use Rattle.definition.proofs.Cuts.{uses-cut}
-use Rattle.definition.proofs.Moves.{ClassAt, move-whole, move-turn}
+use Rattle.definition.proofs.Moves.{ClassAt}
 use Rattle.definition.proofs.Fits.{SegsFit, turn-fit, right-fit}
-use Rattle.definition.proofs.Places.{total-append, bind-done, counted, Groups, placed, scan-target, All, all-append}
-use Rattle.definition.proofs.Measures.{Grown, class-left, class-right, front-grown, own-grown}
-use Rattle.definition.proofs.Points.{conflicts-own, ofOwn}
+use Rattle.definition.proofs.Places.{total-append, bind-done, counted, Groups, All, all-append}
+use Rattle.definition.proofs.Builder.{Keeps, Part, all, before, joined, joined-runs, part-all, set-kept, turn-all}
+use Rattle.definition.proofs.Measures.{Grown, class-left, class-right, own-grown, placing-grown}
+use Rattle.definition.proofs.Points.{ofOwn}
 use Rattle.definition.proofs.Entries.{and-both, Good, next-to, from-on}
 
 -- ---- uses, place by place
@@ -103,10 +101,6 @@ turn-listed n (s ∷ ss) c = go (ltb n (length (s .uses))) refl (λ d. turn-list
 
 -- ---- segments that follow each other
 
-fit-follows : (q : ℕ) (ss : List Segment) → SegsFit q ss → Follows q ss
-fit-follows q [] h = tt
-fit-follows q (s ∷ ss) h = (h .0, h .1, fit-follows (s .to .0) ss (h .3))
-
 -- the part before a cut, and what is made of the part behind it
 cut-follows : (hs : List Hint) (p : Inst) (made : List Segment) (ss : List Segment) (q : ℕ) → SegsFit q ss → ((r : ℕ) → SegsFit r (rightCut hs p ss) → Follows r made)
     → Follows q (leftCut hs p ss ++ made)
@@ -129,102 +123,81 @@ cut-follows hs p made (s ∷ ss) q h f = go (leb (s .to .0) (4 * p .0)) (ltb (s 
 abbrev pub AllOf : Job → ValueSet → List Segment → Type 0
 AllOf job u ss = All (λ s. setOf job (s .value) ≡ u) ss
 
-cut-of : (job : Job) (u : ValueSet) (hs : List Hint) (p : Inst) (ss : List Segment) → AllOf job u ss → AllOf job u (leftCut hs p ss) × AllOf job u (rightCut hs p ss)
-unfolding leftCut rightCut leftOf rightOf
-cut-of job u hs p [] a = (tt, tt)
-cut-of job u hs p (s ∷ ss) a = go (leb (s .to .0) (4 * p .0)) (ltb (s .«from» .0) (4 * p .0)) refl refl (cut-of job u hs p ss (a .1))
-  where
-    go : (b c : Bool) → leb (s .to .0) (4 * p .0) ≡ b → ltb (s .«from» .0) (4 * p .0) ≡ c → AllOf job u (leftCut hs p ss) × AllOf job u (rightCut hs p ss)
-        → AllOf job u (leftCut hs p (s ∷ ss)) × AllOf job u (rightCut hs p (s ∷ ss))
-    go true c e f ih = rw (e, leftCut, rightCut) ((a .0, ih .0), ih .1)
-    go false true e f ih = rw (e, f, leftCut, rightCut) ((a .0, tt), (a .0, a .1))
-    go false false e f ih = rw (e, f, leftCut, rightCut) (tt, a)
+-- ---- a part that is placed, and what is left
 
-turn-of : (job : Job) (u : ValueSet) (n : ℕ) (ss : List Segment) → AllOf job u ss → AllOf job u (turnAt n ss)
-unfolding turnAt
-turn-of job u n [] a = tt
-turn-of job u n (s ∷ ss) a = go (ltb n (length (s .uses))) refl (turn-of job u (n - length (s .uses)) ss (a .1))
-  where
-    go : (b : Bool) → ltb n (length (s .uses)) ≡ b → AllOf job u (turnAt (n - length (s .uses)) ss) → AllOf job u (turnAt n (s ∷ ss))
-    go true e ih = rw (e, turnAt) a
-    go false e ih = rw (e, turnAt) (a .0, ih)
+module _ (hs : List Hint) where
+  part-valued : {ss l r : List Segment} → Part hs ss l r → valued l ++ valued r ≡ valued ss
+  unfolding valued
+  part-valued (all ss) = append-nil (valued ss)
+  part-valued (before p ss) = cut-valued hs p ss
 
--- ---- what a run over segments makes
-
-pub record Made (job : Job) (st : State) (ss : List Segment) (st′ : State) : Type 0 where
-  -- the own pieces that it adds, in order
-  pub pieces : List Segment
-  pub counts : (ν : Segment → ℕ) → counted (ofOwn ν) (st′ .registers) ≡ counted (ofOwn ν) (st .registers) + total ν pieces
-  pub follow : (q : ℕ) → SegsFit q ss → Follows q pieces
-  pub listed : Listed (valued ss) (valued pieces)
-  pub led : (u : ValueSet) → AllOf job u ss → AllOf job u pieces
-  pub groups : Groups st′
-
-module _ (job : Job) (room : Room) (set′ : ValueSet) (top : RegClass) where
-  steps-made : (f : ℕ) (st : State) (ss : List Segment) (ts : List Turned) (b : Built) → Groups st → steps f job room set′ top st ss ts ≡ done b → Made job st ss (b .state)
-  unfolding steps fresh
-  steps-made zero st ss ts b gs e = let z : _≡_ {A = ℕ} 0 1 = cc in absurd (omega arith)
-  steps-made (suc f) st ss ts b gs e = go (move job st top (usesOf ss)) refl e (λ st′ ss′ ts′ gs′ e′. steps-made f st′ ss′ ts′ b gs′ e′)
+  part-follows : {ss l r : List Segment} → Part hs ss l r → (made : List Segment) (q : ℕ) → SegsFit q ss → ((n : ℕ) → SegsFit n r → Follows n made) → Follows q (l ++ made)
+  part-follows (all ss) made q h f = go ss q h
     where
-      go : (m : Move) → move job st top (usesOf ss) ≡ m → step job room set′ top st ss ts (λ st′ ss′ ts′. steps f job room set′ top st′ ss′ ts′) m ≡ done b
-          → ((st′ : State) (ss′ : List Segment) (ts′ : List Turned) → Groups st′ → steps f job room set′ top st′ ss′ ts′ ≡ done b → Made job st′ ss′ (b .state))
-          → Made job st ss (b .state)
-      go (whole h) m a ih =
-          let p = bind-done (place job room set′ h (asOwn ss) st) _ b a in
-          let g : (ν : Segment → ℕ) → Grown (ofOwn ν) (total ν ss) st (p .0) =
-          λ ν. own-grown (ofOwn ν) job room set′ top ss h st (p .0) gs (move-whole job st top (usesOf ss) h m) (p .1) in
-          let s : p .0 ≡ b .state = cc in
-          subst (Made job st ss) s (record {
-            pieces = ss;
-            counts = λ ν. g ν .0;
-            follow = λ q h. fit-follows q ss h;
-            listed = listed-refl (valued ss);
-            led = λ u a. a;
-            groups = g (λ _. 0) .1;
-          })
-      go (turn n) m a ih =
-          let i = ih st (turnAt n ss) (ts ++ (turnedAt n ss ∷ [])) gs a in
-          record {
-            pieces = i .pieces;
-            counts = i .counts;
-            follow = λ q h. i .follow q (turn-fit ss n q h);
-            listed = listed-trans (valued ss) (valued (turnAt n ss)) (valued (i .pieces)) (turn-listed n ss (move-turn job st top (usesOf ss) n m)) (i .listed);
-            led = λ u a. i .led u (turn-of job u n ss a);
-            groups = i .groups;
-          }
-      go (cut p) m a ih =
-          let l = leftCut (job .hints) p ss in
-          let r = bind-done (placeFront job room set′ top l st) _ b a in
-          let g : (ν : Segment → ℕ) → Grown (ofOwn ν) (total ν l) st (r .0) = λ ν. front-grown (ofOwn ν) job room set′ top l st (r .0) gs (r .1) in
-          let i = ih (r .0) (rightCut (job .hints) p ss) ts (g (λ _. 0) .1) (r .2) in
-          record {
-            pieces = l ++ i .pieces;
-            counts = λ ν. omega (arith, g ν .0, i .counts ν, total-append ν l (i .pieces));
-            follow = λ q h. cut-follows (job .hints) p (i .pieces) ss q h (i .follow);
-            listed = rw (← cut-valued (job .hints) p ss, valued-append)
-                (listed-append (valued l) (valued l) (valued (rightCut (job .hints) p ss)) (valued (i .pieces)) (listed-refl (valued l)) (i .listed));
-            led = λ u a. let c = cut-of job u (job .hints) p ss a in all-append (λ s. setOf job (s .value) ≡ u) l (i .pieces) (c .0) (i .led u (c .1));
-            groups = i .groups;
-          }
-      go (halt s) m a ih = let z : _≡_ {A = ℕ} 0 1 = cc in absurd (omega arith)
+      go : (ss : List Segment) (q : ℕ) → SegsFit q ss → Follows q (ss ++ made)
+      go [] q h = f q tt
+      go (s ∷ ss) q h = (h .0, h .1, go ss (s .to .0) (h .3))
+  part-follows (before p ss) made q h f = cut-follows hs p made ss q h f
 
-set-made : (job : Job) (room : Room) (s : Segment) (ss : List Segment) (st st′ : State) → Groups st → buildSet job room (s ∷ ss) st ≡ done st′ → Made job st (s ∷ ss) st′
-unfolding buildSet
+-- ---- what a run over the segments ss₀ has made where the segments ss are left
+
+pub record Made (job : Job) (st₀ : State) (ss₀ : List Segment) (st : State) (ss : List Segment) : Type 0 where
+  -- the own pieces that it added, in order
+  pub pieces : List Segment
+  pub counts : (ν : Segment → ℕ) → counted (ofOwn ν) (st .registers) ≡ counted (ofOwn ν) (st₀ .registers) + total ν pieces
+  pub follow : (made : List Segment) → ((q : ℕ) → SegsFit q ss → Follows q made) → (q : ℕ) → SegsFit q ss₀ → Follows q (pieces ++ made)
+  pub listed : Listed (valued ss₀) (valued pieces ++ valued ss)
+  pub led : (u : ValueSet) → AllOf job u ss₀ → AllOf job u pieces × AllOf job u ss
+  pub groups : Groups st
+
+made-kept : (job : Job) (room : Room) (set′ : ValueSet) (st₀ : State) (ss₀ : List Segment) → Keeps job room set′ (λ st ss ts. Made job st₀ ss₀ st ss)
+unfolding conflictPiece total leftOf rightOf
+made-kept job room set′ st₀ ss₀ = record {
+  part = λ ss l r ts st st′ p x i.
+      let g : (ν : Segment → ℕ) → Grown (ofOwn ν) (total ν l) st st′ = λ ν. own-grown (ofOwn ν) job room set′ l st st′ (i .groups) x in
+      record {
+        pieces = i .pieces ++ l;
+        counts = λ ν. omega (arith, i .counts ν, g ν .0, total-append ν (i .pieces) l);
+        follow = λ made f q h. rw append-assoc (i .follow (l ++ made) (λ n k. part-follows (job .hints) p made n k f) q h);
+        listed = rw (valued-append, append-assoc, part-valued (job .hints) p) (i .listed);
+        led = λ u a.
+            let c = i .led u a in
+            let d = part-all (λ s. setOf job (s .value) ≡ u) (job .hints) (λ p s a. (a, a)) p (c .1) in
+            (all-append (λ s. setOf job (s .value) ≡ u) (i .pieces) l (c .0) (d .0), d .1);
+        groups = g (λ _. 0) .1;
+      };
+  turned = λ n ss ts st c i. record {
+    pieces = i .pieces;
+    counts = i .counts;
+    follow = λ made f. i .follow made (λ q h. f q (turn-fit ss n q h));
+    listed = listed-trans (valued ss₀) (valued (i .pieces) ++ valued ss) (valued (i .pieces) ++ valued (turnAt n ss)) (i .listed)
+        (listed-append (valued (i .pieces)) (valued (i .pieces)) (valued ss) (valued (turnAt n ss)) (listed-refl (valued (i .pieces))) (turn-listed n ss c));
+    led = λ u a. (i .led u a .0, turn-all (λ s. setOf job (s .value) ≡ u) (λ n s a. a) n ss (i .led u a .1));
+    groups = i .groups;
+  };
+  conflict = λ v p o w ws us left more st st′ x a y i.
+      let g : (ν : Segment → ℕ) → Grown (ofOwn ν) 0 st st′ = λ ν. placing-grown (ofOwn ν) job room set′ (conflictPiece v p o (w ∷ ws) ∷ []) st st′ (i .groups) y in
+      record {
+        pieces = i .pieces;
+        counts = λ ν. omega (arith, i .counts ν, g ν .0);
+        follow = i .follow;
+        listed = i .listed;
+        led = i .led;
+        groups = g (λ _. 0) .1;
+      };
+}
+
+set-made : (job : Job) (room : Room) (s : Segment) (ss : List Segment) (st st′ : State) → Groups st → buildSet job room (s ∷ ss) st ≡ done st′ → Made job st (s ∷ ss) st′ []
+unfolding valued total
 set-made job room s ss st st′ gs e =
-    let set″ = setOf job (s .value) in
-    let top = topOf job (s .value) in
-    let n = suc (classUses (usesOf (s ∷ ss))) in
-    let b = bind-done (steps n job room set″ top st (s ∷ ss) []) _ st′ e in
-    let m = steps-made job room set″ top n st (s ∷ ss) [] (b .0) gs (b .1) in
-    let g : (ν : Segment → ℕ) → Grown (ofOwn ν) 0 (b .0 .state) st′ = λ ν. conflicts-own ν job room set″ top (b .0 .turned) (b .0 .state) st′ (m .groups) (b .2) in
-    record {
-      pieces = m .pieces;
-      counts = λ ν. omega (arith, m .counts ν, g ν .0);
-      follow = m .follow;
-      listed = m .listed;
-      led = m .led;
-      groups = g (λ _. 0) .1;
-    }
+    set-kept job room s ss (λ st″ ss″ ts. Made job st (s ∷ ss) st″ ss″) (made-kept job room (setOf job (s .value)) st (s ∷ ss)) st st′ (record {
+      pieces = [];
+      counts = λ ν. omega arith;
+      follow = λ made f. f;
+      listed = listed-refl (valued (s ∷ ss));
+      led = λ u a. (tt, a);
+      groups = gs;
+    }) e
 
 -- ---- the sets rise
 
@@ -309,10 +282,6 @@ module _ (job : Job) (s : ValueSet) where
       go true ih = omega arith
       go false ih = omega arith
 
-abbrev pub joined : List (List Segment) → List Segment
-joined [] = []
-joined (r ∷ rs) = r ++ joined rs
-
 -- what a run over sets makes of the set s
 pub record MadeOf (job : Job) (s : ValueSet) (st : State) (ss : List Segment) (st′ : State) : Type 0 where
   pub pieces : List Segment
@@ -332,51 +301,37 @@ sets-made job room s ((c ∷ cs) ∷ rest) t st st′ gs r e =
     let m = set-made job room c cs st (b .0) gs (b .1) in
     go (b .0) m (sets-made job room s rest (suc (setOf job (c .value) .0)) (b .0) st′ (m .groups) (r .3) (b .2)) (eqb (setOf job (c .value) .0) (s .0)) refl
   where
-    all : AllOf job (setOf job (c .value)) (c ∷ cs)
-    all = (refl, r .1)
+    here : AllOf job (setOf job (c .value)) (c ∷ cs)
+    here = (refl, r .1)
 
-    go : (st″ : State) (m : Made job st (c ∷ cs) st″) → (k : MadeOf job s st″ (joined rest) st′) × (s .0 < suc (setOf job (c .value) .0) → k .pieces ≡ [])
+    go : (st″ : State) (m : Made job st (c ∷ cs) st″ []) → (k : MadeOf job s st″ (joined rest) st′) × (s .0 < suc (setOf job (c .value) .0) → k .pieces ≡ [])
         → (b : Bool) → eqb (setOf job (c .value) .0) (s .0) ≡ b → (k : MadeOf job s st (joined ((c ∷ cs) ∷ rest)) st′) × (s .0 < t → k .pieces ≡ [])
     go st″ m k true f =
         let n : setOf job (c .value) .0 ≡ s .0 = eqb-true _ _ f in
         let q : setOf job (c .value) ≡ s = ap vset n in
         let none′ : k .0 .pieces ≡ [] = k .1 (omega arith) in
-        let a : AllOf job s (m .pieces) = rw q at (m .led (setOf job (c .value)) all) in
+        let a : AllOf job s (m .pieces) = rw q at (m .led (setOf job (c .value)) here .0) in
         let front : ofSet job s (c ∷ cs) ≡ c ∷ cs = of-same job s (c ∷ cs) (q, subst (λ (i : ValueSet). AllOf job i cs) q (r .1)) in (
           record {
             pieces = m .pieces ++ k .0 .pieces;
             counts = λ ν. omega (arith, m .counts (ledBy job s ν), k .0 .counts ν, of-total job s ν (m .pieces), ap (total ν) (of-same job s (m .pieces) a), total-append ν (m .pieces) (k .0 .pieces));
-            follow = rw (none′, append-nil) (m .follow 0 (r .2));
+            follow = rw none′ (m .follow [] (λ n h. tt) 0 (r .2));
             listed = rw (of-append job s (c ∷ cs) (joined rest), front, valued-append (c ∷ cs) (ofSet job s (joined rest)), valued-append (m .pieces) (k .0 .pieces))
-                (listed-append (valued (c ∷ cs)) (valued (m .pieces)) (valued (ofSet job s (joined rest))) (valued (k .0 .pieces)) (m .listed) (k .0 .listed));
+                (listed-append (valued (c ∷ cs)) (valued (m .pieces)) (valued (ofSet job s (joined rest))) (valued (k .0 .pieces)) (rw append-nil at (m .listed)) (k .0 .listed));
           },
           λ l. absurd (omega (arith, r .0)),
         )
     go st″ m k false f =
         let n : setOf job (c .value) .0 ≡ s .0 → ⊥ = eqb-false _ _ f in
-        let front : ofSet job s (c ∷ cs) ≡ [] = of-other job s (setOf job (c .value)) (c ∷ cs) n all in (
+        let front : ofSet job s (c ∷ cs) ≡ [] = of-other job s (setOf job (c .value)) (c ∷ cs) n here in (
           record {
             pieces = k .0 .pieces;
-            counts = λ ν. omega (arith, m .counts (ledBy job s ν), k .0 .counts ν, of-total job s ν (m .pieces), ap (total ν) (of-other job s (setOf job (c .value)) (m .pieces) n (m .led (setOf job (c .value)) all)));
+            counts = λ ν. omega (arith, m .counts (ledBy job s ν), k .0 .counts ν, of-total job s ν (m .pieces), ap (total ν) (of-other job s (setOf job (c .value)) (m .pieces) n (m .led (setOf job (c .value)) here .0)));
             follow = k .0 .follow;
             listed = rw (of-append job s (c ∷ cs) (joined rest), front) (k .0 .listed);
           },
           λ l. k .1 (omega (arith, r .0)),
         )
-
-joined-runs : (alike : Segment → Segment → Bool) (ss : List Segment) → joined (runs alike ss) ≡ ss
-unfolding runs
-joined-runs alike [] = refl
-joined-runs alike (s ∷ ss) = put (runs alike ss) ∙ ap (λ (l : List Segment). s ∷ l) (joined-runs alike ss)
-  where
-    put : (rs : List (List Segment)) → joined (onto alike s rs) ≡ s ∷ joined rs
-    put [] = refl
-    put ([] ∷ rs) = refl
-    put ((r ∷ rs) ∷ rest) = go (alike s r)
-      where
-        go : (b : Bool) → joined (cond b ((s ∷ r ∷ rs) ∷ rest) ((s ∷ []) ∷ (r ∷ rs) ∷ rest)) ≡ s ∷ r ∷ rs ++ joined rest
-        go true = refl
-        go false = refl
 
 -- a result: the own pieces of set s in order
 pub record InOrder (job : Job) (s : ValueSet) (rs : List Register) : Type 0 where

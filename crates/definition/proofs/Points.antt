@@ -5,18 +5,17 @@ use Prim.Native.Nat.{ℕ, zero, suc, _+_}
 use native.Mathlib.Omega.{arith}
 use mathlib.Core.Bool.{Bool, true, false, cond}
 use mathlib.Core.List.{List, [], _∷_}
-use lib.ListN.{length}
 use lib.Dec.{eqb}
-use Rattle.definition.specs.Types.{Conflict, Hint, Inst, Job, Own, Piece, RegClass, Room, Segment, State, Turned, Use, Value, ValueSet, done}
+use Rattle.definition.specs.Types.{Conflict, Hint, Inst, Job, Own, Piece, Room, Segment, Turned, Use, Value, done}
 use Rattle.definition.specs.Uses.{isClassUse}
 use Rattle.definition.specs.Cuts.{leftOf, rightOf, usesBefore, usesFrom}
 use Rattle.definition.specs.Place.{total}
-use Rattle.definition.specs.Build.{Result, build, conflictPiece, conflicts, one, runs, sameInst, turnIn, turnedUse, withUses}
+use Rattle.definition.specs.Build.{Result, build, conflictPiece, one, turnIn, turnedUse, withUses}
 use Rattle.definition.specs.Promised.{holds}
 use Rattle.definition.proofs.Cuts.{PartedBy, point-parted, uses-cut}
 use Rattle.definition.proofs.Moves.{ClassAt}
-use Rattle.definition.proofs.Places.{Groups, counted, total-append}
-use Rattle.definition.proofs.Measures.{Grown, Measure, Taken, conflicts-grown, measured}
+use Rattle.definition.proofs.Places.{counted, total-append}
+use Rattle.definition.proofs.Measures.{Measure, measured}
 
 -- what is counted of a segment is parted by a cut, and is the same where a class use is turned
 pub record Additive (ν : Segment → ℕ) : Type 0 where
@@ -33,22 +32,12 @@ total-none [] = refl
 total-none (t ∷ ts) = omega (arith, total-none ts)
 
 module _ (ν : Segment → ℕ) where
-  own-taken : Taken (ofOwn ν) (λ _. 0)
-  unfolding conflictPiece
-  own-taken v p o ts e = sym (total-none ts)
-
-  -- conflict registers add nothing to the own pieces
-  pub conflicts-own : (job : Job) (room : Room) (set′ : ValueSet) (top : RegClass) (ts : List Turned) (st st′ : State) → Groups st
-      → conflicts job room set′ top (runs sameInst ts) st ≡ done st′ → Grown (ofOwn ν) 0 st st′
-  conflicts-own job room set′ top ts st st′ gs e =
-      let q = conflicts-grown (ofOwn ν) (λ _. 0) own-taken job room set′ top ts st st′ gs e in
-      (omega (arith, q .0, total-none ts), q .1)
-
   own-measure : Additive ν → Measure (ofOwn ν) (λ _. 0)
+  unfolding conflictPiece
   own-measure add = record {
     parted = add .parted;
     turned = λ n s c. omega (arith, add .kept n s c);
-    taken = own-taken;
+    taken = λ v p o ts a. sym (total-none ts);
   }
 
   -- an accepted job: the same of its segments and of the own pieces of the result

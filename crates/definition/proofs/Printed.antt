@@ -7,7 +7,7 @@ use mathlib.Core.Option.{Option}
 use mathlib.Core.List.{List, [], _∷_, _++_, append-assoc}
 use lib.ListN.{length}
 use lib.Dec.{leb, ltb, eqb}
-use Rattle.definition.specs.Types.{Conflict, LiveRangePoint, Origin, Own, Piece, Register, Segment, Use, UseFlags, Value, VirtReg}
+use Rattle.definition.specs.Types.{Conflict, LiveRangePoint, Origin, Own, Piece, Register, Use, Value, VirtReg}
 use Rattle.definition.specs.Place.{total}
 use Rattle.definition.specs.Build.{Result, one}
 use Rattle.definition.specs.Lines.{Line, end-line, group-line, groupLines, printed, seg-line, segLines, use-line, useLines, vreg-line, vregLines}

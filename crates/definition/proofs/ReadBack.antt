@@ -7,13 +7,12 @@ use mathlib.Core.Option.{Option, none, some}
 use mathlib.Core.List.{List, [], _∷_, _++_, map}
 use lib.ListN.{length, getD}
 use lib.Dec.{eqb}
-use borrow.Author.Tests.{eqb-true}
-use Rattle.definition.specs.Types.{BlockparamIn, Inst, Job, Piece, Room, Segment, Turned, Use, UseKind, Value, done}
+use Rattle.definition.specs.Types.{BlockparamIn, Inst, Job, Piece, Room, Turned, Use, Value, done}
 use Rattle.definition.specs.Admit.{noUse}
 use Rattle.definition.specs.Place.{total}
 use Rattle.definition.specs.Build.{Result, build, conflictPiece, one, opening, turnIn, turnedOf, turnedUse}
-use Rattle.definition.proofs.Places.{counted}
-use Rattle.definition.proofs.Measures.{Measure, Taken, measured, strays}
+use Rattle.definition.proofs.Places.{All, counted}
+use Rattle.definition.proofs.Measures.{Measure, measured}
 use Rattle.definition.proofs.Points.{cond-sum, ownUses, passing, uses-parted}
 
 -- a test that conflict marks and block parameters do not pass
@@ -37,39 +36,30 @@ module _ (v : Value) (P : Use → Bool) where
     turn-passing zero (u ∷ us) h = rw (test .mark u) (omega arith)
     turn-passing (suc n) (u ∷ us) h = omega (arith, turn-passing n us (omega arith))
 
-    uses-taken : (w : Value) (ts : List Turned) → strays w ts ≡ 0 → cond (eqb (w .0) (v .0)) (passing v P (map (λ t. t .use′) ts)) 0 ≡ total ofTurned ts
+    uses-taken : (w : Value) (ts : List Turned) → All (λ t. t .value ≡ w) ts → cond (eqb (w .0) (v .0)) (passing v P (map (λ t. t .use′) ts)) 0 ≡ total ofTurned ts
     unfolding total
-    uses-taken w [] e = go (eqb (w .0) (v .0))
+    uses-taken w [] a = go (eqb (w .0) (v .0))
       where
         go : (b : Bool) → _≡_ {A = ℕ} (cond b 0 0) 0
         go true = refl
         go false = refl
-    uses-taken w (t ∷ ts) e = go (eqb (t .value .0) (w .0)) refl e (λ k. uses-taken w ts k)
-      where
-        go : (b : Bool) → eqb (t .value .0) (w .0) ≡ b → cond b 0 1 + strays w ts ≡ 0 → (strays w ts ≡ 0 → cond (eqb (w .0) (v .0)) (passing v P (map (λ t. t .use′) ts)) 0 ≡ total ofTurned ts)
-            → cond (eqb (w .0) (v .0)) (one (P (t .use′)) + passing v P (map (λ t. t .use′) ts)) 0 ≡ ofTurned t + total ofTurned ts
-        go false a k ih = absurd (omega arith)
-        go true a k ih =
-            let q : t .value .0 ≡ w .0 = eqb-true _ _ a in
-            rw q (sym (cond-sum (eqb (w .0) (v .0)) (one (P (t .use′))) (passing v P (map (λ t. t .use′) ts)) (one (P (t .use′)) + passing v P (map (λ t. t .use′) ts)) refl)
-            ∙ ap (λ (n : ℕ). cond (eqb (w .0) (v .0)) (one (P (t .use′))) 0 + n) (ih (omega arith)))
+    uses-taken w (t ∷ ts) a =
+        let us = passing v P (map (λ t. t .use′) ts) in
+        rw (a .0) (sym (cond-sum (eqb (w .0) (v .0)) (one (P (t .use′))) us (one (P (t .use′)) + us) refl)
+        ∙ ap (λ (n : ℕ). cond (eqb (w .0) (v .0)) (one (P (t .use′))) 0 + n) (uses-taken w ts (a .1)))
 
     opening-none : (p : Inst) (o : Option ℕ) (us : List Use) → passing v P (opening p o ++ us) ≡ passing v P us
     unfolding total
     opening-none p none us = refl
     opening-none p (some q) us = rw (test .param p q) (omega arith)
 
-    piece-taken : Taken ofPiece ofTurned
-    unfolding conflictPiece
-    piece-taken w p o ts e = ap (λ (n : ℕ). cond (eqb (w .0) (v .0)) n 0) (opening-none p o (map (λ t. t .use′) ts)) ∙ uses-taken w ts e
-
     uses-measure : Measure ofPiece ofTurned
-    unfolding turnedOf
+    unfolding turnedOf conflictPiece
     uses-measure = record {
       parted = uses-parted v P;
       turned = λ n s c.
           cond-sum (eqb (s .value .0) (v .0)) (passing v P (turnIn n (s .uses))) (one (P (getD (s .uses) n noUse))) (passing v P (s .uses)) (turn-passing n (s .uses) (c .0));
-      taken = piece-taken;
+      taken = λ w p o ts a. ap (λ (n : ℕ). cond (eqb (w .0) (v .0)) n 0) (opening-none p o (map (λ t. t .use′) ts)) ∙ uses-taken w ts a;
     }
 
     -- a use of value v that passes the test stands in the pieces of an accepted job's result exactly as often as in the job

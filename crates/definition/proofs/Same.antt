@@ -1,13 +1,13 @@
 -- Equal uses and equal segments: by the numbers of their lines, and by all counts. Assumes nothing.
 use mathlib.Core.Path.{_≡_, refl, ap, sym, _∙_, subst}
-use Prim.Native.Nat.{ℕ, _+_, _-_, _≤_, _<_}
+use Prim.Native.Nat.{ℕ, _+_, _≤_, _<_}
 use native.Mathlib.Omega.{arith}
 use mathlib.Core.Bool.{Bool, true, false, cond}
 use mathlib.Core.List.{List, [], _∷_}
 use lib.ListN.{getD}
 use lib.Dec.{leb, eqb}
 use borrow.Author.Tests.{leb-true, leb-false, eqb-true, eq-eqb, le-leb, lt-leb}
-use Rattle.definition.specs.Types.{BlockparamIn, BlockparamOut, ClassDef, ClassUse, ConstraintConflict, FixedDef, FixedUse, GroupClassDef, GroupClassUse, Inst, PhysReg, Segment, TiedUse, Use, UseFlags, UseKind, cls, inst, point, val}
+use Rattle.definition.specs.Types.{BlockparamIn, BlockparamOut, ClassDef, ClassUse, ConstraintConflict, FixedDef, FixedUse, GroupClassDef, GroupClassUse, Inst, PhysReg, Segment, TiedUse, Use, UseKind, cls, inst, point, val}
 use Rattle.definition.specs.Uses.{isClassUse}
 use Rattle.definition.specs.Place.{total}
 use Rattle.definition.specs.Build.{one, turnedUse}
