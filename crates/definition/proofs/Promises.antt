@@ -1,5 +1,4 @@
--- The promises on accepted jobs, each as one theorem. The words are those of `specs/Promised.antt`. A job is accepted if the rules give it no number:
--- `answer job room ≡ done res`. The room of the lent tables is any, and nothing else of them is read. Assumes nothing.
+-- The promises on accepted jobs (`answer job room ≡ done res`, for any room), each as one theorem in the words of `specs/Promised.antt`. Assumes nothing.
 use mathlib.Core.Path.{_≡_, refl, ap, sym, _∙_, subst}
 use Prim.Native.Nat.{ℕ, suc, _+_, _≤_, _<_}
 use native.Mathlib.Omega.{arith}

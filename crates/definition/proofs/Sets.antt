@@ -1,5 +1,4 @@
--- Every piece stands in a register of its value's set. Groups are why this is not plain: a merge puts pieces into a register made before. Each group has the
--- value sets of its places: its members are of them, and so are the operands mapped to it. Assumes nothing.
+-- Every piece stands in a register of its value's set: a group's members and the operands mapped to it share value sets, so a merge stays in the set. Assumes nothing.
 use mathlib.Core.Path.{_≡_, refl, ap, sym, _∙_, subst}
 use mathlib.Core.Logic.{_⊎_, inl, inr}
 use Prim.Native.Nat.{ℕ, zero, suc, _+_, _-_, _≤_, _<_}
