@@ -15,7 +15,7 @@ use Rattle.definition.specs.Types.{Inst, Value, ValueSet, RegClass, Virt
 use Rattle.definition.specs.RegInfo.{classAt, commonSubclass, setOf}
 use Rattle.definition.specs.Uses.{slotOf}
 use Rattle.definition.specs.Weights.{weightOf}
-use Rattle.definition.specs.Admit.{admit, admitClass, admitGroup, admitKind, atPlace, fresh, groupFits, guard, inGroup, mappedAt, mappingFits, membersAt, narrowed, noRegister, registerAt, scan, setsAt, through, vgroupAt}
+use Rattle.definition.specs.Admit.{admit, admitClass, admitGroup, admitKind, atPlace, fresh, groupFits, guard, inGroup, mappedAt, mappingFits, membersAt, narrowed, noRegister, registerAt, scan, setsAt, setsOf, through, vgroupAt}
 use Rattle.definition.specs.Place.{alone, aloneState, firstFrom, groupWeight, hasRoom, inserted, isNone, join, joinState, lastTo, lead, leadState, made, mapUses, merge, mergeState, orElse, overlaps, place, placeBy, placeGroup, segsOf, spread, update, usesOf, withPieces, withWeight}
 use Rattle.definition.specs.Build.{Result, build, buildSets, empty, runs, sameSet}
 use Rattle.definition.specs.Entry.{every, functionOk, groupUseOk, membersOf, usesOk}
@@ -440,21 +440,21 @@ module _ (job : Job) (room : Room) where
 
 -- ---- what the entry rules give
 
-getD-map : {A B : Type 0} (f : A → B) (a : A) (b : B) (xs : List A) (i : ℕ) → i < length xs → getD (map f xs) i b ≡ f (getD xs i a)
-getD-map f a b [] i l = absurd (omega arith)
-getD-map f a b (x ∷ xs) zero l = refl
-getD-map f a b (x ∷ xs) (suc i) l = getD-map f a b xs i (omega arith)
+getD-padded : {A B : Type 0} (f : A → B) (a : A) (b : B) (xs : List A) (ys : List B) (i : ℕ) → i < length xs → getD (map f xs ++ ys) i b ≡ f (getD xs i a)
+getD-padded f a b [] ys i l = absurd (omega arith)
+getD-padded f a b (x ∷ xs) ys zero l = refl
+getD-padded f a b (x ∷ xs) ys (suc i) l = getD-padded f a b xs ys i (omega arith)
 
 module _ (job : Job) where
   module _ (fn : functionOk job ≡ true) where
     group-in : (v : Value) (p : Inst) (s : ℕ) (c : RegClass) (i : ℕ) → groupUseOk job v p s c i ≡ true → getD (setsAt job p s) i (vset 0) ≡ setOf job v
-    unfolding setsAt membersOf
+    unfolding setsAt setsOf membersOf
     group-in v p s c i e =
         let t = group-operand job fn v p s c i e .1 in
         let q : getD (job .vgroups) (vgroupAt (job .operands) p s) [] ≡ membersOf job (operandAt (job .operands) p s .vgroup) =
         ap (λ (n : ℕ). getD (job .vgroups) n []) (vgroup-at (job .operands) p s) in
-        ap (λ (xs : List Value). getD (map (λ x. setOf job x) xs) i (vset 0)) q
-        ∙ getD-map (λ x. setOf job x) (val 0) (vset 0) (membersOf job (operandAt (job .operands) p s .vgroup)) i (t .3) ∙ ap (λ (x : Value). setOf job x) (t .4)
+        ap (λ (xs : List Value). getD (setsOf job xs) i (vset 0)) q
+        ∙ getD-padded (λ x. setOf job x) (val 0) (vset 0) (membersOf job (operandAt (job .operands) p s .vgroup)) _ i (t .3) ∙ ap (λ (x : Value). setOf job x) (t .4)
 
     abbrev pub UsesIn : Segment → Type 0
     UsesIn s = All (UseIn job (setOf job (s .value))) (s .uses)
