@@ -2,10 +2,11 @@
 use Prim.Native.Nat.{ℕ, zero, suc, _+_, _-_}
 use mathlib.Core.Bool.{Bool, true, false, _&&_, cond}
 use mathlib.Core.Option.{Option, none, some, bind}
-use mathlib.Core.List.{List, [], _∷_, map, reverse}
+use mathlib.Core.List.{List, [], _∷_, _++_, map, reverse}
 use lib.Dec.{eqb}
-use lib.ListN.{getD, take}
+use lib.ListN.{length, getD, take, replicate}
 use Rattle.definition.specs.Types.{Inst, Value, ValueSet, RegClass, VirtReg, VirtRegGroup, UseKind, FixedDef, FixedUse, TiedUse, ConstraintConflict, ClassUse, ClassDef, GroupClassUse, GroupClassDef, BlockparamIn, BlockparamOut, Use, Operand, Job, HeldGroup, Held, Register, Mapped, State, Stop, NoStart, TurnedDef, inst, vset, cls}
+use Rattle.definition.specs.Limits.{maxGroup}
 use Rattle.definition.specs.RegInfo.{zeroF, commonSubclass, setOf}
 use Rattle.definition.specs.Uses.{isDef}
 use Rattle.definition.specs.SplitPlacement.{earlyCut}
@@ -31,10 +32,18 @@ unfoldable pub vgroupAt : List Operand → Inst → ℕ → ℕ
 vgroupAt [] i s = 0
 vgroupAt (o ∷ os) i s = let r = vgroupAt os i s in cond (eqb (o .inst .0) (i .0) && eqb (o .slot) s) (o .vgroup .0) r
 
--- "the value sets of the two vgroups agree place by place": those of an operand's vgroup
+-- "eight places compared whole, the reserved value filling the rest": the value sets of a vgroup's members, place by place
+abbrev pub reserved : ValueSet
+reserved = vset 4294967295
+
+unfoldable pub setsOf : Job → List Value → List ValueSet
+unfolding setOf
+setsOf job ms = map (λ v. setOf job v) ms ++ replicate (maxGroup - length ms) reserved
+
+-- those of an operand's vgroup
 unfoldable pub setsAt : Job → Inst → ℕ → List ValueSet
-unfolding vgroupAt setOf
-setsAt job i s = map (λ v. setOf job v) (getD (job .vgroups) (vgroupAt (job .operands) i s) [])
+unfolding vgroupAt setsOf
+setsAt job i s = setsOf job (getD (job .vgroups) (vgroupAt (job .operands) i s) [])
 
 -- ---- what is held "from the top class", before any use
 unfoldable pub fresh : RegClass → Held

@@ -1,0 +1,308 @@
+-- The marked cases A to J, and jobs for what none of them shows: tables of jobs, cuts and counts with their answers, and one lemma each. Assumes nothing.
+use Prim.Native.Nat.{ℕ, _/_, _%_}
+use mathlib.Core.Path.{_≡_, refl}
+use mathlib.Core.Bool.{Bool, true, false, cond}
+use mathlib.Core.Option.{Option, none, some}
+use mathlib.Core.List.{List, [], _∷_, map}
+use lib.Dec.{eqb}
+use lib.Ieee.{Float, binary32, ofBits}
+use Rattle.definition.specs.Types.{BadBook, BadFunction, BadHint, BadSegment, BadUse, BlockData, BlockparamOut, ClassData, ClassDef, ClassUse, Conflict, ConstraintConflict, Early, GroupClassUse, Inst, Job, Late, Never, NoStart, NoneAdmitted, Operand, Out, OverALimit, Own, Piece, Register, Segment, Side, Stop, Stopped, TurnedDef, Use, UseFlags, UseKind, Value, ValueData, VirtReg, VirtRegGroup, cls, done, inst, point, refused, val, vreg, vrgroup, vset}
+use Rattle.definition.specs.Limits.{vregsRoom}
+use Rattle.definition.specs.LiveRange.{liveInsts}
+use Rattle.definition.specs.Build.{Result}
+use Rattle.definition.specs.Entry.{answer, findCut}
+use Rattle.definition.specs.Lines.{Line, end-line, printed, seg-line, use-line, vreg-line}
+use Rattle.definition.specs.Promised.{addedIn, byFirst, ownOf, valued}
+
+-- ---- records as the sheets write them
+
+f32 : ℕ → Float
+unfolding ofBits
+f32 b = ofBits binary32 b
+
+one : Float
+unfolding f32
+one = f32 0x3f800000
+
+abbrev isOne : ℕ → Bool
+isOne n = eqb n 1
+
+flagsOf : ℕ → UseFlags
+flagsOf n = record { livein = isOne (n % 2); liveout = isOne (n / 2 % 2); fixedhint = isOne (n / 4 % 2); fixeddef = isOne (n / 8 % 2) }
+
+-- a class of cost 1 without spillslots: its mask and its size
+sized : ℕ → ℕ → ClassData
+unfolding one
+sized m n = record { mask = m; cost = one; size = n; spillslots = false }
+
+class : ℕ → ClassData
+unfolding sized
+class m = sized m 1
+
+block : ℕ → ℕ → BlockData
+unfolding f32
+block n f = record { insts = n; frequency = f32 f }
+
+-- a value of bank 0 that is led by value n
+led : ℕ → ValueData
+led n = record { bank = record { 0 = 0 }; leader = val n; remat = Never }
+
+operand : ℕ → ℕ → ℕ → Operand
+operand p g c = record { inst = inst p; slot = 0; vgroup = record { 0 = g }; class = cls c }
+
+use′ : ℕ → UseKind → Use
+use′ p k = record { pos = inst p; kind = k }
+
+-- class uses at slot s and definitions, and group uses at slot 0, by the number of their class
+uses : ℕ → ℕ → ℕ → Use
+unfolding use′
+uses p s c = use′ p (ClassUse s (cls c))
+
+defines : ℕ → ℕ → Use
+unfolding use′
+defines p c = use′ p (ClassDef 0 (cls c))
+
+groupUse : ℕ → ℕ → ℕ → Use
+unfolding use′
+groupUse p c i = use′ p (GroupClassUse 0 (cls c) i)
+
+mark : ℕ → Use
+unfolding use′
+mark p = use′ p ConstraintConflict
+
+seg : ℕ → ℕ → ℕ → ℕ → List Use → Segment
+unfolding flagsOf
+seg v a b f us = record { value = val v; «from» = point a; to = point b; flags = flagsOf f; uses = us }
+
+register : ℕ → ℕ → ℕ → Option VirtRegGroup → ℕ → List Piece → Register
+unfolding f32
+register s c w g i ps = record { set = vset s; class = cls c; weight = f32 w; group = g; index = i; pieces = ps }
+
+-- a register of set 0 in no group: its class, its weight, its pieces
+plain : ℕ → ℕ → List Piece → Register
+unfolding register
+plain c w ps = register 0 c w none 0 ps
+
+-- a register in group g
+member : ℕ → ℕ → ℕ → ℕ → ℕ → List Piece → Register
+unfolding register
+member s c w g i ps = register s c w (some (vrgroup g)) i ps
+
+own : Segment → Piece
+own s = record { origin = Own; seg = s }
+
+added : Segment → Piece
+added s = record { origin = Conflict; seg = s }
+
+-- a job with one bank, whose top class is 0
+job : List ClassData → List BlockData → List ValueData → List (List Value) → List Operand → List Segment → Job
+unfolding one
+job cs bs vs gs os ss = record {
+  options = record { adjust = 0; «cheaper_than_move» = one; «cheaper_than_load» = one; indirect = one };
+  banks = cls 0 ∷ [];
+  classes = cs;
+  memory = [];
+  blocks = bs;
+  values = vs;
+  vgroups = gs;
+  operands = os;
+  hints = [];
+  segments = ss;
+}
+
+blocksA : List BlockData
+unfolding block
+blocksA = block 2 0x3f800000 ∷ block 2 0x3f000000 ∷ []
+
+-- a job of one value in A's blocks
+single : List ClassData → List Segment → Job
+unfolding job blocksA led
+single cs ss = job cs blocksA (led 0 ∷ []) [] [] ss
+
+bookA : List ClassData
+unfolding class
+bookA = class 7 ∷ class 2 ∷ class 4 ∷ []
+
+accept : List Register → List (List (Option VirtReg)) → Out Result
+accept rs gs = done (record { registers = rs; groups = gs })
+
+stop : Stop → Out Result
+stop s = refused (Stopped s)
+
+-- ---- A to E, I and J: jobs
+
+caseA : Job
+unfolding single bookA seg uses defines
+caseA = single bookA (seg 0 2 14 0 (defines 0 1 ∷ uses 3 0 2 ∷ []) ∷ [])
+
+caseE : Job
+unfolding single bookA seg uses
+caseE = single bookA (seg 0 0 6 1 (uses 1 0 1 ∷ uses 1 1 2 ∷ []) ∷ [])
+
+cases : List (Job × Out Result)
+unfolding caseA caseE single bookA class seg uses defines mark plain own added accept stop
+cases =
+    -- A
+    (caseA, accept (plain 1 0x3f000000 (own (seg 0 2 8 2 (defines 0 1 ∷ [])) ∷ []) ∷ plain 2 0x3e800000 (own (seg 0 8 14 1 (uses 3 0 2 ∷ [])) ∷ []) ∷ []) [])
+    -- B, C: the class shares nothing with the top
+    ∷ (single (class 3 ∷ class 2 ∷ class 4 ∷ []) (seg 0 0 6 0 (uses 1 0 2 ∷ []) ∷ []), stop NoneAdmitted)
+    ∷ (single (class 3 ∷ class 2 ∷ class 4 ∷ []) (seg 0 2 6 0 (defines 0 2 ∷ []) ∷ []), stop TurnedDef)
+    -- D: subclassing is not transitive, so the backward scan finds no start
+    ∷ (single (class 0x1f ∷ class 2 ∷ class 4 ∷ class 0xe ∷ class 0x14 ∷ []) (seg 0 0 14 0 (uses 1 0 3 ∷ uses 3 0 4 ∷ []) ∷ []), stop NoStart)
+    -- E: two uses of one instruction
+    ∷ (
+      caseE,
+      accept (plain 1 0x3f400000 (own (seg 0 0 6 1 (uses 1 0 1 ∷ mark 1 ∷ [])) ∷ []) ∷ plain 2 0x7f800000 (added (seg 0 4 6 1 (uses 1 1 2 ∷ [])) ∷ []) ∷ []) [],
+    )
+    -- I: [0,8) and [0,4)
+    ∷ (single bookA (seg 0 0 8 2 (uses 0 0 1 ∷ []) ∷ []), accept (plain 1 0x3f000000 (own (seg 0 0 8 2 (uses 0 0 1 ∷ [])) ∷ []) ∷ []) [])
+    ∷ (single bookA (seg 0 0 4 2 (uses 0 0 1 ∷ []) ∷ []), accept (plain 1 0x7f800000 (own (seg 0 0 4 2 (uses 0 0 1 ∷ [])) ∷ []) ∷ []) [])
+    -- J
+    ∷ (single bookA [], accept [] [])
+    ∷ []
+
+cases-hold : map (λ c. answer (c .0) vregsRoom) cases ≡ map (λ c. c .1) cases
+unfolding answer cases
+cases-hold = refl
+
+-- ---- F and G: cuts. Frequencies 3, 2, 2; and a cheaper block at `before`
+
+record Cut : Type 0 where
+  blocks : List BlockData
+  after : Inst
+  before : Inst
+  side : Side
+
+blocksF : List BlockData
+unfolding block
+blocksF = block 4 0x40400000 ∷ block 4 0x40000000 ∷ block 4 0x40000000 ∷ []
+
+blocksG : List BlockData
+unfolding block
+blocksG = block 4 0x40400000 ∷ block 4 0x40000000 ∷ block 4 0x3f800000 ∷ []
+
+cuts : List (Cut × Out Inst)
+unfolding blocksF blocksG
+cuts =
+    (record { blocks = blocksF; after = inst 1; before = inst 10; side = Early }, done (inst 4))
+    ∷ (record { blocks = blocksF; after = inst 1; before = inst 10; side = Late }, done (inst 10))
+    ∷ (record { blocks = blocksG; after = inst 1; before = inst 8; side = Early }, done (inst 8))
+    ∷ (record { blocks = blocksG; after = inst 8; before = inst 8; side = Early }, refused BadFunction)
+    ∷ (record { blocks = blocksG; after = inst 8; before = inst 12; side = Early }, refused BadFunction)
+    ∷ []
+
+cuts-hold : map (λ c. findCut (c .0 .blocks) (c .0 .after) (c .0 .before) (c .0 .side)) cuts ≡ map (λ c. c .1) cuts
+unfolding findCut cuts
+cuts-hold = refl
+
+-- ---- H: the two counts
+
+counts : List (List Segment × ℕ)
+unfolding seg
+counts = (seg 0 2 4 0 [] ∷ seg 0 4 6 0 [] ∷ [], 2) ∷ (seg 0 0 1 0 [] ∷ seg 0 1 2 0 [] ∷ [], 1) ∷ []
+
+counts-hold : map (λ c. liveInsts (c .0)) counts ≡ map (λ c. c .1) counts
+unfolding liveInsts counts
+counts-hold = refl
+
+-- ---- traps that A to J do not show
+
+-- Value 1 is cut behind its first group use and before its second, whose operand is mapped to the group with the register of its first piece, of class 2.
+-- That register is merged into: its class and the top have class 2 in common. The use's own class 3 and the top have class 1, which shares nothing with class 2.
+merged : Job
+unfolding job sized class block led operand seg uses groupUse
+merged =
+    job (class 0x1f ∷ sized 2 2 ∷ sized 4 2 ∷ sized 0xe 2 ∷ class 0x10 ∷ []) (block 5 0x3f800000 ∷ []) (led 0 ∷ led 1 ∷ []) ((val 0 ∷ val 1 ∷ []) ∷ [])
+    (operand 1 0 2 ∷ operand 3 0 3 ∷ [])
+    (seg 0 0 16 0 (groupUse 1 2 0 ∷ groupUse 3 3 0 ∷ []) ∷ seg 1 0 16 0 (groupUse 1 2 1 ∷ uses 2 0 4 ∷ groupUse 3 3 1 ∷ []) ∷ [])
+
+-- Two vgroups whose value sets differ at place 1: value 0 is cut between its group uses, so values 1 and 2, of two sets, go into two groups.
+-- Were the value sets not compared, value 2's piece would be merged into value 1's register.
+differ : Job
+unfolding job sized class block led operand seg groupUse
+differ =
+    job (class 3 ∷ sized 2 2 ∷ []) (block 5 0x3f800000 ∷ []) (led 0 ∷ led 1 ∷ led 2 ∷ []) ((val 0 ∷ val 1 ∷ []) ∷ (val 0 ∷ val 2 ∷ []) ∷ [])
+    (operand 1 0 1 ∷ operand 3 1 1 ∷ [])
+    (seg 0 0 16 0 (groupUse 1 1 0 ∷ groupUse 3 1 0 ∷ []) ∷ seg 1 4 8 0 (groupUse 1 1 1 ∷ []) ∷ seg 2 12 16 0 (groupUse 3 1 1 ∷ []) ∷ [])
+
+traps : List (Job × Out Result)
+unfolding merged differ accept register member own seg uses groupUse
+traps = (
+  merged,
+  accept (member 0 2 0x3f000000 0 0 (own (seg 0 0 16 0 (groupUse 1 2 0 ∷ groupUse 3 3 0 ∷ [])) ∷ [])
+      ∷ member 1 2 0x3f000000 0 1 (own (seg 1 0 8 2 (groupUse 1 2 1 ∷ [])) ∷ own (seg 1 12 16 1 (groupUse 3 3 1 ∷ [])) ∷ [])
+      ∷ register 1 4 0x7f800000 none 0 (own (seg 1 8 12 3 (uses 2 0 4 ∷ [])) ∷ []) ∷ [])
+      ((some (vreg 0) ∷ some (vreg 1) ∷ []) ∷ []),
+)
+    ∷ (
+      differ,
+      accept (member 0 1 0x3f000000 0 0 (own (seg 0 0 8 2 (groupUse 1 1 0 ∷ [])) ∷ [])
+          ∷ member 0 1 0x3f000000 1 0 (own (seg 0 8 16 1 (groupUse 3 1 0 ∷ [])) ∷ [])
+          ∷ member 1 1 0x3f000000 0 1 (own (seg 1 4 8 0 (groupUse 1 1 1 ∷ [])) ∷ [])
+          ∷ member 2 1 0x3f000000 1 1 (own (seg 2 12 16 0 (groupUse 3 1 1 ∷ [])) ∷ []) ∷ [])
+          ((some (vreg 0) ∷ some (vreg 2) ∷ []) ∷ (some (vreg 1) ∷ some (vreg 3) ∷ []) ∷ []),
+    )
+    ∷ []
+
+traps-hold : map (λ c. answer (c .0) vregsRoom) traps ≡ map (λ c. c .1) traps
+unfolding answer traps
+traps-hold = refl
+
+-- ---- "Tests 1 to 7 go by number, lowest first"
+
+-- a job that breaks rule n where the n-th entry is `true`: k above its limit; an unknown top class; a leader that does not lead itself;
+-- a hint past the last instruction; an empty segment; a use of kind 3
+wrong : Bool → Bool → Bool → Bool → Bool → Bool → Job
+unfolding one class block led use′ seg
+wrong limit book function hint segment kind = record {
+  options = record { adjust = cond limit 65536 0; «cheaper_than_move» = one; «cheaper_than_load» = one; indirect = one };
+  banks = cls (cond book 3 0) ∷ [];
+  classes = class 1 ∷ [];
+  memory = [];
+  blocks = block 2 0x3f800000 ∷ [];
+  values = led (cond function 1 0) ∷ [];
+  vgroups = [];
+  operands = [];
+  hints = record { value = val 0; inst = inst (cond hint 3 1); incoming = true } ∷ [];
+  segments = seg 0 0 (cond segment 0 8) 0 (use′ 0 (cond kind ConstraintConflict BlockparamOut) ∷ []) ∷ [];
+}
+
+orders : List (Job × Out Result)
+unfolding wrong accept plain own seg use′
+orders =
+    (wrong true true true true true true, refused OverALimit)
+    ∷ (wrong false true true true true true, refused BadBook)
+    ∷ (wrong false false true true true true, refused BadFunction)
+    ∷ (wrong false false false true true true, refused BadHint)
+    ∷ (wrong false false false false true true, refused BadSegment)
+    ∷ (wrong false false false false false true, refused BadUse)
+    ∷ (wrong false false false false false false, accept (plain 0 0 (own (seg 0 0 8 0 (use′ 0 BlockparamOut ∷ [])) ∷ []) ∷ []) [])
+    ∷ []
+
+orders-hold : map (λ c. answer (c .0) vregsRoom) orders ≡ map (λ c. c .1) orders
+unfolding answer orders
+orders-hold = refl
+
+-- ---- the words of the promises on A and E: A's lines; E's own pieces in order, with the second use marked in its place, and its conflict piece
+
+registersOf : Out Result → List Register
+registersOf (done r) = r .registers
+registersOf (refused r) = []
+
+linesOf : Out Result → List Line
+linesOf (done r) = printed r
+linesOf (refused r) = []
+
+A-printed : linesOf (answer caseA vregsRoom)
+    ≡ vreg-line 0 (vset 0) (cls 1) 0x3f000000 none 0 false ∷ seg-line (val 0) (point 2) (point 8) (flagsOf 2) Own ∷ use-line (defines 0 1)
+    ∷ vreg-line 1 (vset 0) (cls 2) 0x3e800000 none 0 false ∷ seg-line (val 0) (point 8) (point 14) (flagsOf 1) Own ∷ use-line (uses 3 0 2) ∷ end-line 2 0 ∷ []
+unfolding answer linesOf printed caseA flagsOf uses defines
+A-printed = refl
+
+E-order : valued (byFirst (ownOf (vset 0) (registersOf (answer caseE vregsRoom)))) ≡ (val 0, uses 1 0 1) ∷ (val 0, mark 1) ∷ []
+unfolding answer registersOf valued byFirst ownOf caseE uses mark
+E-order = refl
+
+E-turned : valued (addedIn (registersOf (answer caseE vregsRoom))) ≡ (val 0, uses 1 1 2) ∷ []
+unfolding answer registersOf valued addedIn caseE uses
+E-turned = refl
