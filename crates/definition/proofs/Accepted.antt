@@ -1,31 +1,28 @@
--- An accepted job: the entry rules give what class admission asks for, and the three promises in one place. Assumes nothing.
+-- An accepted job: what the entry rules give of its classes and of the operands of its group uses, and what holds of its result, in one record. Assumes nothing.
 use mathlib.Core.Path.{_≡_, refl, ap, sym, _∙_, subst}
-use mathlib.Core.Logic.{_⊎_, inl, inr}
-use Prim.Native.Nat.{ℕ, zero, suc, _+_, _-_, _*_, _/_, _%_, _^_, _≤_, _<_}
+use Prim.Native.Nat.{ℕ, zero, suc, _/_, _%_, _^_, _≤_, _<_}
 use native.Mathlib.Nat.{pow-suc, le-trans}
 use native.Mathlib.Omega.{arith}
 use mathlib.Core.Bool.{Bool, true, false, cond, not, _&&_, _||_}
 use mathlib.Core.Option.{Option, none, some}
-use mathlib.Core.List.{List, [], _∷_, _++_}
+use mathlib.Core.List.{List, [], _∷_}
 use lib.ListN.{length, getD}
 use lib.Pow.{pow-mono, pow-pos}
-use lib.Dec.{leb, ltb, eqb}
-use borrow.Author.Tests.{ltb-true, ltb-false, leb-true, leb-false, eqb-true, eqb-false, eq-eqb}
-use Rattle.definition.specs.Types.{BlockparamIn, BlockparamOut, ClassData, ClassDef, ClassUse, ConstraintConflict, FixedDef, FixedUse, GroupClassDef, GroupClassUse, Job, Operand, Out, Refusal, Room, Segment, TiedUse, Use, UseKind, done, refused}
+use lib.Dec.{ltb, eqb}
+use borrow.Author.Tests.{ltb-true, leb-true, eqb-true, eqb-false, eq-eqb}
+use Rattle.definition.specs.Types.{Inst, Value, RegClass, VirtReg, Use, ClassData, Operand, Segment, Job, Room, Refusal, done, inst, val, cls}
 use Rattle.definition.specs.RegInfo.{classAt, noClass}
-use Rattle.definition.specs.Uses.{endPoint, isClassUse}
 use Rattle.definition.specs.Place.{total}
 use Rattle.definition.specs.Build.{Result, build, one}
-use Rattle.definition.specs.Entry.{answer, answerTo, apart, bookOk, bookTests, classOk, classTests, conj, entry, entryTests, every, functionOk, functionTests, groupUseOk, groupUseTests, insts, kindOk, leads, limitTests, limitsOk, membersOf, operandOk, operandTests, samePlace, sized, small, some-is, useOk, useTests, usesOk, vgroupOk, vgroupTests}
-use Rattle.definition.specs.Lines.{numbersOf}
-use Rattle.definition.specs.Promised.{In, Transitive, bitAt, same}
-use Rattle.definition.proofs.Cuts.{has}
+use Rattle.definition.specs.Entry.{answer, answerTo, apart, bookOk, bookTests, classOk, classTests, conj, entry, entryTests, functionOk, functionTests, groupUseOk, groupUseTests, limitTests, limitsOk, membersOf, operandOk, operandTests, samePlace, sized, some-is, usesOk, vgroupOk, vgroupTests}
+use Rattle.definition.specs.Promised.{Transitive, bitAt, holds}
 use Rattle.definition.proofs.Places.{All, all-map, all-getD, counted}
-use Rattle.definition.proofs.Classes.{Masks, Serves}
+use Rattle.definition.proofs.Tables.{nth, operandAt, uses-are}
+use Rattle.definition.proofs.Classes.{Masks}
 use Rattle.definition.proofs.Entries.{and-both, conj-all, every-all, lowest-none}
 use Rattle.definition.proofs.Points.{ofOwn, points-same, Steady, ownUses, own-uses-same}
-use Rattle.definition.proofs.ReadBack.{Test, ofPiece, ofSeg, uses-same}
-use Rattle.definition.proofs.Admission.{asked, askedIn, sizeOf, GroupUse, KindFits, UseFits, Sizes, ServedIn, SegFits, nth, admission}
+use Rattle.definition.proofs.ReadBack.{Test, ofPiece, uses-same}
+use Rattle.definition.proofs.Admission.{sizeOf, GroupUse, UseFits, Sizes, ServedIn, SegFits, admission}
 
 all-at : {A : Type 0} (P : A → Type 0) (xs : List A) (n : ℕ) (d : A) → All P xs → n < length xs → P (getD xs n d)
 all-at P [] n d h l = absurd (omega arith)
@@ -77,69 +74,62 @@ module _ (job : Job) where
     unfolding bookOk
     fits-all = all-map _ ClassFits class-fits (job .classes) (every-all (classOk (job .classes)) (job .classes) (conj-all (bookTests job) book .1 .1 .0))
 
-    fits-at : (c : ℕ) → ClassFits (classAt job c)
+    fits-at : (c : RegClass) → ClassFits (classAt job c)
     unfolding classAt
-    fits-at c = all-getD ClassFits (job .classes) c noClass fits-all (pow-pos (length (job .classes)), λ l. absurd (omega arith))
+    fits-at c = all-getD ClassFits (job .classes) (c .0) noClass fits-all (pow-pos (length (job .classes)), λ l. absurd (omega arith))
 
     masks : Masks job
     masks c = le-trans (fits-at c .0) (pow-mono few)
 
     sizes : Sizes job
     unfolding classAt
-    sizes c k i l = let f = fits-at c in sized-at (job .classes) (classAt job c .mask) (classAt job c .size) k (f .0) (f .1 l) i
+    sizes c k i l = let f = fits-at c in sized-at (job .classes) (classAt job c .mask) (classAt job c .size) (k .0) (f .0) (f .1 l) i
 
   -- ---- operands
 
-  abbrev There : ℕ → ℕ → ℕ → ℕ → Operand → Type 0
-  There p s c i o = (o .inst ≡ p) × (o .slot ≡ s) × (o .class ≡ c) × (i < length (membersOf job (o .vgroup)))
+  abbrev pub There : Value → Inst → ℕ → RegClass → ℕ → Operand → Type 0
+  There v p s c i o =
+      (o .inst ≡ p) × (o .slot ≡ s) × (o .class ≡ c) × (i < length (membersOf job (o .vgroup))) × (getD (membersOf job (o .vgroup)) i (val 0) ≡ v)
 
-  there : (v p s c i : ℕ) (o : Operand) → conj (groupUseTests job v p s c i o) ≡ true → There p s c i o
+  there : (v : Value) (p : Inst) (s : ℕ) (c : RegClass) (i : ℕ) (o : Operand) → conj (groupUseTests job v p s c i o) ≡ true → There v p s c i o
   there v p s c i o e =
       let a = conj-all (groupUseTests job v p s c i o) e in
-      (eqb-true _ _ (a .0), eqb-true _ _ (a .1 .0), eqb-true _ _ (a .1 .1 .0), ltb-true _ _ (a .1 .1 .1 .0))
-
-  -- an operand whose facts hold of all
-  module _ (P : Operand → Type 0) where
-    pick : (v p s c i : ℕ) (os : List Operand) → All P os → some-is (λ o. conj (groupUseTests job v p s c i o)) os ≡ true → (o : Operand) × P o × There p s c i o
-    unfolding some-is
-    pick v p s c i [] h e = let z : _≡_ {A = ℕ} 0 1 = cc in absurd (omega arith)
-    pick v p s c i (o ∷ os) h e = go (conj (groupUseTests job v p s c i o)) refl e (λ d. pick v p s c i os (h .1) d)
-      where
-        go : (b : Bool) → conj (groupUseTests job v p s c i o) ≡ b → (b || some-is (λ o. conj (groupUseTests job v p s c i o)) os) ≡ true
-            → (some-is (λ o. conj (groupUseTests job v p s c i o)) os ≡ true → (o : Operand) × P o × There p s c i o) → (o : Operand) × P o × There p s c i o
-        go true a d ih = (o, h .0, there v p s c i o a)
-        go false a d ih = ih d
+      (ap inst (eqb-true _ _ (a .0)), eqb-true _ _ (a .1 .0), ap cls (eqb-true _ _ (a .1 .1 .0)), ltb-true _ _ (a .1 .1 .1 .0), ap val (eqb-true _ _ (a .1 .1 .1 .1 .0)))
 
   -- a second one at the same place would be found
-  pub again : (v p s c i : ℕ) (o : Operand) (os : List Operand) → o .inst ≡ p → o .slot ≡ s → some-is (λ o. conj (groupUseTests job v p s c i o)) os ≡ true → some-is (samePlace o) os ≡ true
+  again : (v : Value) (p : Inst) (s : ℕ) (c : RegClass) (i : ℕ) (o : Operand) (os : List Operand) → o .inst ≡ p → o .slot ≡ s
+      → some-is (λ o. conj (groupUseTests job v p s c i o)) os ≡ true → some-is (samePlace o) os ≡ true
   unfolding some-is
   again v p s c i o [] x y e = e
   again v p s c i o (r ∷ os) x y e = go (conj (groupUseTests job v p s c i r)) refl e (λ d. again v p s c i o os x y d)
     where
       go : (b : Bool) → conj (groupUseTests job v p s c i r) ≡ b → (b || some-is (λ o. conj (groupUseTests job v p s c i o)) os) ≡ true
           → (some-is (λ o. conj (groupUseTests job v p s c i o)) os ≡ true → some-is (samePlace o) os ≡ true) → (samePlace o r || some-is (samePlace o) os) ≡ true
-      go true a d ih = let t = there v p s c i r a in rw (eq-eqb (o .inst) (r .inst) (x ∙ sym (t .0)), eq-eqb (o .slot) (r .slot) (y ∙ sym (t .1)))
+      go true a d ih = let t = there v p s c i r a in rw (eq-eqb (o .inst .0) (r .inst .0) (ap (λ (j : Inst). j .0) (x ∙ sym (t .0))), eq-eqb (o .slot) (r .slot) (y ∙ sym (t .1)))
       go false a d ih = or-right (samePlace o r) (ih d)
         where
           or-right : (b : Bool) → some-is (samePlace o) os ≡ true → (b || some-is (samePlace o) os) ≡ true
           or-right true f = refl
           or-right false f = f
 
-  asked-is : (v p s c i : ℕ) (os : List Operand) → apart samePlace os ≡ true → some-is (λ o. conj (groupUseTests job v p s c i o)) os ≡ true → askedIn os p s ≡ c
+  -- no two are at one place: the operand that is found first is the one that passed the tests; what holds of all holds of it
+  operand-is : (P : Operand → Type 0) (v : Value) (p : Inst) (s : ℕ) (c : RegClass) (i : ℕ) (os : List Operand) → All P os → apart samePlace os ≡ true
+      → some-is (λ o. conj (groupUseTests job v p s c i o)) os ≡ true → P (operandAt os p s) × There v p s c i (operandAt os p s)
   unfolding some-is apart
-  asked-is v p s c i [] ap′ e = let z : _≡_ {A = ℕ} 0 1 = cc in absurd (omega arith)
-  asked-is v p s c i (o ∷ os) ap′ e =
+  operand-is P v p s c i [] h ap′ e = let z : _≡_ {A = ℕ} 0 1 = cc in absurd (omega arith)
+  operand-is P v p s c i (o ∷ os) h ap′ e =
       let a = and-both (not (some-is (samePlace o) os)) (apart samePlace os) ap′ in
-      go (conj (groupUseTests job v p s c i o)) (eqb (o .inst) p) (eqb (o .slot) s) refl refl refl e (a .0) (λ d. asked-is v p s c i os (a .1) d)
+      go (conj (groupUseTests job v p s c i o)) (eqb (o .inst .0) (p .0)) (eqb (o .slot) s) refl refl refl e (a .0) (λ d. operand-is P v p s c i os (h .1) (a .1) d)
     where
-      go : (b x y : Bool) → conj (groupUseTests job v p s c i o) ≡ b → eqb (o .inst) p ≡ x → eqb (o .slot) s ≡ y
+      go : (b x y : Bool) → conj (groupUseTests job v p s c i o) ≡ b → eqb (o .inst .0) (p .0) ≡ x → eqb (o .slot) s ≡ y
           → (b || some-is (λ o. conj (groupUseTests job v p s c i o)) os) ≡ true → not (some-is (samePlace o) os) ≡ true
-          → (some-is (λ o. conj (groupUseTests job v p s c i o)) os ≡ true → askedIn os p s ≡ c) → cond (x && y) (o .class) (askedIn os p s) ≡ c
-      go true true true a x y d n ih = there v p s c i o a .2
-      go true false y′ a x y d n ih = absurd (eqb-false _ _ x (there v p s c i o a .0))
+          → (some-is (λ o. conj (groupUseTests job v p s c i o)) os ≡ true → P (operandAt os p s) × There v p s c i (operandAt os p s))
+          → P (cond (x && y) o (operandAt os p s)) × There v p s c i (cond (x && y) o (operandAt os p s))
+      go true true true a x y d n ih = (h .0, there v p s c i o a)
+      go true false y′ a x y d n ih = absurd (eqb-false _ _ x (ap (λ (j : Inst). j .0) (there v p s c i o a .0)))
       go true true false a x y d n ih = absurd (eqb-false _ _ y (there v p s c i o a .1))
       go false true true a x y d n ih =
-          let q : some-is (samePlace o) os ≡ true = again v p s c i o os (eqb-true _ _ x) (eqb-true _ _ y) d in
+          let q : some-is (samePlace o) os ≡ true = again v p s c i o os (ap inst (eqb-true _ _ x)) (eqb-true _ _ y) d in
           let r : not true ≡ true = subst (λ (t : Bool). not t ≡ true) q n in
           let z : _≡_ {A = ℕ} 0 1 = cc in absurd (omega arith)
       go false true false a x y d n ih = ih d
@@ -155,49 +145,39 @@ module _ (job : Job) where
         let a = conj-all (operandTests job o) e in
         let f = conj-all (functionTests job) fn in
         let g = every-all (vgroupOk job) (job .vgroups) (f .1 .1 .0) in
-        let l : o .vgroup < length (job .vgroups) = ltb-true _ _ (a .1 .1 .0) in
-        let v : vgroupOk job (membersOf job (o .vgroup)) ≡ true = all-at (λ x. vgroupOk job x ≡ true) (job .vgroups) (o .vgroup) [] g l in
+        let l : o .vgroup .0 < length (job .vgroups) = ltb-true _ _ (a .1 .1 .0) in
+        let v : vgroupOk job (membersOf job (o .vgroup)) ≡ true = all-at (λ x. vgroupOk job x ≡ true) (job .vgroups) (o .vgroup .0) [] g l in
         (leb-true _ _ (conj-all (vgroupTests job (membersOf job (o .vgroup))) v .0), eqb-true _ _ (a .1 .1 .1 .1 .0))
 
-    group-use-fits : (v p s c i : ℕ) → groupUseOk job v p s c i ≡ true → GroupUse job p s c i
+    -- the operand of a group use
+    pub group-operand : (v : Value) (p : Inst) (s : ℕ) (c : RegClass) (i : ℕ) → groupUseOk job v p s c i ≡ true
+        → OpFits (operandAt (job .operands) p s) × There v p s c i (operandAt (job .operands) p s)
     unfolding groupUseOk functionOk
-    group-use-fits v p s c i e =
+    group-operand v p s c i e =
         let f = conj-all (functionTests job) fn in
-        let all = all-map _ OpFits op-fits (job .operands) (every-all (operandOk job) (job .operands) (f .1 .1 .1 .0)) in
-        let o = pick OpFits v p s c i (job .operands) all e in
-        let size : sizeOf job c ≡ length (membersOf job (o .0 .vgroup)) = subst (λ (x : ℕ). classAt job x .size ≡ length (membersOf job (o .0 .vgroup))) (o .2 .2) (o .1 .1) in
-        (asked-is v p s c i (job .operands) (f .1 .1 .1 .1 .0) e, omega (arith, o .1 .0), omega (arith, o .2 .3))
+        operand-is OpFits v p s c i (job .operands) (all-map _ OpFits op-fits (job .operands) (every-all (operandOk job) (job .operands) (f .1 .1 .1 .0))) (f .1 .1 .1 .1 .0) e
 
-    kind-fits : (v p : ℕ) (k : UseKind) → kindOk job v p k ≡ true → KindFits job p k
-    unfolding kindOk
-    kind-fits v p (FixedDef r) e = tt
-    kind-fits v p (FixedUse r) e = tt
-    kind-fits v p (TiedUse u d c i) e = tt
-    kind-fits v p ConstraintConflict e = tt
-    kind-fits v p (ClassUse s c) e = tt
-    kind-fits v p (ClassDef s c) e = tt
-    kind-fits v p (GroupClassUse s c i) e = group-use-fits v p s c i e
-    kind-fits v p (GroupClassDef s c i) e = group-use-fits v p s c i e
-    kind-fits v p (BlockparamIn q) e = tt
-    kind-fits v p BlockparamOut e = tt
+    group-use-fits : (v : Value) (p : Inst) (s : ℕ) (c : RegClass) (i : ℕ) → groupUseOk job v p s c i ≡ true → GroupUse job p s c i
+    group-use-fits v p s c i e =
+        let o = operandAt (job .operands) p s in
+        let t = group-operand v p s c i e in
+        let size : sizeOf job c ≡ length (membersOf job (o .vgroup)) = subst (λ (x : RegClass). classAt job x .size ≡ length (membersOf job (o .vgroup))) (t .1 .2) (t .0 .1) in
+        (t .1 .2, omega (arith, t .0 .0), omega (arith, t .1 .3))
 
     uses-fit : (s : Segment) → usesOk job s ≡ true → All (UseFits job) (s .uses)
-    unfolding usesOk useOk
-    uses-fit s e =
-        all-map _ (UseFits job) (λ u d. kind-fits (s .value) (u .inst) (u .kind) (conj-all (useTests job s u) d .1 .0)) (s .uses)
-        (every-all (useOk job s) (s .uses) (and-both (every (useOk job s) (s .uses)) _ e .0))
+    uses-fit s e = uses-are job (GroupUse job) s (group-use-fits (s .value)) e
 
 -- ---- the promises for an accepted job
 
 pub record Kept (job : Job) (res : Result) : Type 0 where
   -- each point of each value stands in the own pieces exactly as often as in the job
-  pub points : (v x : ℕ) → counted (ofOwn (λ s. one (has v x s))) (res .registers) ≡ total (λ s. one (has v x s)) (job .segments)
+  pub points : (v : Value) (x : ℕ) → counted (ofOwn (λ s. one (holds v x s))) (res .registers) ≡ total (λ s. one (holds v x s)) (job .segments)
   -- each use of each value that is no class use stands in own pieces exactly as often as in the job; so do class uses and marks, counted together
-  pub own-uses : (v : ℕ) (P : Use → Bool) → Steady P → counted (ofOwn (ownUses v P)) (res .registers) ≡ total (ownUses v P) (job .segments)
+  pub own-uses : (v : Value) (P : Use → Bool) → Steady P → counted (ofOwn (ownUses v P)) (res .registers) ≡ total (ownUses v P) (job .segments)
   -- each class use of each value stands in own and added pieces exactly as often as in the job
-  pub uses : (v : ℕ) (P : Use → Bool) (t : Test P) → counted (ofPiece v P t) (res .registers) ≡ total (ofSeg v P t) (job .segments)
+  pub uses : (v : Value) (P : Use → Bool) → Test P → counted (ofPiece v P) (res .registers) ≡ total (ownUses v P) (job .segments)
   -- where subclassing is transitive, each register's class is admitted by every class use in its pieces
-  pub classes : Transitive job → (r : ℕ) → r < length (res .registers) → ServedIn job (nth (res .registers) r .class) (nth (res .registers) r .pieces)
+  pub classes : Transitive job → (r : VirtReg) → r .0 < length (res .registers) → ServedIn job (nth (res .registers) r .class) (nth (res .registers) r .pieces)
 
 pub accepted : (o : Option Refusal) (job : Job) (room : Room) (res : Result) → entry job ≡ o → answerTo o job room ≡ done res → (entry job ≡ none) × (build job room ≡ done res)
 unfolding answerTo
@@ -218,26 +198,3 @@ kept job room res e =
       uses = λ v P test. uses-same v P test job room res (a .1);
       classes = λ tr. admission job ms tr sz room res fit (a .1);
     }
-
--- ---- one class use: the test that is passed by its equals, by the numbers of its line
-
-pub isUse : Use → Use → Bool
-isUse w u = same (numbersOf (w .kind) (w .inst)) (numbersOf (u .kind) (u .inst))
-
-pub is-use : (k : UseKind) (i : ℕ) → isClassUse k ≡ true → Test (isUse (record { kind = k; inst = i }))
-unfolding isUse
-is-use (FixedDef r) i e = let z : _≡_ {A = ℕ} 0 1 = cc in absurd (omega arith)
-is-use (FixedUse r) i e = let z : _≡_ {A = ℕ} 0 1 = cc in absurd (omega arith)
-is-use (TiedUse u d c x) i e = let z : _≡_ {A = ℕ} 0 1 = cc in absurd (omega arith)
-is-use ConstraintConflict i e = let z : _≡_ {A = ℕ} 0 1 = cc in absurd (omega arith)
-is-use (ClassUse s c) i e = record { mark = λ u. refl; param = λ p q. refl }
-is-use (ClassDef s c) i e = record { mark = λ u. refl; param = λ p q. refl }
-is-use (GroupClassUse s c x) i e = record { mark = λ u. refl; param = λ p q. refl }
-is-use (GroupClassDef s c x) i e = record { mark = λ u. refl; param = λ p q. refl }
-is-use (BlockparamIn p) i e = let z : _≡_ {A = ℕ} 0 1 = cc in absurd (omega arith)
-is-use BlockparamOut i e = let z : _≡_ {A = ℕ} 0 1 = cc in absurd (omega arith)
-
--- a class use of value v stands in the pieces of an accepted job's result, own and added, exactly as often as in the job
-pub class-use-kept : (job : Job) (room : Room) (res : Result) → answer job room ≡ done res → (v i : ℕ) (k : UseKind) (e : isClassUse k ≡ true)
-    → counted (ofPiece v (isUse (record { kind = k; inst = i })) (is-use k i e)) (res .registers) ≡ total (ofSeg v (isUse (record { kind = k; inst = i })) (is-use k i e)) (job .segments)
-class-use-kept job room res a v i k e = kept job room res a .uses v (isUse (record { kind = k; inst = i })) (is-use k i e)

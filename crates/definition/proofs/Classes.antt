@@ -1,21 +1,18 @@
--- Class admission: where subclassing is transitive, the class held admits every class use that was admitted. Here for uses of no group. Assumes nothing.
-use mathlib.Core.Path.{_≡_, refl, ap, sym, _∙_, subst}
+-- Classes as bits of masks: what a common subclass is, and what admitting one class use leaves held where subclassing is transitive. Assumes nothing.
+use mathlib.Core.Path.{_≡_, refl, ap, sym, subst}
 use mathlib.Core.Logic.{_⊎_, inl, inr}
-use Prim.Native.Nat.{ℕ, zero, suc, _+_, _-_, _*_, _/_, _%_, _^_, _≤_, _<_, min}
+use Prim.Native.Nat.{ℕ, zero, suc, _/_, _%_, _^_, _<_}
 use native.Mathlib.Nat.{pow-suc}
 use native.Mathlib.Omega.{arith}
-use mathlib.Core.Bool.{Bool, true, false}
-use mathlib.Core.Option.{Option, none, some, bind, Option·some-injective}
-use mathlib.Core.List.{List, [], _∷_, _++_}
-use lib.ListN.{length, getD}
+use mathlib.Core.Option.{none, some, Option·some-injective}
 use lib.Bits.{bitAnd, and-step, and-lt}
 use lib.Count.{trailingZeros, under}
-use Rattle.definition.specs.Types.{BlockparamIn, BlockparamOut, ClassData, ClassDef, ClassUse, ConstraintConflict, FixedDef, FixedUse, GroupClassDef, GroupClassUse, Held, Job, State, TiedUse, Use, UseKind}
+use Rattle.definition.specs.Types.{RegClass, UseKind, Use, ClassData, Job, Held, cls}
 use Rattle.definition.specs.RegInfo.{classAt, commonSubclass, lowest}
-use Rattle.definition.specs.Uses.{classOf, slotOf}
-use Rattle.definition.specs.Admit.{Scan, admit, admitClass, admitKind, fails-at, later, onAdmit, scan, through}
+use Rattle.definition.specs.Uses.{classOf}
+use Rattle.definition.specs.Admit.{admitClass}
 use Rattle.definition.specs.Promised.{In, Transitive, bitAt}
-use Rattle.definition.proofs.Places.{All, bind-some}
+use Rattle.definition.proofs.Places.{bind-some}
 
 -- ---- bit k of m
 
@@ -42,7 +39,7 @@ unfolding lowest
 lowest-none zero e = refl
 lowest-none (suc m) e = absurd (omega arith)
 
-pub lowest-some : (m : ℕ) → (m ≡ 0 → ⊥) → lowest m ≡ some (trailingZeros 32 m)
+pub lowest-some : (m : ℕ) → (m ≡ 0 → ⊥) → lowest m ≡ some (cls (trailingZeros 32 m))
 unfolding lowest
 lowest-some zero h = absurd (h refl)
 lowest-some (suc m) h = refl
@@ -51,43 +48,43 @@ lowest-some (suc m) h = refl
 
 -- masks of 32 bits
 abbrev pub Masks : Job → Type 0
-Masks job = (c : ℕ) → classAt job c .mask < 2 ^ 32
+Masks job = (c : RegClass) → classAt job c .mask < 2 ^ 32
 
-lowest-bit : (m k : ℕ) → m < 2 ^ 32 → lowest m ≡ some k → bitAt k m ≡ 1
+lowest-bit : (m : ℕ) (k : RegClass) → m < 2 ^ 32 → lowest m ≡ some k → bitAt (k .0) m ≡ 1
 unfolding lowest
 lowest-bit zero k h e = let z : _≡_ {A = ℕ} 0 1 = cc in absurd (omega arith)
-lowest-bit (suc m) k h e = subst (λ (i : ℕ). bitAt i (suc m) ≡ 1) (Option·some-injective _ _ e) (bit-lowest 32 (suc m) (omega arith) h)
+lowest-bit (suc m) k h e = subst (λ (i : RegClass). bitAt (i .0) (suc m) ≡ 1) (Option·some-injective _ _ e) (bit-lowest 32 (suc m) (omega arith) h)
 
-pub common-in : (job : Job) (a b k : ℕ) → Masks job → commonSubclass job a b ≡ some k → In job k a × In job k b
+pub common-in : (job : Job) (a b k : RegClass) → Masks job → commonSubclass job a b ≡ some k → In job k a × In job k b
 unfolding commonSubclass
 common-in job a b k ms e =
     let x = classAt job a .mask in
     let y = classAt job b .mask in
-    bit-and k x y (lowest-bit (bitAnd x y) k (and-lt 32 x y (ms a) (ms b)) e)
+    bit-and (k .0) x y (lowest-bit (bitAnd x y) k (and-lt 32 x y (ms a) (ms b)) e)
 
 -- ---- uses
 
 -- the class k is admitted by what u asks for
-abbrev pub Serves : Job → ℕ → Use → Type 0
-Serves job k u = (c : ℕ) → classOf (u .kind) ≡ some c → In job k c
+abbrev pub Serves : Job → RegClass → Use → Type 0
+Serves job k u = (c : RegClass) → classOf (u .kind) ≡ some c → In job k c
 
-abbrev pub Below : Job → ℕ → ℕ → Type 0
+abbrev pub Below : Job → RegClass → RegClass → Type 0
 Below job j k = (j ≡ k) ⊎ In job j k
 
 module _ (job : Job) (ms : Masks job) (tr : Transitive job) where
-  pub below-in : (j k c : ℕ) → Below job j k → In job k c → In job j c
+  pub below-in : (j k c : RegClass) → Below job j k → In job k c → In job j c
   below-in j k c (inl e) h = rw e h
   below-in j k c (inr i) h = tr c k j h i
 
-  pub below-trans : (i j k : ℕ) → Below job i j → Below job j k → Below job i k
+  pub below-trans : (i j k : RegClass) → Below job i j → Below job j k → Below job i k
   below-trans i j k a (inl e) = rw e at a
   below-trans i j k (inl e) (inr h) = inr (rw e h)
   below-trans i j k (inr g) (inr h) = inr (tr k j i h g)
 
-  pub serves-below : (j k : ℕ) (u : Use) → Below job j k → Serves job k u → Serves job j u
+  pub serves-below : (j k : RegClass) (u : Use) → Below job j k → Serves job k u → Serves job j u
   serves-below j k u b s c e = below-in j k c b (s c e)
 
-  pub class-admits : (h : Held) (c : ℕ) (g : Held) → admitClass job h c ≡ some g → In job (g .class) (h .class) × In job (g .class) c
+  pub class-admits : (h : Held) (c : RegClass) (g : Held) → admitClass job h c ≡ some g → In job (g .class) (h .class) × In job (g .class) c
   unfolding admitClass
   class-admits h c g e =
       let r = bind-some (commonSubclass job (h .class) c) _ g e in
@@ -96,47 +93,14 @@ module _ (job : Job) (ms : Masks job) (tr : Transitive job) where
       (rw q at (i .0), rw q at (i .1))
 
   abbrev pub Step : Held → Held → UseKind → Type 0
-  Step h g k = Below job (g .class) (h .class) × ((c : ℕ) → classOf k ≡ some c → In job (g .class) c)
+  Step h g k = Below job (g .class) (h .class) × ((c : RegClass) → classOf k ≡ some c → In job (g .class) c)
 
   pub same-step : (h g : Held) (k : UseKind) → some h ≡ some g → classOf k ≡ none → Step h g k
   same-step h g k e f =
       let q : g .class ≡ h .class = ap (λ (x : Held). x .class) (sym (Option·some-injective h g e)) in
       (inl q, λ c d. let z : _≡_ {A = ℕ} 0 1 = cc in absurd (omega arith))
 
-  pub class-step : (h : Held) (c : ℕ) (g : Held) (k : UseKind) → classOf k ≡ some c → admitClass job h c ≡ some g → Step h g k
+  pub class-step : (h : Held) (c : RegClass) (g : Held) (k : UseKind) → classOf k ≡ some c → admitClass job h c ≡ some g → Step h g k
   class-step h c g k f e =
       let i = class-admits h c g e in
       (inr (i .0), λ d a. let q : c ≡ d = cc in rw q at (i .1))
-
-  kind-step : (st : State) (h : Held) (p : ℕ) (k : UseKind) (g : Held) → slotOf k ≡ none → admitKind job st h p k ≡ some g → Step h g k
-  unfolding admitKind
-  kind-step st h p (FixedDef r) g n e = same-step h g (FixedDef r) e refl
-  kind-step st h p (FixedUse r) g n e = same-step h g (FixedUse r) e refl
-  kind-step st h p (TiedUse u d c i) g n e = same-step h g (TiedUse u d c i) e refl
-  kind-step st h p ConstraintConflict g n e = same-step h g ConstraintConflict e refl
-  kind-step st h p (ClassUse s c) g n e = class-step h c g (ClassUse s c) refl e
-  kind-step st h p (ClassDef s c) g n e = class-step h c g (ClassDef s c) refl e
-  kind-step st h p (GroupClassUse s c i) g n e = let z : _≡_ {A = ℕ} 0 1 = cc in absurd (omega arith)
-  kind-step st h p (GroupClassDef s c i) g n e = let z : _≡_ {A = ℕ} 0 1 = cc in absurd (omega arith)
-  kind-step st h p (BlockparamIn q) g n e = same-step h g (BlockparamIn q) e refl
-  kind-step st h p BlockparamOut g n e = same-step h g BlockparamOut e refl
-
-  -- a scan that goes through: the class then held is admitted by every use
-  pub scan-admits : (st : State) (us : List Use) (h g : Held) → All (λ u. slotOf (u .kind) ≡ none) us → scan job st us h ≡ through g
-      → Below job (g .class) (h .class) × All (Serves job (g .class)) us
-  unfolding scan admit
-  scan-admits st [] h g n e = let q : g .class ≡ h .class = cc in (inl q, tt)
-  scan-admits st (u ∷ us) h g n e = go (admit job st h u) refl e (λ k d. scan-admits st us k g (n .1) d)
-    where
-      go : (r : Option Held) → admit job st h u ≡ r → onAdmit r (λ k. scan job st us k) ≡ through g
-          → ((k : Held) → scan job st us k ≡ through g → Below job (g .class) (k .class) × All (Serves job (g .class)) us)
-          → Below job (g .class) (h .class) × All (Serves job (g .class)) (u ∷ us)
-      go none a f ih = let z : _≡_ {A = ℕ} 0 1 = cc in absurd (omega arith)
-      go (some k) a f ih = back (scan job st us k) refl f
-        where
-          back : (r : Scan) → scan job st us k ≡ r → later r ≡ through g → Below job (g .class) (h .class) × All (Serves job (g .class)) (u ∷ us)
-          back (through l) b c =
-              let s = kind-step st h (u .inst) (u .kind) k (n .0) a in
-              let i = ih k (b ∙ c) in
-              (below-trans (g .class) (k .class) (h .class) (i .0) (s .0), (serves-below (g .class) (k .class) u (i .0) (s .1), i .1))
-          back (fails-at m) b c = let z : _≡_ {A = ℕ} 0 1 = cc in absurd (omega arith)

@@ -4,130 +4,129 @@ use mathlib.Core.Path.{_≡_, refl, ap, sym, _∙_, subst}
 use mathlib.Core.Logic.{_⊎_, inl, inr}
 use Prim.Native.Nat.{ℕ, zero, suc, _+_, _-_, _≤_, _<_}
 use native.Mathlib.Omega.{arith}
-use mathlib.Core.Bool.{Bool, true, false, cond, not, _&&_, _||_}
+use mathlib.Core.Bool.{Bool, true, false, cond, _&&_}
 use mathlib.Core.Option.{Option, none, some, Option·some-injective}
 use mathlib.Core.List.{List, [], _∷_, _++_, map}
 use lib.ListN.{length, getD, set, replicate, length-append, List·getD-append, length-set}
 use lib.Seq.{getD-append-add, getD-set-same, getD-set-other}
-use lib.Dec.{leb, ltb, eqb}
+use lib.Dec.{ltb, eqb}
 use lib.Ieee.{Float}
 use borrow.Author.Tests.{ltb-true, ltb-false, eqb-true, eqb-false, eq-eqb, ne-eqb}
-use Rattle.definition.specs.Types.{BlockparamIn, BlockparamOut, ClassData, ClassDef, ClassUse, ConstraintConflict, FixedDef, FixedUse, GroupClassDef, GroupClassUse, Held, HeldGroup, Job, Mapped, MappedTwice, Operand, Overlap, Piece, Register, Room, Segment, State, TiedUse, Use, UseKind, done}
+use Rattle.definition.specs.Types.{Inst, Value, ValueSet, RegClass, VirtReg, VirtRegGroup, UseKind, Use, ClassData, Operand, Segment, Job, Room, HeldGroup, Held, Piece, Register, Mapped, State, MappedTwice, Overlap, done, inst, val, vset, vreg, vrgroup}
 use Rattle.definition.specs.RegInfo.{classAt, commonSubclass, setOf}
 use Rattle.definition.specs.Uses.{slotOf}
 use Rattle.definition.specs.Weights.{weightOf}
-use Rattle.definition.specs.Admit.{Scan, admit, admitClass, admitGroup, admitKind, atPlace, fails-at, fresh, groupFits, guard, inGroup, later, mappedAt, mappingFits, membersAt, narrowed, noRegister, onAdmit, registerAt, scan, setsAt, through, vgroupAt}
-use Rattle.definition.specs.Place.{alone, aloneState, firstFrom, groupWeight, hasRoom, inserted, isNone, join, joinState, lastTo, lead, leadState, made, mapOne, mapUses, merge, mergeState, onMapping, orElse, overlaps, place, placeBy, placeGroup, segsOf, slotD, spread, update, usesOf, withPieces, withWeight}
+use Rattle.definition.specs.Admit.{admit, admitClass, admitGroup, admitKind, atPlace, fresh, groupFits, guard, inGroup, mappedAt, mappingFits, membersAt, narrowed, noRegister, registerAt, sameSets, scan, setsAt, through, vgroupAt}
+use Rattle.definition.specs.Place.{alone, aloneState, firstFrom, groupWeight, hasRoom, inserted, isNone, join, joinState, lastTo, lead, leadState, made, mapUses, merge, mergeState, orElse, overlaps, place, placeBy, placeGroup, segsOf, spread, update, usesOf, withPieces, withWeight}
 use Rattle.definition.specs.Build.{Result, build, buildSets, empty, runs, sameSet}
-use Rattle.definition.specs.Entry.{apart, conj, every, functionOk, functionTests, groupUseOk, groupUseTests, kindOk, membersOf, samePlace, some-is, useOk, useTests, usesOk}
-use Rattle.definition.specs.Promised.{same}
-use Rattle.definition.proofs.Places.{All, all-append, all-getD, all-map, bind-some, gate-done, update-length}
-use Rattle.definition.proofs.Entries.{and-both, conj-all, every-all}
-use Rattle.definition.proofs.Admission.{nth}
-use Rattle.definition.proofs.Same.{same-eq}
+use Rattle.definition.specs.Entry.{every, functionOk, groupUseOk, membersOf, usesOk}
+use Rattle.definition.proofs.Places.{All, all-append, all-getD, all-map, bind-some, bind-done, gate-done, update-length}
+use Rattle.definition.proofs.Entries.{and-both, every-all}
+use Rattle.definition.proofs.Scans.{scan-step}
+use Rattle.definition.proofs.Tables.{nth, same-group, nth-left, AllMapped, mapped-found, map-all, or-empty, operandAt, vgroup-at, all-inserted, piece-uses, guarded, KindIs, kind-cases, uses-are}
 use Rattle.definition.proofs.Runs.{SegOk, PieceOk, RunOk, runs-all, sets-kept}
 use Rattle.definition.proofs.Order.{AllOf, Rise}
-use Rattle.definition.proofs.Points.{bind-done}
-use Rattle.definition.proofs.Accepted.{again}
+use Rattle.definition.proofs.Accepted.{group-operand}
 
 -- the pieces of a register are of values of its set
 abbrev pub InSet : Job → Register → Type 0
 InSet job r = All (λ p. setOf job (p .seg .value) ≡ r .set) (r .pieces)
 
 -- a group use's index names a member of the set u
-abbrev pub KindIn : Job → ℕ → ℕ → UseKind → Type 0
-KindIn job u p (FixedDef r) = Unit {0}
-KindIn job u p (FixedUse r) = Unit {0}
-KindIn job u p (TiedUse x d c i) = Unit {0}
-KindIn job u p ConstraintConflict = Unit {0}
-KindIn job u p (ClassUse s c) = Unit {0}
-KindIn job u p (ClassDef s c) = Unit {0}
-KindIn job u p (GroupClassUse s c i) = getD (setsAt job p s) i 0 ≡ u
-KindIn job u p (GroupClassDef s c i) = getD (setsAt job p s) i 0 ≡ u
-KindIn job u p (BlockparamIn q) = Unit {0}
-KindIn job u p BlockparamOut = Unit {0}
+abbrev IndexIn : Job → ValueSet → Inst → ℕ → RegClass → ℕ → Type 0
+IndexIn job u p s c i = getD (setsAt job p s) i (vset 0) ≡ u
 
-abbrev pub UseIn : Job → ℕ → Use → Type 0
-UseIn job u w = KindIn job u (w .inst) (w .kind)
+abbrev pub KindIn : Job → ValueSet → Inst → UseKind → Type 0
+KindIn job u p k = KindIs (IndexIn job u p) k
 
-abbrev pub ValueIn : Job → ℕ → ℕ → Type 0
+abbrev pub UseIn : Job → ValueSet → Use → Type 0
+UseIn job u w = KindIn job u (w .pos) (w .kind)
+
+abbrev pub ValueIn : Job → ValueSet → Value → Type 0
 ValueIn job u v = setOf job v ≡ u
 
+-- an operand that is mapped to group g, one of n groups, has the value sets of g
+abbrev Meets : Job → ℕ → (VirtRegGroup → List ValueSet) → Inst → ℕ → VirtRegGroup → Type 0
+Meets job n σ i s g = (g .0 < n) × (setsAt job i s ≡ σ g)
+
 -- σ g: the value sets of group g, place by place
-pub record Right (job : Job) (st : State) (σ : ℕ → List ℕ) : Type 0 where
+pub record Right (job : Job) (st : State) (σ : VirtRegGroup → List ValueSet) : Type 0 where
   pub own-sets : All (InSet job) (st .registers)
-  pub members : (g j v : ℕ) → getD (membersAt st g) j none ≡ some v → (v < length (st .registers)) × (nth (st .registers) v .set ≡ getD (σ g) j 0)
-  pub maps : (i s g : ℕ) → mappedAt (st .mapping) i s ≡ some g → (g < length (st .groups)) × (setsAt job i s ≡ σ g)
+  pub members : (g : VirtRegGroup) (j : ℕ) (v : VirtReg) → getD (membersAt st g) j none ≡ some v → (v .0 < length (st .registers)) × (nth (st .registers) v .set ≡ getD (σ g) j (vset 0))
+  pub maps : AllMapped (Meets job (length (st .groups)) σ) (st .mapping)
 
 -- ---- what is held
 
-abbrev placeOf : State → Option ℕ → ℕ → Option ℕ
+abbrev placeOf : State → Option VirtRegGroup → ℕ → Option VirtReg
 placeOf st none i = none
 placeOf st (some g) i = getD (membersAt st g) i none
 
-abbrev GroupRight : State → (ℕ → List ℕ) → ℕ → Option ℕ → Option HeldGroup → Type 0
+abbrev GroupRight : State → (VirtRegGroup → List ValueSet) → ValueSet → Option VirtReg → Option HeldGroup → Type 0
 GroupRight st σ u t none = t ≡ none
 GroupRight st σ u t (some hg) =
-    (t ≡ placeOf st (hg .mapped) (hg .index)) × ((g : ℕ) → hg .mapped ≡ some g → (g < length (st .groups)) × (hg .sets ≡ σ g)) × (getD (hg .sets) (hg .index) 0 ≡ u)
+    (t ≡ placeOf st (hg .mapped) (hg .index)) × ((g : VirtRegGroup) → hg .mapped ≡ some g → (g .0 < length (st .groups)) × (hg .sets ≡ σ g)) × (getD (hg .sets) (hg .index) (vset 0) ≡ u)
 
-abbrev SetsIs : Option HeldGroup → List ℕ → Type 0
+abbrev SetsIs : Option HeldGroup → List ValueSet → Type 0
 SetsIs none xs = ⊥
 SetsIs (some hg) xs = hg .sets ≡ xs
 
 abbrev Persists : Held → Held → Type 0
-Persists h g = (xs : List ℕ) → SetsIs (h .group) xs → SetsIs (g .group) xs
+Persists h g = (xs : List ValueSet) → SetsIs (h .group) xs → SetsIs (g .group) xs
 
 -- a group use is of an operand with the sets held
-abbrev Agrees : Job → Option HeldGroup → ℕ → UseKind → Type 0
+abbrev Agrees : Job → Option HeldGroup → Inst → UseKind → Type 0
 Agrees job o p k = (s : ℕ) → slotOf k ≡ some s → SetsIs o (setsAt job p s)
 
-guarded : (b : Bool) (u : Unit {0}) → guard b ≡ some u → b ≡ true
-unfolding guard
-guarded true u e = refl
-guarded false u e = let z : _≡_ {A = ℕ} 0 1 = cc in absurd (omega arith)
+sets-equal : (xs ys : List ValueSet) → sameSets xs ys ≡ true → xs ≡ ys
+sets-equal [] [] e = refl
+sets-equal [] (y ∷ ys) e = let z : _≡_ {A = ℕ} 0 1 = cc in absurd (omega arith)
+sets-equal (x ∷ xs) [] e = let z : _≡_ {A = ℕ} 0 1 = cc in absurd (omega arith)
+sets-equal (x ∷ xs) (y ∷ ys) e =
+    let a = and-both (eqb (x .0) (y .0)) (sameSets xs ys) e in
+    ap (λ (n : ℕ). vset n ∷ xs) (eqb-true _ _ (a .0)) ∙ ap (λ (zs : List ValueSet). y ∷ zs) (sets-equal xs ys (a .1))
 
-fits-parts : (hg : HeldGroup) (i : ℕ) (m : Option ℕ) (sets : List ℕ) → groupFits (some hg) i m sets ≡ true → (hg .index ≡ i) × (mappingFits (hg .mapped) m ≡ true) × (hg .sets ≡ sets)
+fits-parts : (hg : HeldGroup) (i : ℕ) (m : Option VirtRegGroup) (sets : List ValueSet) → groupFits (some hg) i m sets ≡ true → (hg .index ≡ i) × (mappingFits (hg .mapped) m ≡ true) × (hg .sets ≡ sets)
 unfolding groupFits
 fits-parts hg i m sets e =
-    let a = and-both (eqb (hg .index) i && mappingFits (hg .mapped) m) (same (hg .sets) sets) e in
+    let a = and-both (eqb (hg .index) i && mappingFits (hg .mapped) m) (sameSets (hg .sets) sets) e in
     let b = and-both (eqb (hg .index) i) (mappingFits (hg .mapped) m) (a .0) in
-    (eqb-true _ _ (b .0), b .1, same-eq _ _ (a .1))
+    (eqb-true _ _ (b .0), b .1, sets-equal _ _ (a .1))
 
-module _ (job : Job) (st : State) (σ : ℕ → List ℕ) (ok : Right job st σ) (u : ℕ) where
+module _ (job : Job) (st : State) (σ : VirtRegGroup → List ValueSet) (ok : Right job st σ) (u : ValueSet) where
   abbrev HeldRight : Held → Type 0
   HeldRight h = GroupRight st σ u (h .target) (h .group)
 
-  abbrev Next : Held → Held → ℕ → UseKind → Type 0
+  abbrev Next : Held → Held → Inst → UseKind → Type 0
   Next h g p k = HeldRight g × Persists h g × Agrees job (g .group) p k
 
   -- the target held before is none, or the place that is now meant
-  target-before : (t : Option ℕ) (o : Option HeldGroup) (i : ℕ) (m : Option ℕ) (sets : List ℕ) → GroupRight st σ u t o → groupFits o i m sets ≡ true → (t ≡ none) ⊎ (t ≡ placeOf st m i)
+  target-before : (t : Option VirtReg) (o : Option HeldGroup) (i : ℕ) (m : Option VirtRegGroup) (sets : List ValueSet) → GroupRight st σ u t o → groupFits o i m sets ≡ true → (t ≡ none) ⊎ (t ≡ placeOf st m i)
   target-before t none i m sets r f = inl r
   target-before t (some hg) i m sets r f = let p = fits-parts hg i m sets f in go (hg .mapped) m refl (p .1) (r .0) (p .0)
     where
-      go : (a b : Option ℕ) → hg .mapped ≡ a → mappingFits a b ≡ true → t ≡ placeOf st a (hg .index) → hg .index ≡ i → (t ≡ none) ⊎ (t ≡ placeOf st b i)
+      go : (a b : Option VirtRegGroup) → hg .mapped ≡ a → mappingFits a b ≡ true → t ≡ placeOf st a (hg .index) → hg .index ≡ i → (t ≡ none) ⊎ (t ≡ placeOf st b i)
       go none b e d q x = inl q
       go (some g) none e d q x = let z : _≡_ {A = ℕ} 0 1 = cc in absurd (omega arith)
       go (some g) (some f′) e d q x =
-          let y : g ≡ f′ = eqb-true _ _ d in
-          inr (q ∙ ap (λ (j : ℕ). getD (membersAt st g) j none) x ∙ ap (λ (j : ℕ). getD (membersAt st j) i none) y)
+          let y : g ≡ f′ = same-group g f′ d in
+          inr (q ∙ ap (λ (j : ℕ). getD (membersAt st g) j none) x ∙ ap (λ (j : VirtRegGroup). getD (membersAt st j) i none) y)
 
-  either-none : (t : Option ℕ) → (t ≡ none) ⊎ (t ≡ none) → t ≡ none
+  either-none : (t : Option VirtReg) → (t ≡ none) ⊎ (t ≡ none) → t ≡ none
   either-none t (inl e) = e
   either-none t (inr e) = e
 
-  target-after : (h : Held) (k i : ℕ) (m : Option ℕ) (sets : List ℕ) (n : ℕ × Option ℕ) → HeldRight h → groupFits (h .group) i m sets ≡ true → inGroup job st h k i m ≡ some n
+  target-after : (h : Held) (k : RegClass) (i : ℕ) (m : Option VirtRegGroup) (sets : List ValueSet) (n : RegClass × Option VirtReg) → HeldRight h → groupFits (h .group) i m sets ≡ true → inGroup job st h k i m ≡ some n
       → n .1 ≡ placeOf st m i
   unfolding inGroup atPlace
   target-after h k i none sets n r f e =
-      let q : h .target ≡ n .1 = ap (λ (x : ℕ × Option ℕ). x .1) (Option·some-injective _ _ e) in
+      let q : h .target ≡ n .1 = ap (λ (x : RegClass × Option VirtReg). x .1) (Option·some-injective _ _ e) in
       sym q ∙ either-none (h .target) (target-before (h .target) (h .group) i none sets r f)
   target-after h k i (some g) sets n r f e = go (getD (membersAt st g) i none) refl e
     where
-      go : (o : Option ℕ) → getD (membersAt st g) i none ≡ o → atPlace job st h k (membersAt st g) o ≡ some n → n .1 ≡ getD (membersAt st g) i none
+      go : (o : Option VirtReg) → getD (membersAt st g) i none ≡ o → atPlace job st h k (membersAt st g) o ≡ some n → n .1 ≡ getD (membersAt st g) i none
       go none a d =
           let b = bind-some (narrowed job st (membersAt st g) k) _ n d in
-          let q : h .target ≡ n .1 = ap (λ (x : ℕ × Option ℕ). x .1) (Option·some-injective _ _ (b .2)) in
+          let q : h .target ≡ n .1 = ap (λ (x : RegClass × Option VirtReg). x .1) (Option·some-injective _ _ (b .2)) in
           pick (target-before (h .target) (h .group) i (some g) sets r f) q
         where
           pick : (h .target ≡ none) ⊎ (h .target ≡ getD (membersAt st g) i none) → h .target ≡ n .1 → n .1 ≡ getD (membersAt st g) i none
@@ -135,14 +134,14 @@ module _ (job : Job) (st : State) (σ : ℕ → List ℕ) (ok : Right job st σ)
           pick (inr x) q = sym q ∙ x
       go (some v) a d =
           let b = bind-some (commonSubclass job (h .class) (registerAt st v .class)) _ n d in
-          let q : some v ≡ n .1 = ap (λ (x : ℕ × Option ℕ). x .1) (Option·some-injective _ _ (b .2)) in
+          let q : some v ≡ n .1 = ap (λ (x : RegClass × Option VirtReg). x .1) (Option·some-injective _ _ (b .2)) in
           sym q ∙ sym a
 
-  sets-before : (o : Option HeldGroup) (i : ℕ) (m : Option ℕ) (sets xs : List ℕ) → groupFits o i m sets ≡ true → SetsIs o xs → sets ≡ xs
+  sets-before : (o : Option HeldGroup) (i : ℕ) (m : Option VirtRegGroup) (sets xs : List ValueSet) → groupFits o i m sets ≡ true → SetsIs o xs → sets ≡ xs
   sets-before none i m sets xs f e = absurd e
   sets-before (some hg) i m sets xs f e = sym (fits-parts hg i m sets f .2) ∙ e
 
-  group-next : (h g : Held) (p s c i : ℕ) (k : UseKind) → slotOf k ≡ some s → HeldRight h → getD (setsAt job p s) i 0 ≡ u → admitGroup job st h p s c i ≡ some g → Next h g p k
+  group-next : (h g : Held) (p : Inst) (s : ℕ) (c : RegClass) (i : ℕ) (k : UseKind) → slotOf k ≡ some s → HeldRight h → getD (setsAt job p s) i (vset 0) ≡ u → admitGroup job st h p s c i ≡ some g → Next h g p k
   unfolding admitGroup
   group-next h g p s c i k sl r us e =
       let m = mappedAt (st .mapping) p s in
@@ -154,16 +153,16 @@ module _ (job : Job) (st : State) (σ : ℕ → List ℕ) (ok : Right job st σ)
       let now : Held = record { class = n .0 .0; group = some (record { index = i; mapped = m; sets = sets }); target = n .0 .1 } in
       let q : now ≡ g = Option·some-injective _ _ (n .2) in
       subst (λ (x : Held). Next h x p k) q (
-        (target-after h (a .0) i m sets (n .0) r f (n .1), λ x d. ok .maps p s x d, us),
+        (target-after h (a .0) i m sets (n .0) r f (n .1), λ x d. mapped-found (Meets job (length (st .groups)) σ) (st .mapping) p s x (ok .maps) d, us),
         λ xs d. sets-before (h .group) i m sets xs f d,
         λ s′ d. ap (λ (y : ℕ). setsAt job p y) (Option·some-injective s s′ (sym sl ∙ d)),
       )
 
-  plain-next : (h g : Held) (p : ℕ) (k : UseKind) → slotOf k ≡ none → HeldRight h → some h ≡ some g → Next h g p k
+  plain-next : (h g : Held) (p : Inst) (k : UseKind) → slotOf k ≡ none → HeldRight h → some h ≡ some g → Next h g p k
   plain-next h g p k sl r e =
       subst (λ (x : Held). Next h x p k) (Option·some-injective h g e) (r, λ xs d. d, λ s d. let z : _≡_ {A = ℕ} 0 1 = cc in absurd (omega arith))
 
-  class-next : (h g : Held) (p c : ℕ) (k : UseKind) → slotOf k ≡ none → HeldRight h → admitClass job h c ≡ some g → Next h g p k
+  class-next : (h g : Held) (p : Inst) (c : RegClass) (k : UseKind) → slotOf k ≡ none → HeldRight h → admitClass job h c ≡ some g → Next h g p k
   unfolding admitClass
   class-next h g p c k sl r e =
       let a = bind-some (commonSubclass job (h .class) c) _ g e in
@@ -171,48 +170,31 @@ module _ (job : Job) (st : State) (σ : ℕ → List ℕ) (ok : Right job st σ)
       let q : now ≡ g = Option·some-injective _ _ (a .2) in
       subst (λ (x : Held). Next h x p k) q (r, λ xs d. d, λ s d. let z : _≡_ {A = ℕ} 0 1 = cc in absurd (omega arith))
 
-  kind-next : (h g : Held) (p : ℕ) (k : UseKind) → HeldRight h → KindIn job u p k → admitKind job st h p k ≡ some g → Next h g p k
-  unfolding admitKind
-  kind-next h g p (FixedDef x) r i e = plain-next h g p (FixedDef x) refl r e
-  kind-next h g p (FixedUse x) r i e = plain-next h g p (FixedUse x) refl r e
-  kind-next h g p (TiedUse x d c y) r i e = plain-next h g p (TiedUse x d c y) refl r e
-  kind-next h g p ConstraintConflict r i e = plain-next h g p ConstraintConflict refl r e
-  kind-next h g p (ClassUse s c) r i e = class-next h g p c (ClassUse s c) refl r e
-  kind-next h g p (ClassDef s c) r i e = class-next h g p c (ClassDef s c) refl r e
-  kind-next h g p (GroupClassUse s c x) r i e = group-next h g p s c x (GroupClassUse s c x) refl r i e
-  kind-next h g p (GroupClassDef s c x) r i e = group-next h g p s c x (GroupClassDef s c x) refl r i e
-  kind-next h g p (BlockparamIn q) r i e = plain-next h g p (BlockparamIn q) refl r e
-  kind-next h g p BlockparamOut r i e = plain-next h g p BlockparamOut refl r e
+  kind-next : (h g : Held) (p : Inst) (k : UseKind) → HeldRight h → KindIn job u p k → admitKind job st h p k ≡ some g → Next h g p k
+  kind-next h g p k r i e =
+      kind-cases job st h g p (IndexIn job u p) (Next h g p) (λ k n m f. plain-next h g p k m r f) (λ k c n m f. class-next h g p c k m r f)
+      (λ k s c x n m a f. group-next h g p s c x k m r a f) k i e
 
   scan-next : (us : List Use) (h g : Held) → HeldRight h → All (UseIn job u) us → scan job st us h ≡ through g
-      → HeldRight g × Persists h g × All (λ w. Agrees job (g .group) (w .inst) (w .kind)) us
+      → HeldRight g × Persists h g × All (λ w. Agrees job (g .group) (w .pos) (w .kind)) us
   unfolding scan admit
   scan-next [] h g r i e = let q : h ≡ g = cc in subst (λ (x : Held). HeldRight x × Persists h x × Unit {0}) q (r, λ xs d. d, tt)
-  scan-next (w ∷ us) h g r i e = go (admit job st h w) refl e (λ k r′ f. scan-next us k g r′ (i .1) f)
-    where
-      go : (o : Option Held) → admit job st h w ≡ o → onAdmit o (λ k. scan job st us k) ≡ through g
-          → ((k : Held) → HeldRight k → scan job st us k ≡ through g → HeldRight g × Persists k g × All (λ w. Agrees job (g .group) (w .inst) (w .kind)) us)
-          → HeldRight g × Persists h g × All (λ w. Agrees job (g .group) (w .inst) (w .kind)) (w ∷ us)
-      go none a f ih = let z : _≡_ {A = ℕ} 0 1 = cc in absurd (omega arith)
-      go (some k) a f ih = back (scan job st us k) refl f
-        where
-          back : (x : Scan) → scan job st us k ≡ x → later x ≡ through g → HeldRight g × Persists h g × All (λ w. Agrees job (g .group) (w .inst) (w .kind)) (w ∷ us)
-          back (through l) b c =
-              let n = kind-next h k (w .inst) (w .kind) r (i .0) a in
-              let m = ih k (n .0) (b ∙ c) in
-              (m .0, λ xs d. m .1 xs (n .1 xs d), (λ s d. m .1 (setsAt job (w .inst) s) (n .2 s d), m .2))
-          back (fails-at x) b c = let z : _≡_ {A = ℕ} 0 1 = cc in absurd (omega arith)
+  scan-next (w ∷ us) h g r i e =
+      let t = scan-step job st w us h g e in
+      let n = kind-next h (t .0) (w .pos) (w .kind) r (i .0) (t .1) in
+      let m = scan-next us (t .0) g (n .0) (i .1) (t .2) in
+      (m .0, λ xs d. m .1 xs (n .1 xs d), (λ s d. m .1 (setsAt job (w .pos) s) (n .2 s d), m .2))
 
 -- ---- tables: registers with the same sets
 
 module _ (job : Job) where
-  update-all : (P : Register → Type 0) (f : Register → Register) (n : ℕ) (rs : List Register) → All P rs → P (f (nth rs n)) → All P (update f n rs)
+  update-all : (P : Register → Type 0) (f : Register → Register) (n : ℕ) (rs : List Register) → All P rs → P (f (nth rs (vreg n))) → All P (update f n rs)
   unfolding update
   update-all P f n [] h k = tt
   update-all P f zero (r ∷ rs) h k = (k, h .1)
   update-all P f (suc n) (r ∷ rs) h k = (h .0, update-all P f n rs (h .1) k)
 
-  update-set : (f : Register → Register) → ((r : Register) → f r .set ≡ r .set) → (n v : ℕ) (rs : List Register) → nth (update f n rs) v .set ≡ nth rs v .set
+  update-set : (f : Register → Register) → ((r : Register) → f r .set ≡ r .set) → (n v : ℕ) (rs : List Register) → nth (update f n rs) (vreg v) .set ≡ nth rs (vreg v) .set
   unfolding update
   update-set f k n v [] = refl
   update-set f k zero zero (r ∷ rs) = k r
@@ -220,40 +202,40 @@ module _ (job : Job) where
   update-set f k (suc n) zero (r ∷ rs) = refl
   update-set f k (suc n) (suc v) (r ∷ rs) = update-set f k n v rs
 
-  in-set-at : (rs : List Register) (n : ℕ) → All (InSet job) rs → InSet job (nth rs n)
-  in-set-at rs n h = all-getD (InSet job) rs n noRegister h tt
+  in-set-at : (rs : List Register) (n : VirtReg) → All (InSet job) rs → InSet job (nth rs n)
+  in-set-at rs n h = all-getD (InSet job) rs (n .0) noRegister h tt
 
   abbrev SameSets : List Register → List Register → Type 0
-  SameSets rs ts = (length ts ≡ length rs) × ((v : ℕ) → nth ts v .set ≡ nth rs v .set) × (All (InSet job) rs → All (InSet job) ts)
+  SameSets rs ts = (length ts ≡ length rs) × ((v : VirtReg) → nth ts v .set ≡ nth rs v .set) × (All (InSet job) rs → All (InSet job) ts)
 
-  spread-same : (c : ℕ) (w : Float) (ms : List (Option ℕ)) (rs : List Register) → SameSets rs (spread c w ms rs)
+  spread-same : (c : RegClass) (w : Float) (ms : List (Option VirtReg)) (rs : List Register) → SameSets rs (spread c w ms rs)
   unfolding spread
   spread-same c w [] rs = (refl, λ v. refl, λ h. h)
   spread-same c w (none ∷ ms) rs = spread-same c w ms rs
   spread-same c w (some n ∷ ms) rs =
-      let i = spread-same c w ms (update (withWeight c w) n rs) in (
-        i .0 ∙ update-length (withWeight c w) n rs,
-        λ v. i .1 v ∙ update-set (withWeight c w) (λ r. refl) n v rs,
-        λ h. i .2 (update-all (InSet job) (withWeight c w) n rs h (in-set-at rs n h)),
+      let i = spread-same c w ms (update (withWeight c w) (n .0) rs) in (
+        i .0 ∙ update-length (withWeight c w) (n .0) rs,
+        λ v. i .1 v ∙ update-set (withWeight c w) (λ r. refl) (n .0) (v .0) rs,
+        λ h. i .2 (update-all (InSet job) (withWeight c w) (n .0) rs h (in-set-at rs n h)),
       )
 
   -- a register more
-  Member : List Register → ℕ → ℕ → Type 0
-  Member rs v x = (v < length rs) × (nth rs v .set ≡ x)
+  Member : List Register → VirtReg → ValueSet → Type 0
+  Member rs v x = (v .0 < length rs) × (nth rs v .set ≡ x)
 
-  member-old : (rs ts : List Register) (r : Register) (v x : ℕ) → SameSets rs ts → Member rs v x → Member (ts ++ (r ∷ [])) v x
+  member-old : (rs ts : List Register) (r : Register) (v : VirtReg) (x : ValueSet) → SameSets rs ts → Member rs v x → Member (ts ++ (r ∷ [])) v x
   unfolding Member
   member-old rs ts r v x s m =
-      let l : v < length ts = omega (arith, s .0, m .0) in
-      (omega (arith, length-append ts (r ∷ [])), ap (λ (q : Register). q .set) (List·getD-append ts (r ∷ []) noRegister v l) ∙ s .1 v ∙ m .1)
+      let l : v .0 < length ts = omega (arith, s .0, m .0) in
+      (omega (arith, length-append ts (r ∷ [])), ap (λ (q : Register). q .set) (nth-left ts r v l) ∙ s .1 v ∙ m .1)
 
-  member-new : (ts : List Register) (r : Register) (v x : ℕ) → v ≡ length ts → r .set ≡ x → Member (ts ++ (r ∷ [])) v x
+  member-new : (ts : List Register) (r : Register) (v : VirtReg) (x : ValueSet) → v .0 ≡ length ts → r .set ≡ x → Member (ts ++ (r ∷ [])) v x
   unfolding Member
   member-new ts r v x e f =
-      let q : v ≡ length ts + 0 = omega arith in
+      let q : v .0 ≡ length ts + 0 = omega arith in
       (omega (arith, length-append ts (r ∷ [])), rw q (ap (λ (q : Register). q .set) (getD-append-add ts (r ∷ []) 0 noRegister) ∙ f))
 
-  set-cases : (ms : List (Option ℕ)) (i j r v : ℕ) → getD (set ms i (some r)) j none ≡ some v → ((j ≡ i) × (v ≡ r)) ⊎ (getD ms j none ≡ some v)
+  set-cases : (ms : List (Option VirtReg)) (i j : ℕ) (r v : VirtReg) → getD (set ms i (some r)) j none ≡ some v → ((j ≡ i) × (v ≡ r)) ⊎ (getD ms j none ≡ some v)
   set-cases [] i j r v e = let z : _≡_ {A = ℕ} 0 1 = cc in absurd (omega arith)
   set-cases (m ∷ ms) zero zero r v e = inl (refl, sym (Option·some-injective r v e))
   set-cases (m ∷ ms) zero (suc j) r v e = inr e
@@ -264,80 +246,17 @@ module _ (job : Job) where
       go (inl q) = inl (ap suc (q .0), q .1)
       go (inr q) = inr q
 
-  none-there : (n j v : ℕ) → getD {A = Option ℕ} (replicate n none) j none ≡ some v → ⊥
+  none-there : (n j : ℕ) (v : VirtReg) → getD {A = Option VirtReg} (replicate n none) j none ≡ some v → ⊥
   none-there zero j v e = let z : _≡_ {A = ℕ} 0 1 = cc in omega arith
   none-there (suc n) zero v e = let z : _≡_ {A = ℕ} 0 1 = cc in omega arith
   none-there (suc n) (suc j) v e = none-there n j v e
 
-  all-inserted : (P : Piece → Type 0) (a : ℕ) (new old : List Piece) → All P new → All P old → All P (inserted a new old)
-  unfolding inserted
-  all-inserted P a new [] h k = h
-  all-inserted P a new (p ∷ ps) h k = go (leb (p .seg .to) a) refl (all-inserted P a new ps h (k .1))
-    where
-      go : (b : Bool) → leb (p .seg .to) a ≡ b → All P (inserted a new ps) → All P (inserted a new (p ∷ ps))
-      go true e ih = rw (e, inserted) (k .0, ih)
-      go false e ih = rw (e, inserted) (all-append P new (p ∷ ps) h k)
-
--- ---- the mapping: what holds of each entry
-
-module _ (M : ℕ → ℕ → ℕ → Type 0) where
-  abbrev AllMapped : List Mapped → Type 0
-  AllMapped ms = (i s g : ℕ) → mappedAt ms i s ≡ some g → M i s g
-
-  mapped-snoc : (ms : List Mapped) (m : Mapped) → AllMapped ms → M (m .inst) (m .slot) (m .group) → AllMapped (ms ++ (m ∷ []))
-  unfolding mappedAt
-  mapped-snoc ms m a b i s g e = go ms (a i s g) e
-    where
-      hit : (x y : Bool) → eqb (m .inst) i ≡ x → eqb (m .slot) s ≡ y → cond (x && y) (some (m .group)) none ≡ some g → M i s g
-      hit true true p q f =
-          let l : m .inst ≡ i = eqb-true _ _ p in
-          let n : m .slot ≡ s = eqb-true _ _ q in
-          let o : m .group ≡ g = Option·some-injective _ _ f in
-          subst (λ (z : ℕ). M i s z) o (subst (λ (z : ℕ). M i z (m .group)) n (subst (λ (z : ℕ). M z (m .slot) (m .group)) l b))
-      hit true false p q f = let z : _≡_ {A = ℕ} 0 1 = cc in absurd (omega arith)
-      hit false y p q f = let z : _≡_ {A = ℕ} 0 1 = cc in absurd (omega arith)
-
-      go : (ns : List Mapped) → (mappedAt ns i s ≡ some g → M i s g) → mappedAt (ns ++ (m ∷ [])) i s ≡ some g → M i s g
-      go [] k f = hit (eqb (m .inst) i) (eqb (m .slot) s) refl refl f
-      go (n ∷ ns) k f = pick (eqb (n .inst) i && eqb (n .slot) s) refl f (λ l d. go ns l d)
-        where
-          pick : (b : Bool) → (eqb (n .inst) i && eqb (n .slot) s) ≡ b → cond b (some (n .group)) (mappedAt (ns ++ (m ∷ [])) i s) ≡ some g
-              → ((mappedAt ns i s ≡ some g → M i s g) → mappedAt (ns ++ (m ∷ [])) i s ≡ some g → M i s g) → M i s g
-          pick true x f ih = k (rw x f)
-          pick false x f ih = ih (λ d. k (rw x d)) f
-
-  OnMapped : Option (List Mapped) → Type 0
-  OnMapped none = Unit {0}
-  OnMapped (some ms) = AllMapped ms
-
-  map-one : (g p : ℕ) (k : UseKind) (o at : Option ℕ) (ms : List Mapped) → slotOf k ≡ o → ((s : ℕ) → slotOf k ≡ some s → M p s g) → AllMapped ms → OnMapped (mapOne p o g ms at)
-  unfolding OnMapped
-  map-one g p k none at ms e f a = a
-  map-one g p k (some s) none ms e f a = mapped-snoc ms (record { inst = p; slot = s; group = g }) a (f s e)
-  map-one g p k (some s) (some x) ms e f a = tt
-
-  map-all : (g : ℕ) (us : List Use) (ms : List Mapped) → AllMapped ms → All (λ w. (s : ℕ) → slotOf (w .kind) ≡ some s → M (w .inst) s g) us → OnMapped (mapUses g us ms)
-  unfolding mapUses OnMapped
-  map-all g [] ms a b = a
-  map-all g (w ∷ us) ms a b =
-      go (mapOne (w .inst) (slotOf (w .kind)) g ms (mappedAt ms (w .inst) (slotD (slotOf (w .kind)))))
-      (map-one g (w .inst) (w .kind) (slotOf (w .kind)) (mappedAt ms (w .inst) (slotD (slotOf (w .kind)))) ms refl (b .0) a) (λ ns c. map-all g us ns c (b .1))
-    where
-      go : (o : Option (List Mapped)) → OnMapped o → ((ns : List Mapped) → AllMapped ns → OnMapped (mapUses g us ns)) → OnMapped (onMapping o (λ ns. mapUses g us ns))
-      go none c ih = tt
-      go (some ns) c ih = ih ns c
-
-  or-empty : (o : Option (List Mapped)) → OnMapped o → AllMapped (orElse o [])
-  unfolding OnMapped mappedAt
-  or-empty none h i s g e = let z : _≡_ {A = ℕ} 0 1 = cc in absurd (omega arith)
-  or-empty (some ms) h i s g e = h i s g e
-
 -- ---- placing
 
 abbrev pub RightIn : Job → State → Type 0
-RightIn job st = (σ : ℕ → List ℕ) × Right job st σ
+RightIn job st = (σ : VirtRegGroup → List ValueSet) × Right job st σ
 
-module _ (job : Job) (room : Room) (u : ℕ) (h : Held) (new : List Piece) (st : State) (σ : ℕ → List ℕ) (ok : Right job st σ)
+module _ (job : Job) (room : Room) (u : ValueSet) (h : Held) (new : List Piece) (st : State) (σ : VirtRegGroup → List ValueSet) (ok : Right job st σ)
     (of : All (λ p. setOf job (p .seg .value) ≡ u) new) where
   same-sets : SameSets job (st .registers) (st .registers)
   same-sets = (refl, λ v. refl, λ k. k)
@@ -349,50 +268,50 @@ module _ (job : Job) (room : Room) (u : ℕ) (h : Held) (new : List Piece) (st :
         σ,
         record {
           own-sets = all-append (InSet job) (st .registers) (r ∷ []) (ok .own-sets) (of, tt);
-          members = λ g j v e. member-old job (st .registers) (st .registers) r v (getD (σ g) j 0) same-sets (ok .members g j v e);
+          members = λ g j v e. member-old job (st .registers) (st .registers) r v (getD (σ g) j (vset 0)) same-sets (ok .members g j v e);
           maps = ok .maps;
         },
       )
 
-  module _ (hg : HeldGroup) (at : getD (hg .sets) (hg .index) 0 ≡ u) where
-    join-right : (g : ℕ) → g < length (st .groups) → hg .sets ≡ σ g → RightIn job (joinState job u h hg g new st)
+  module _ (hg : HeldGroup) (at : getD (hg .sets) (hg .index) (vset 0) ≡ u) where
+    join-right : (g : VirtRegGroup) → g .0 < length (st .groups) → hg .sets ≡ σ g → RightIn job (joinState job u h hg g new st)
     unfolding joinState membersAt Member
     join-right g l sg =
         let w = groupWeight job h hg (membersAt st g) new st in
         let old = spread (h .class) w (membersAt st g) (st .registers) in
         let r = made u h w (some g) (hg .index) new in
-        let ms = set (membersAt st g) (hg .index) (some (length (st .registers))) in
+        let ms = set (membersAt st g) (hg .index) (some (vreg (length (st .registers)))) in
         let same = spread-same job (h .class) w (membersAt st g) (st .registers) in
-        let here : u ≡ getD (σ g) (hg .index) 0 = sym at ∙ ap (λ (x : List ℕ). getD x (hg .index) 0) sg in (
+        let here : u ≡ getD (σ g) (hg .index) (vset 0) = sym at ∙ ap (λ (x : List ValueSet). getD x (hg .index) (vset 0)) sg in (
           σ,
           record {
             own-sets = all-append (InSet job) old (r ∷ []) (same .2 (ok .own-sets)) (of, tt);
-            members = λ f j v e. go old r ms f j v same here (set-cases job (membersAt st g) (hg .index) j (length (st .registers)) v) (eqb f g) refl e;
-            maps = λ i s f e. let m = ok .maps i s f e in (omega (arith, m .0, length-set (st .groups) g ms), m .1);
+            members = λ f j v e. go old r ms f j v same here (set-cases job (membersAt st g) (hg .index) j (vreg (length (st .registers))) v) (eqb (f .0) (g .0)) refl e;
+            maps = rw (length-set (st .groups) (g .0) ms) (ok .maps);
           },
         )
       where
-        go : (old : List Register) (r : Register) (ms : List (Option ℕ)) (f j v : ℕ) → SameSets job (st .registers) old → r .set ≡ getD (σ g) (hg .index) 0
-            → (getD ms j none ≡ some v → ((j ≡ hg .index) × (v ≡ length (st .registers))) ⊎ (getD (getD (st .groups) g []) j none ≡ some v))
-            → (b : Bool) → eqb f g ≡ b → getD (getD (set (st .groups) g ms) f []) j none ≡ some v → Member job (old ++ (r ∷ [])) v (getD (σ f) j 0)
+        go : (old : List Register) (r : Register) (ms : List (Option VirtReg)) (f : VirtRegGroup) (j : ℕ) (v : VirtReg) → SameSets job (st .registers) old → r .set ≡ getD (σ g) (hg .index) (vset 0)
+            → (getD ms j none ≡ some v → ((j ≡ hg .index) × (v ≡ vreg (length (st .registers)))) ⊎ (getD (getD (st .groups) (g .0) []) j none ≡ some v))
+            → (b : Bool) → eqb (f .0) (g .0) ≡ b → getD (getD (set (st .groups) (g .0) ms) (f .0) []) j none ≡ some v → Member job (old ++ (r ∷ [])) v (getD (σ f) j (vset 0))
         go old r ms f j v same here cases true x e =
-            let q : f ≡ g = eqb-true _ _ x in
-            let d : getD ms j none ≡ some v = subst (λ (y : List (Option ℕ)). getD y j none ≡ some v) (ap (λ (y : ℕ). getD (set (st .groups) g ms) y []) q ∙ getD-set-same (st .groups) g ms [] l) e in
+            let q : f ≡ g = same-group f g x in
+            let d : getD ms j none ≡ some v = subst (λ (y : List (Option VirtReg)). getD y j none ≡ some v) (ap (λ (y : VirtRegGroup). getD (set (st .groups) (g .0) ms) (y .0) []) q ∙ getD-set-same (st .groups) (g .0) ms [] l) e in
             pick (cases d)
           where
-            pick : ((j ≡ hg .index) × (v ≡ length (st .registers))) ⊎ (getD (getD (st .groups) g []) j none ≡ some v) → Member job (old ++ (r ∷ [])) v (getD (σ f) j 0)
+            pick : ((j ≡ hg .index) × (v ≡ vreg (length (st .registers)))) ⊎ (getD (getD (st .groups) (g .0) []) j none ≡ some v) → Member job (old ++ (r ∷ [])) v (getD (σ f) j (vset 0))
             pick (inl c) =
-                let q : f ≡ g = eqb-true _ _ x in
-                member-new job old r v (getD (σ f) j 0) (c .1 ∙ sym (same .0)) (here ∙ ap (λ (y : ℕ). getD (σ g) y 0) (sym (c .0)) ∙ ap (λ (y : ℕ). getD (σ y) j 0) (sym q))
+                let q : f ≡ g = same-group f g x in
+                member-new job old r v (getD (σ f) j (vset 0)) (ap (λ (y : VirtReg). y .0) (c .1) ∙ sym (same .0)) (here ∙ ap (λ (y : ℕ). getD (σ g) y (vset 0)) (sym (c .0)) ∙ ap (λ (y : VirtRegGroup). getD (σ y) j (vset 0)) (sym q))
             pick (inr c) =
-                let q : g ≡ f = sym (eqb-true _ _ x) in
-                member-old job (st .registers) old r v (getD (σ f) j 0) same (ok .members f j v (subst (λ (y : ℕ). getD (getD (st .groups) y []) j none ≡ some v) q c))
+                let q : g ≡ f = sym (same-group f g x) in
+                member-old job (st .registers) old r v (getD (σ f) j (vset 0)) same (ok .members f j v (subst (λ (y : VirtRegGroup). getD (getD (st .groups) (y .0) []) j none ≡ some v) q c))
         go old r ms f j v same here cases false x e =
-            let d : getD (getD (st .groups) f []) j none ≡ some v =
-            subst (λ (y : List (Option ℕ)). getD y j none ≡ some v) (getD-set-other (st .groups) g f ms [] (λ q. eqb-false _ _ x q)) e in
-            member-old job (st .registers) old r v (getD (σ f) j 0) same (ok .members f j v d)
+            let d : getD (getD (st .groups) (f .0) []) j none ≡ some v =
+            subst (λ (y : List (Option VirtReg)). getD y j none ≡ some v) (getD-set-other (st .groups) (g .0) (f .0) ms [] (λ q. eqb-false _ _ x q)) e in
+            member-old job (st .registers) old r v (getD (σ f) j (vset 0)) same (ok .members f j v d)
 
-    merge-right : (g v : ℕ) → hg .sets ≡ σ g → getD (membersAt st g) (hg .index) none ≡ some v → RightIn job (mergeState job h hg g v new st)
+    merge-right : (g : VirtRegGroup) (v : VirtReg) → hg .sets ≡ σ g → getD (membersAt st g) (hg .index) none ≡ some v → RightIn job (mergeState job h hg g v new st)
     unfolding mergeState membersAt registerAt
     merge-right g v sg pl =
         let rs = st .registers in
@@ -400,84 +319,84 @@ module _ (job : Job) (room : Room) (u : ℕ) (h : Held) (new : List Piece) (st :
         let ps = inserted (firstFrom new) new old in
         let w = groupWeight job h hg (membersAt st g) ps st in
         let mem = ok .members g (hg .index) v pl in
-        let its : u ≡ nth rs v .set = sym at ∙ ap (λ (x : List ℕ). getD x (hg .index) 0) sg ∙ sym (mem .1) in
+        let its : u ≡ nth rs v .set = sym at ∙ ap (λ (x : List ValueSet). getD x (hg .index) (vset 0)) sg ∙ sym (mem .1) in
         let all : InSet job (withPieces ps (nth rs v)) =
-        all-inserted job (λ p. setOf job (p .seg .value) ≡ nth rs v .set) (firstFrom new) new old (all-map _ (λ p. setOf job (p .seg .value) ≡ nth rs v .set) (λ p e. e ∙ its) new of) (in-set-at job rs v (ok .own-sets)) in
-        let ts = update (withPieces ps) v rs in
+        all-inserted (λ p. setOf job (p .seg .value) ≡ nth rs v .set) (firstFrom new) new old (all-map _ (λ p. setOf job (p .seg .value) ≡ nth rs v .set) (λ p e. e ∙ its) new of) (in-set-at job rs v (ok .own-sets)) in
+        let ts = update (withPieces ps) (v .0) rs in
         let same = spread-same job (h .class) w (membersAt st g) ts in (
           σ,
           record {
-            own-sets = same .2 (update-all job (InSet job) (withPieces ps) v rs (ok .own-sets) all);
+            own-sets = same .2 (update-all job (InSet job) (withPieces ps) (v .0) rs (ok .own-sets) all);
             members = λ f j x e. let m = ok .members f j x e in
-                (omega (arith, m .0, same .0, update-length (withPieces ps) v rs), same .1 x ∙ update-set job (withPieces ps) (λ r. refl) v x rs ∙ m .1);
+                (omega (arith, m .0, same .0, update-length (withPieces ps) (v .0) rs), same .1 x ∙ update-set job (withPieces ps) (λ r. refl) (v .0) (x .0) rs ∙ m .1);
             maps = ok .maps;
           },
         )
 
-    abbrev over : ℕ → List ℕ
-    over x = cond (eqb x (length (st .groups))) (hg .sets) (σ x)
+    abbrev over : VirtRegGroup → List ValueSet
+    over x = cond (eqb (x .0) (length (st .groups))) (hg .sets) (σ x)
 
-    over-same : over (length (st .groups)) ≡ hg .sets
+    over-same : over (vrgroup (length (st .groups))) ≡ hg .sets
     over-same = rw (eq-eqb (length (st .groups)) (length (st .groups)) refl)
 
-    over-other : (x : ℕ) → x < length (st .groups) → over x ≡ σ x
-    over-other x l = rw (ne-eqb x (length (st .groups)) (λ e. omega arith))
+    over-other : (x : VirtRegGroup) → x .0 < length (st .groups) → over x ≡ σ x
+    over-other x l = rw (ne-eqb (x .0) (length (st .groups)) (λ e. omega arith))
 
-    abbrev Entered : ℕ → ℕ → ℕ → Type 0
-    Entered i s g = (g < suc (length (st .groups))) × (setsAt job i s ≡ over g)
+    abbrev Entered : Inst → ℕ → VirtRegGroup → Type 0
+    Entered = Meets job (suc (length (st .groups))) over
 
-    abbrev fresh′ : List (Option ℕ)
-    fresh′ = set (replicate (classAt job (h .class) .size) none) (hg .index) (some (length (st .registers)))
+    abbrev fresh′ : List (Option VirtReg)
+    fresh′ = set (replicate (classAt job (h .class) .size) none) (hg .index) (some (vreg (length (st .registers))))
 
     lead-right : (ms : List Mapped) → AllMapped Entered ms → RightIn job (leadState job u h hg new st ms)
     unfolding leadState membersAt Member
     lead-right ms am =
-        let n = length (st .groups) in
+        let n = vrgroup (length (st .groups)) in
         let r = made u h (weightOf job (h .class) (segsOf new)) (some n) (hg .index) new in
-        let g′ = set (replicate (classAt job (h .class) .size) none) (hg .index) (some (length (st .registers))) in (
+        let g′ = set (replicate (classAt job (h .class) .size) none) (hg .index) (some (vreg (length (st .registers)))) in (
           over,
           record {
             own-sets = all-append (InSet job) (st .registers) (r ∷ []) (ok .own-sets) (of, tt);
-            members = λ f j v e. go r f j v (sym at) e (ltb f (length (st .groups))) refl;
-            maps = λ i s f e. let m = am i s f e in (omega (arith, m .0, length-append (st .groups) (g′ ∷ [])), m .1);
+            members = λ f j v e. go r f j v (sym at) e (ltb (f .0) (length (st .groups))) refl;
+            maps = rw length-append (subst (λ (n : ℕ). AllMapped (Meets job n over) ms) (omega arith) am);
           },
         )
       where
-        last : (r : Register) (f j v d : ℕ) → r .set ≡ getD (hg .sets) (hg .index) 0 → f ≡ length (st .groups) + d → getD (getD {A = List (Option ℕ)} (fresh′ ∷ []) d []) j none ≡ some v
-            → Member job (st .registers ++ (r ∷ [])) v (getD (over f) j 0)
-        last r f j v zero here q e = pick (set-cases job (replicate (classAt job (h .class) .size) none) (hg .index) j (length (st .registers)) v e)
+        last : (r : Register) (f : VirtRegGroup) (j : ℕ) (v : VirtReg) (d : ℕ) → r .set ≡ getD (hg .sets) (hg .index) (vset 0) → f .0 ≡ length (st .groups) + d → getD (getD {A = List (Option VirtReg)} (fresh′ ∷ []) d []) j none ≡ some v
+            → Member job (st .registers ++ (r ∷ [])) v (getD (over f) j (vset 0))
+        last r f j v zero here q e = pick (set-cases job (replicate (classAt job (h .class) .size) none) (hg .index) j (vreg (length (st .registers))) v e)
           where
-            pick : ((j ≡ hg .index) × (v ≡ length (st .registers))) ⊎ (getD {A = Option ℕ} (replicate (classAt job (h .class) .size) none) j none ≡ some v)
-                → Member job (st .registers ++ (r ∷ [])) v (getD (over f) j 0)
+            pick : ((j ≡ hg .index) × (v ≡ vreg (length (st .registers)))) ⊎ (getD {A = Option VirtReg} (replicate (classAt job (h .class) .size) none) j none ≡ some v)
+                → Member job (st .registers ++ (r ∷ [])) v (getD (over f) j (vset 0))
             pick (inl c) =
-                let x : f ≡ length (st .groups) = omega arith in
-                let y : over f ≡ hg .sets = ap over x ∙ over-same in
-                member-new job (st .registers) r v (getD (over f) j 0) (c .1) (here ∙ ap (λ (k : ℕ). getD (hg .sets) k 0) (sym (c .0)) ∙ ap (λ (l : List ℕ). getD l j 0) (sym y))
+                let x : f .0 ≡ length (st .groups) = omega arith in
+                let y : over f ≡ hg .sets = ap (λ (n : ℕ). over (vrgroup n)) x ∙ over-same in
+                member-new job (st .registers) r v (getD (over f) j (vset 0)) (ap (λ (k : VirtReg). k .0) (c .1)) (here ∙ ap (λ (k : ℕ). getD (hg .sets) k (vset 0)) (sym (c .0)) ∙ ap (λ (l : List ValueSet). getD l j (vset 0)) (sym y))
             pick (inr c) = absurd (none-there job (classAt job (h .class) .size) j v c)
         last r f j v (suc d) here q e = let z : _≡_ {A = ℕ} 0 1 = cc in absurd (omega arith)
 
-        go : (r : Register) (f j v : ℕ) → r .set ≡ getD (hg .sets) (hg .index) 0 → getD (getD (st .groups ++ (fresh′ ∷ [])) f []) j none ≡ some v
-            → (b : Bool) → ltb f (length (st .groups)) ≡ b → Member job (st .registers ++ (r ∷ [])) v (getD (over f) j 0)
+        go : (r : Register) (f : VirtRegGroup) (j : ℕ) (v : VirtReg) → r .set ≡ getD (hg .sets) (hg .index) (vset 0) → getD (getD (st .groups ++ (fresh′ ∷ [])) (f .0) []) j none ≡ some v
+            → (b : Bool) → ltb (f .0) (length (st .groups)) ≡ b → Member job (st .registers ++ (r ∷ [])) v (getD (over f) j (vset 0))
         go r f j v here e true x =
-            let l : f < length (st .groups) = ltb-true _ _ x in
-            let d : getD (getD (st .groups) f []) j none ≡ some v = subst (λ (y : List (Option ℕ)). getD y j none ≡ some v) (List·getD-append (st .groups) (fresh′ ∷ []) [] f l) e in
-            member-old job (st .registers) (st .registers) r v (getD (over f) j 0) same-sets
-            (subst (λ (y : List ℕ). Member job (st .registers) v (getD y j 0)) (sym (over-other f l)) (ok .members f j v d))
+            let l : f .0 < length (st .groups) = ltb-true _ _ x in
+            let d : getD (getD (st .groups) (f .0) []) j none ≡ some v = subst (λ (y : List (Option VirtReg)). getD y j none ≡ some v) (List·getD-append (st .groups) (fresh′ ∷ []) [] (f .0) l) e in
+            member-old job (st .registers) (st .registers) r v (getD (over f) j (vset 0)) same-sets
+            (subst (λ (y : List ValueSet). Member job (st .registers) v (getD y j (vset 0))) (sym (over-other f l)) (ok .members f j v d))
         go r f j v here e false x =
-            let l : length (st .groups) ≤ f = ltb-false _ _ x in
-            let d = f - length (st .groups) in
-            let q : f ≡ length (st .groups) + d = omega arith in
-            last r f j v d here q (subst (λ (y : List (Option ℕ)). getD y j none ≡ some v)
+            let l : length (st .groups) ≤ f .0 = ltb-false _ _ x in
+            let d = f .0 - length (st .groups) in
+            let q : f .0 ≡ length (st .groups) + d = omega arith in
+            last r f j v d here q (subst (λ (y : List (Option VirtReg)). getD y j none ≡ some v)
             (ap (λ (y : ℕ). getD (st .groups ++ (fresh′ ∷ [])) y []) q ∙ getD-append-add (st .groups) (fresh′ ∷ []) d []) e)
 
-    place-group : (m t : Option ℕ) (st′ : State) → hg .mapped ≡ m → t ≡ placeOf st m (hg .index) → ((g : ℕ) → m ≡ some g → (g < length (st .groups)) × (hg .sets ≡ σ g))
-        → All (λ w. (s : ℕ) → slotOf (w .kind) ≡ some s → hg .sets ≡ setsAt job (w .inst) s) (usesOf (segsOf new)) → placeGroup job room u h new st hg m t ≡ done st′ → RightIn job st′
+    place-group : (m : Option VirtRegGroup) (t : Option VirtReg) (st′ : State) → hg .mapped ≡ m → t ≡ placeOf st m (hg .index) → ((g : VirtRegGroup) → m ≡ some g → (g .0 < length (st .groups)) × (hg .sets ≡ σ g))
+        → All (λ w. (s : ℕ) → slotOf (w .kind) ≡ some s → hg .sets ≡ setsAt job (w .pos) s) (usesOf (segsOf new)) → placeGroup job room u h new st hg m t ≡ done st′ → RightIn job st′
     unfolding placeGroup lead join merge
     place-group none t st′ q pl sg ag e =
-        let o = mapUses (length (st .groups)) (usesOf (segsOf new)) (st .mapping) in
-        let old : AllMapped Entered (st .mapping) = λ i s g d. let m = ok .maps i s g d in (omega (arith, m .0), m .1 ∙ sym (over-other g (m .0))) in
-        let all = map-all Entered (length (st .groups)) (usesOf (segsOf new)) (st .mapping) old
-        (all-map _ (λ w. (s : ℕ) → slotOf (w .kind) ≡ some s → Entered (w .inst) s (length (st .groups))) (λ w f s d. (omega arith, sym (f s d) ∙ sym over-same)) (usesOf (segsOf new)) ag) in
+        let o = mapUses (vrgroup (length (st .groups))) (usesOf (segsOf new)) (st .mapping) in
+        let old : AllMapped Entered (st .mapping) = all-map _ (λ m. Entered (m .inst) (m .slot) (m .group)) (λ m a. (omega (arith, a .0), a .1 ∙ sym (over-other (m .group) (a .0)))) (st .mapping) (ok .maps) in
+        let all = map-all Entered (vrgroup (length (st .groups))) (usesOf (segsOf new)) (st .mapping) old
+        (all-map _ (λ w. (s : ℕ) → slotOf (w .kind) ≡ some s → Entered (w .pos) s (vrgroup (length (st .groups)))) (λ w f s d. (omega arith, sym (f s d) ∙ sym over-same)) (usesOf (segsOf new)) ag) in
         subst (RightIn job) (gate-done (isNone o) (hasRoom room st 1 1 new) MappedTwice (leadState job u h hg new st (orElse o [])) st′ e) (lead-right (orElse o []) (or-empty Entered o all))
     place-group (some g) none st′ q pl sg ag e =
         let f = sg g refl in
@@ -486,13 +405,13 @@ module _ (job : Job) (room : Room) (u : ℕ) (h : Held) (new : List Piece) (st :
         subst (RightIn job) (gate-done (overlaps (firstFrom new) (lastTo new) (registerAt st v .pieces)) (hasRoom room st 0 0 new) Overlap (mergeState job h hg g v new st) st′ e)
         (merge-right g v (sg g refl .1) (sym pl))
 
-  place-by : (o : Option HeldGroup) (st′ : State) → GroupRight st σ u (h .target) o → All (λ w. Agrees job o (w .inst) (w .kind)) (usesOf (segsOf new))
+  place-by : (o : Option HeldGroup) (st′ : State) → GroupRight st σ u (h .target) o → All (λ w. Agrees job o (w .pos) (w .kind)) (usesOf (segsOf new))
       → placeBy job room u h new st o ≡ done st′ → RightIn job st′
   unfolding placeBy alone
   place-by none st′ r ag e = subst (RightIn job) (gate-done false (hasRoom room st 1 0 new) Overlap (aloneState job u h new st) st′ e) alone-right
   place-by (some hg) st′ r ag e = place-group hg (r .2) (hg .mapped) (h .target) st′ refl (r .0) (r .1) ag e
 
-  place-right : (st′ : State) → GroupRight st σ u (h .target) (h .group) → All (λ w. Agrees job (h .group) (w .inst) (w .kind)) (usesOf (segsOf new))
+  place-right : (st′ : State) → GroupRight st σ u (h .target) (h .group) → All (λ w. Agrees job (h .group) (w .pos) (w .kind)) (usesOf (segsOf new))
       → place job room u h new st ≡ done st′ → RightIn job st′
   unfolding place
   place-right st′ r ag e = place-by (h .group) st′ r ag e
@@ -503,20 +422,15 @@ abbrev pub RunIn : Job → List Segment → Type 0
 RunIn job ss = RunOk (ValueIn job) (UseIn job) job ss
 
 module _ (job : Job) (room : Room) where
-  piece-values : (u : ℕ) (ps : List Piece) → All (PieceOk (ValueIn job) (UseIn job) u) ps → All (λ p. setOf job (p .seg .value) ≡ u) ps
+  piece-values : (u : ValueSet) (ps : List Piece) → All (PieceOk (ValueIn job) (UseIn job) u) ps → All (λ p. setOf job (p .seg .value) ≡ u) ps
   piece-values u [] a = tt
   piece-values u (p ∷ ps) a = (a .0 .0, piece-values u ps (a .1))
 
-  piece-uses : (u : ℕ) (ps : List Piece) → All (PieceOk (ValueIn job) (UseIn job) u) ps → All (UseIn job u) (usesOf (segsOf ps))
-  unfolding usesOf
-  piece-uses u [] a = tt
-  piece-uses u (p ∷ ps) a = all-append (UseIn job u) (p .seg .uses) (usesOf (segsOf ps)) (a .0 .1) (piece-uses u ps (a .1))
-
-  place-keeps : (u top : ℕ) (h : Held) (new : List Piece) (st st′ : State) → RightIn job st → All (PieceOk (ValueIn job) (UseIn job) u) new
+  place-keeps : (u : ValueSet) (top : RegClass) (h : Held) (new : List Piece) (st st′ : State) → RightIn job st → All (PieceOk (ValueIn job) (UseIn job) u) new
       → scan job st (usesOf (segsOf new)) (fresh top) ≡ through h → place job room u h new st ≡ done st′ → RightIn job st′
   unfolding fresh
   place-keeps u top h new st st′ i a e f =
-      let n = scan-next job st (i .0) (i .1) u (usesOf (segsOf new)) (fresh top) h refl (piece-uses u new a) e in
+      let n = scan-next job st (i .0) (i .1) u (usesOf (segsOf new)) (fresh top) h refl (piece-uses (ValueIn job) (UseIn job) u new a) e in
       place-right job room u h new st (i .0) (i .1) (piece-values u new a) st′ (n .0) (n .2) f
 
   empty-right : RightIn job empty
@@ -526,7 +440,7 @@ module _ (job : Job) (room : Room) where
     record {
       own-sets = tt;
       members = λ g j v e. let z : _≡_ {A = ℕ} 0 1 = cc in absurd (omega arith);
-      maps = λ i s g e. let z : _≡_ {A = ℕ} 0 1 = cc in absurd (omega arith);
+      maps = tt;
     },
   )
 
@@ -542,79 +456,36 @@ module _ (job : Job) (room : Room) where
 
 -- ---- what the entry rules give
 
-getD-map : (f : ℕ → ℕ) (xs : List ℕ) (i : ℕ) → i < length xs → getD (map f xs) i 0 ≡ f (getD xs i 0)
-getD-map f [] i l = absurd (omega arith)
-getD-map f (x ∷ xs) zero l = refl
-getD-map f (x ∷ xs) (suc i) l = getD-map f xs i (omega arith)
+getD-map : {A B : Type 0} (f : A → B) (a : A) (b : B) (xs : List A) (i : ℕ) → i < length xs → getD (map f xs) i b ≡ f (getD xs i a)
+getD-map f a b [] i l = absurd (omega arith)
+getD-map f a b (x ∷ xs) zero l = refl
+getD-map f a b (x ∷ xs) (suc i) l = getD-map f a b xs i (omega arith)
 
 module _ (job : Job) where
-  abbrev MemberIs : ℕ → ℕ → ℕ → Type 0
-  MemberIs v i g = (i < length (membersOf job g)) × (getD (membersOf job g) i 0 ≡ v)
-
-  there : (v p s c i : ℕ) (o : Operand) → conj (groupUseTests job v p s c i o) ≡ true → (o .inst ≡ p) × (o .slot ≡ s) × MemberIs v i (o .vgroup)
-  there v p s c i o e =
-      let a = conj-all (groupUseTests job v p s c i o) e in
-      (eqb-true _ _ (a .0), eqb-true _ _ (a .1 .0), (ltb-true _ _ (a .1 .1 .1 .0), eqb-true _ _ (a .1 .1 .1 .1 .0)))
-
-  -- the operand that is found first is the one that was tested: no two are at one place
-  vgroup-is : (v p s c i : ℕ) (os : List Operand) → apart samePlace os ≡ true → some-is (λ o. conj (groupUseTests job v p s c i o)) os ≡ true → MemberIs v i (vgroupAt os p s)
-  unfolding some-is apart vgroupAt
-  vgroup-is v p s c i [] ap′ e = let z : _≡_ {A = ℕ} 0 1 = cc in absurd (omega arith)
-  vgroup-is v p s c i (o ∷ os) ap′ e =
-      let a = and-both (not (some-is (samePlace o) os)) (apart samePlace os) ap′ in
-      go (conj (groupUseTests job v p s c i o)) (eqb (o .inst) p) (eqb (o .slot) s) refl refl refl e (a .0) (λ d. vgroup-is v p s c i os (a .1) d)
-    where
-      go : (b x y : Bool) → conj (groupUseTests job v p s c i o) ≡ b → eqb (o .inst) p ≡ x → eqb (o .slot) s ≡ y
-          → (b || some-is (λ o. conj (groupUseTests job v p s c i o)) os) ≡ true → not (some-is (samePlace o) os) ≡ true
-          → (some-is (λ o. conj (groupUseTests job v p s c i o)) os ≡ true → MemberIs v i (vgroupAt os p s)) → MemberIs v i (cond (x && y) (o .vgroup) (vgroupAt os p s))
-      go true true true a x y d n ih = there v p s c i o a .2
-      go true false y′ a x y d n ih = absurd (eqb-false _ _ x (there v p s c i o a .0))
-      go true true false a x y d n ih = absurd (eqb-false _ _ y (there v p s c i o a .1))
-      go false true true a x y d n ih =
-          let q : some-is (samePlace o) os ≡ true = again job v p s c i o os (eqb-true _ _ x) (eqb-true _ _ y) d in
-          let r : not true ≡ true = subst (λ (t : Bool). not t ≡ true) q n in
-          let z : _≡_ {A = ℕ} 0 1 = cc in absurd (omega arith)
-      go false true false a x y d n ih = ih d
-      go false false y′ a x y d n ih = ih d
-
   module _ (fn : functionOk job ≡ true) where
-    group-in : (v p s c i : ℕ) → groupUseOk job v p s c i ≡ true → getD (setsAt job p s) i 0 ≡ setOf job v
-    unfolding groupUseOk functionOk setsAt membersOf
+    group-in : (v : Value) (p : Inst) (s : ℕ) (c : RegClass) (i : ℕ) → groupUseOk job v p s c i ≡ true → getD (setsAt job p s) i (vset 0) ≡ setOf job v
+    unfolding setsAt membersOf
     group-in v p s c i e =
-        let f = conj-all (functionTests job) fn in
-        let m = vgroup-is v p s c i (job .operands) (f .1 .1 .1 .1 .0) e in
-        getD-map (λ x. setOf job x) (membersOf job (vgroupAt (job .operands) p s)) i (m .0) ∙ ap (λ (x : ℕ). setOf job x) (m .1)
-
-    kind-in : (v p : ℕ) (k : UseKind) → kindOk job v p k ≡ true → KindIn job (setOf job v) p k
-    unfolding kindOk
-    kind-in v p (FixedDef r) e = tt
-    kind-in v p (FixedUse r) e = tt
-    kind-in v p (TiedUse u d c i) e = tt
-    kind-in v p ConstraintConflict e = tt
-    kind-in v p (ClassUse s c) e = tt
-    kind-in v p (ClassDef s c) e = tt
-    kind-in v p (GroupClassUse s c i) e = group-in v p s c i e
-    kind-in v p (GroupClassDef s c i) e = group-in v p s c i e
-    kind-in v p (BlockparamIn q) e = tt
-    kind-in v p BlockparamOut e = tt
+        let t = group-operand job fn v p s c i e .1 in
+        let q : getD (job .vgroups) (vgroupAt (job .operands) p s) [] ≡ membersOf job (operandAt (job .operands) p s .vgroup) =
+        ap (λ (n : ℕ). getD (job .vgroups) n []) (vgroup-at (job .operands) p s) in
+        ap (λ (xs : List Value). getD (map (λ x. setOf job x) xs) i (vset 0)) q
+        ∙ getD-map (λ x. setOf job x) (val 0) (vset 0) (membersOf job (operandAt (job .operands) p s .vgroup)) i (t .3) ∙ ap (λ (x : Value). setOf job x) (t .4)
 
     abbrev pub UsesIn : Segment → Type 0
     UsesIn s = All (UseIn job (setOf job (s .value))) (s .uses)
 
     uses-in : (s : Segment) → usesOk job s ≡ true → UsesIn s
-    unfolding usesOk useOk
-    uses-in s e =
-        all-map _ (UseIn job (setOf job (s .value))) (λ u d. kind-in (s .value) (u .inst) (u .kind) (conj-all (useTests job s u) d .1 .0)) (s .uses)
-        (every-all (useOk job s) (s .uses) (and-both (every (useOk job s) (s .uses)) _ e .0))
+    uses-in s e = uses-are job (IndexIn job (setOf job (s .value))) s (group-in (s .value)) e
 
-    one-run : (u : ℕ) (ss : List Segment) → AllOf job u ss → All UsesIn ss → All (SegOk (ValueIn job) (UseIn job) u) ss
+    one-run : (u : ValueSet) (ss : List Segment) → AllOf job u ss → All UsesIn ss → All (SegOk (ValueIn job) (UseIn job) u) ss
     one-run u [] a b = tt
-    one-run u (s ∷ ss) a b = ((a .0, subst (λ (x : ℕ). All (UseIn job x) (s .uses)) (a .0) (b .0)), one-run u ss (a .1) (b .1))
+    one-run u (s ∷ ss) a b = ((a .0, subst (λ (x : ValueSet). All (UseIn job x) (s .uses)) (a .0) (b .0)), one-run u ss (a .1) (b .1))
 
     rise-in : (t : ℕ) (rs : List (List Segment)) → Rise job t rs → All (All UsesIn) rs → All (RunIn job) rs
     rise-in t [] r a = tt
     rise-in t ([] ∷ rs) r a = (tt, rise-in t rs r (a .1))
-    rise-in t ((c ∷ cs) ∷ rs) r a = (one-run (setOf job (c .value)) (c ∷ cs) (refl, r .1) (a .0), rise-in (suc (setOf job (c .value))) rs (r .3) (a .1))
+    rise-in t ((c ∷ cs) ∷ rs) r a = (one-run (setOf job (c .value)) (c ∷ cs) (refl, r .1) (a .0), rise-in (suc (setOf job (c .value) .0)) rs (r .3) (a .1))
 
     pub runs-in : (t : ℕ) → Rise job t (runs (sameSet job) (job .segments)) → every (usesOk job) (job .segments) ≡ true → All (RunIn job) (runs (sameSet job) (job .segments))
     runs-in t r e =
