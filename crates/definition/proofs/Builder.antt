@@ -1,5 +1,4 @@
--- One induction over the builder. A fact on the state, the segments of a set that are not placed yet and its turned uses: where every placing and every turn keep it, it holds when the set is built.
--- Assumes nothing.
+-- One induction over the builder: a fact on the state, the segments still to be placed and the turned uses, which every placing and every turn keep. Assumes nothing.
 use mathlib.Core.Path.{_≡_, refl, ap, _∙_, subst}
 use Prim.Native.Nat.{ℕ, zero, suc, _+_, _-_, _*_, _≤_}
 use native.Mathlib.Omega.{arith}

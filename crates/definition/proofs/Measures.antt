@@ -1,5 +1,4 @@
--- Counting: where a cut parts what is counted of pieces, a turn moves it to the turned use and a conflict piece takes it from there, the result has as much of it as the job.
--- Assumes nothing.
+-- Counting: what a cut parts, a turn moves to the turned use and a conflict piece takes from there is the same in the job and in the result. Assumes nothing.
 use mathlib.Core.Path.{_≡_, refl, ap, _∙_, subst}
 use Prim.Native.Nat.{ℕ, _+_, _-_, _≤_, _<_}
 use native.Mathlib.Omega.{arith}

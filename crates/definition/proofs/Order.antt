@@ -1,9 +1,7 @@
--- The own pieces of a set in order: a list that the run makes as it goes. It is counted as the pieces in the tables are, its pieces follow each other,
--- and its uses stand for those of the input, place by place. Assumes nothing.
+-- The own pieces of a set in the order that the run makes them: they count as those in the tables, follow each other, and list the input's uses. Assumes nothing.
 use mathlib.Core.Path.{_≡_, refl, ap, sym, _∙_, subst}
 use mathlib.Core.Logic.{inl, inr}
 use Prim.Native.Nat.{ℕ, zero, suc, _+_, _-_, _*_, _≤_, _<_}
-use native.Mathlib.Nat.{zero-add}
 use native.Mathlib.Omega.{arith}
 use mathlib.Core.Bool.{Bool, true, false, cond, _&&_, _||_}
 use mathlib.Core.List.{List, [], _∷_, _++_, append-assoc, append-nil}
@@ -15,14 +13,14 @@ use Rattle.definition.specs.RegInfo.{setOf}
 use Rattle.definition.specs.Uses.{isClassUse}
 use Rattle.definition.specs.Cuts.{leftCut, leftOf, rightCut, rightOf}
 use Rattle.definition.specs.Place.{total, usesOf}
-use Rattle.definition.specs.Build.{Result, build, buildSet, buildSets, conflictPiece, empty, onto, runs, sameSet, turnAt, turnIn, turnedUse}
+use Rattle.definition.specs.Build.{Result, build, buildSet, conflictPiece, onto, runs, sameSet, turnAt, turnIn, turnedUse}
 use Rattle.definition.specs.Entry.{behind, chained}
 use Rattle.definition.specs.Promised.{Follows, Listed, StandsFor, ofSet, under, valued}
 use Rattle.definition.proofs.Cuts.{uses-cut}
 use Rattle.definition.proofs.Moves.{ClassAt}
 use Rattle.definition.proofs.Fits.{SegsFit, turn-fit, right-fit}
-use Rattle.definition.proofs.Places.{total-append, bind-done, counted, Groups, All, all-append}
-use Rattle.definition.proofs.Builder.{Keeps, Part, all, before, joined, joined-runs, part-all, set-kept, turn-all}
+use Rattle.definition.proofs.Places.{total-append, counted, Groups, All, all-append}
+use Rattle.definition.proofs.Builder.{Keeps, Part, all, before, built-kept, joined, joined-runs, part-all, set-kept, turn-all}
 use Rattle.definition.proofs.Measures.{Grown, class-left, class-right, own-grown, placing-grown}
 use Rattle.definition.proofs.Points.{ofOwn}
 use Rattle.definition.proofs.Entries.{and-both, Good, next-to, from-on}
@@ -282,56 +280,64 @@ module _ (job : Job) (s : ValueSet) where
       go true ih = omega arith
       go false ih = omega arith
 
--- what a run over sets makes of the set s
-pub record MadeOf (job : Job) (s : ValueSet) (st : State) (ss : List Segment) (st′ : State) : Type 0 where
-  pub pieces : List Segment
-  pub counts : (ν : Segment → ℕ) → counted (ofOwn (ledBy job s ν)) (st′ .registers) ≡ counted (ofOwn (ledBy job s ν)) (st .registers) + total ν pieces
-  pub follow : Follows 0 pieces
-  pub listed : Listed (valued (ofSet job s ss)) (valued pieces)
+-- ---- the pieces of the set s
 
-sets-made : (job : Job) (room : Room) (s : ValueSet) (rest : List (List Segment)) (t : ℕ) (st st′ : State) → Groups st → Rise job t rest → buildSets job room rest st ≡ done st′
-    → (m : MadeOf job s st (joined rest) st′) × (s .0 < t → m .pieces ≡ [])
-unfolding buildSets buildSet ofSet valued total
-sets-made job room s [] t st st′ gs r e =
-    let q : st ≡ st′ = cc in
-    subst (λ (x : State). (m : MadeOf job s st [] x) × (s .0 < t → m .pieces ≡ [])) q (record { pieces = []; counts = λ ν. omega arith; follow = tt; listed = tt }, λ l. refl)
-sets-made job room s ([] ∷ rest) t st st′ gs r e = sets-made job room s rest t st st′ gs r e
-sets-made job room s ((c ∷ cs) ∷ rest) t st st′ gs r e =
-    let b = bind-done (buildSet job room (c ∷ cs) st) _ st′ e in
-    let m = set-made job room c cs st (b .0) gs (b .1) in
-    go (b .0) m (sets-made job room s rest (suc (setOf job (c .value) .0)) (b .0) st′ (m .groups) (r .3) (b .2)) (eqb (setOf job (c .value) .0) (s .0)) refl
+-- what was made of it where the segments `left` are to come, of sets from number t on
+record MadeOf (job : Job) (s : ValueSet) (st : State) (t : ℕ) (left : List Segment) : Type 0 where
+  pieces : List Segment
+  none : t ≤ s .0 → pieces ≡ []
+  counts : (ν : Segment → ℕ) → counted (ofOwn (ledBy job s ν)) (st .registers) ≡ total ν pieces
+  follow : Follows 0 pieces
+  listed : Listed (valued (ofSet job s (job .segments))) (valued pieces ++ valued (ofSet job s left))
+  groups : Groups st
+
+abbrev MadeTo : Job → ValueSet → State → List (List Segment) → Type 0
+MadeTo job s st rest = (t : ℕ) × Rise job t rest × MadeOf job s st t (joined rest)
+
+set-of : (job : Job) (room : Room) (s : ValueSet) (c : Segment) (cs : List Segment) (rest : List (List Segment)) (st st′ : State) → MadeTo job s st ((c ∷ cs) ∷ rest)
+    → buildSet job room (c ∷ cs) st ≡ done st′ → MadeTo job s st′ rest
+unfolding total valued
+set-of job room s c cs rest st st′ (t, r, i) e = (suc (setOf job (c .value) .0), r .3, go (set-made job room c cs st st′ (i .groups) e) (eqb (setOf job (c .value) .0) (s .0)) refl)
   where
     here : AllOf job (setOf job (c .value)) (c ∷ cs)
     here = (refl, r .1)
 
-    go : (st″ : State) (m : Made job st (c ∷ cs) st″ []) → (k : MadeOf job s st″ (joined rest) st′) × (s .0 < suc (setOf job (c .value) .0) → k .pieces ≡ [])
-        → (b : Bool) → eqb (setOf job (c .value) .0) (s .0) ≡ b → (k : MadeOf job s st (joined ((c ∷ cs) ∷ rest)) st′) × (s .0 < t → k .pieces ≡ [])
-    go st″ m k true f =
+    go : (m : Made job st (c ∷ cs) st′ []) (b : Bool) → eqb (setOf job (c .value) .0) (s .0) ≡ b → MadeOf job s st′ (suc (setOf job (c .value) .0)) (joined rest)
+    go m true f =
         let n : setOf job (c .value) .0 ≡ s .0 = eqb-true _ _ f in
         let q : setOf job (c .value) ≡ s = ap vset n in
-        let none′ : k .0 .pieces ≡ [] = k .1 (omega arith) in
-        let a : AllOf job s (m .pieces) = rw q at (m .led (setOf job (c .value)) here .0) in
-        let front : ofSet job s (c ∷ cs) ≡ c ∷ cs = of-same job s (c ∷ cs) (q, subst (λ (i : ValueSet). AllOf job i cs) q (r .1)) in (
-          record {
-            pieces = m .pieces ++ k .0 .pieces;
-            counts = λ ν. omega (arith, m .counts (ledBy job s ν), k .0 .counts ν, of-total job s ν (m .pieces), ap (total ν) (of-same job s (m .pieces) a), total-append ν (m .pieces) (k .0 .pieces));
-            follow = rw none′ (m .follow [] (λ n h. tt) 0 (r .2));
-            listed = rw (of-append job s (c ∷ cs) (joined rest), front, valued-append (c ∷ cs) (ofSet job s (joined rest)), valued-append (m .pieces) (k .0 .pieces))
-                (listed-append (valued (c ∷ cs)) (valued (m .pieces)) (valued (ofSet job s (joined rest))) (valued (k .0 .pieces)) (rw append-nil at (m .listed)) (k .0 .listed));
-          },
-          λ l. absurd (omega (arith, r .0)),
-        )
-    go st″ m k false f =
+        let first : i .pieces ≡ [] = i .none (omega (arith, r .0)) in
+        let a : AllOf job s (m .pieces) = subst (λ (x : ValueSet). AllOf job x (m .pieces)) q (m .led (setOf job (c .value)) here .0) in
+        let front : ofSet job s (c ∷ cs) ≡ c ∷ cs = of-same job s (c ∷ cs) (subst (λ (x : ValueSet). AllOf job x (c ∷ cs)) q here) in
+        let later = valued (ofSet job s (joined rest)) in
+        let listed′ : Listed (valued (ofSet job s (job .segments))) (valued (c ∷ cs) ++ later) =
+        rw (first, of-append job s (c ∷ cs) (joined rest), front, valued-append (c ∷ cs) (ofSet job s (joined rest))) at (i .listed) in
+        record {
+          pieces = m .pieces;
+          none = λ l. absurd (omega arith);
+          counts = λ ν. omega (arith, m .counts (ledBy job s ν), i .counts ν, ap (total ν) first, of-total job s ν (m .pieces), ap (total ν) (of-same job s (m .pieces) a));
+          follow = rw append-nil at (m .follow [] (λ n h. tt) 0 (r .2));
+          listed = listed-trans (valued (ofSet job s (job .segments))) (valued (c ∷ cs) ++ later) (valued (m .pieces) ++ later) listed′
+              (listed-append (valued (c ∷ cs)) (valued (m .pieces)) later later (rw append-nil at (m .listed)) (listed-refl later));
+          groups = m .groups;
+        }
+    go m false f =
         let n : setOf job (c .value) .0 ≡ s .0 → ⊥ = eqb-false _ _ f in
-        let front : ofSet job s (c ∷ cs) ≡ [] = of-other job s (setOf job (c .value)) (c ∷ cs) n here in (
-          record {
-            pieces = k .0 .pieces;
-            counts = λ ν. omega (arith, m .counts (ledBy job s ν), k .0 .counts ν, of-total job s ν (m .pieces), ap (total ν) (of-other job s (setOf job (c .value)) (m .pieces) n (m .led (setOf job (c .value)) here .0)));
-            follow = k .0 .follow;
-            listed = rw (of-append job s (c ∷ cs) (joined rest), front) (k .0 .listed);
-          },
-          λ l. k .1 (omega (arith, r .0)),
-        )
+        let front : ofSet job s (c ∷ cs) ≡ [] = of-other job s (setOf job (c .value)) (c ∷ cs) n here in
+        record {
+          pieces = i .pieces;
+          none = λ l. i .none (omega (arith, r .0));
+          counts = λ ν. omega (
+            arith,
+            m .counts (ledBy job s ν),
+            i .counts ν,
+            of-total job s ν (m .pieces),
+            ap (total ν) (of-other job s (setOf job (c .value)) (m .pieces) n (m .led (setOf job (c .value)) here .0)),
+          );
+          follow = i .follow;
+          listed = rw (of-append job s (c ∷ cs) (joined rest), front) at (i .listed);
+          groups = m .groups;
+        }
 
 -- a result: the own pieces of set s in order
 pub record InOrder (job : Job) (s : ValueSet) (rs : List Register) : Type 0 where
@@ -341,16 +347,24 @@ pub record InOrder (job : Job) (s : ValueSet) (rs : List Register) : Type 0 wher
   pub listed : Listed (valued (ofSet job s (job .segments))) (valued pieces)
 
 pub built-in-order : (job : Job) (room : Room) (res : Result) (s : ValueSet) (t : ℕ) → Rise job t (runs (sameSet job) (job .segments)) → build job room ≡ done res → InOrder job s (res .registers)
-unfolding build counted total
+unfolding counted total valued ofSet
 built-in-order job room res s t r e =
-    let rs = runs (sameSet job) (job .segments) in
-    let b = bind-done (buildSets job room rs empty) _ res e in
-    let m = sets-made job room s rs t empty (b .0) tt r (b .1) .0 in
-    let q : b .0 .registers ≡ res .registers = cc in
-    let j : joined rs ≡ job .segments = joined-runs (sameSet job) (job .segments) in
+    let b = built-kept job room (MadeTo job s) (set-of job room s) (λ rest st i. i) res (
+      t,
+      r,
+      record {
+        pieces = [];
+        none = λ l. refl;
+        counts = λ ν. refl;
+        follow = tt;
+        listed = rw (joined-runs (sameSet job) (job .segments)) (listed-refl (valued (ofSet job s (job .segments))));
+        groups = tt;
+      },
+    ) e in
+    let m = b .1 .2 in
     record {
       pieces = m .pieces;
-      counts = λ ν. ap (λ (l : List Register). counted (ofOwn (ledBy job s ν)) l) (sym q) ∙ (m .counts ν ∙ zero-add (total ν (m .pieces)));
+      counts = λ ν. ap (λ (l : List Register). counted (ofOwn (ledBy job s ν)) l) (sym (b .2)) ∙ m .counts ν;
       follow = m .follow;
-      listed = subst (λ (l : List Segment). Listed (valued (ofSet job s l)) (valued (m .pieces))) j (m .listed);
+      listed = rw append-nil at (m .listed);
     }

@@ -1,5 +1,4 @@
--- Own pieces: whatever a cut parts and a turn keeps is the same in the job and in the own pieces of the result. So are each value's points, and its uses with class uses and
--- their marks taken together. Assumes nothing.
+-- Whatever a cut parts and a turn keeps is the same in the job and in the own pieces of the result: each value's points; its uses, a mark counted as its class use. Assumes nothing.
 use mathlib.Core.Path.{_≡_, refl, ap, sym, _∙_}
 use Prim.Native.Nat.{ℕ, zero, suc, _+_}
 use native.Mathlib.Omega.{arith}
