@@ -3,7 +3,7 @@ use mathlib.Core.Path.{_≡_, refl, ap, sym, _∙_, subst}
 use mathlib.Core.Logic.{inl, inr, _≢_}
 use Prim.Native.Nat.{ℕ, zero, suc, _≤_, _<_}
 use native.Mathlib.Omega.{arith}
-use mathlib.Core.Bool.{Bool, true, false, cond, _&&_}
+use mathlib.Core.Bool.{Bool, true, false, cond}
 use mathlib.Core.Option.{Option, none, some, Option·some-injective}
 use mathlib.Core.List.{List, [], _∷_, _++_}
 use lib.ListN.{length, getD, set, replicate, length-append, List·getD-append, length-set}
@@ -15,15 +15,14 @@ use Rattle.definition.specs.Types.{Inst, ValueSet, RegClass, VirtReg, Vi
 use Rattle.definition.specs.RegInfo.{classAt, commonSubclass, setOf}
 use Rattle.definition.specs.Uses.{classOf, slotOf}
 use Rattle.definition.specs.Weights.{weightOf}
-use Rattle.definition.specs.Admit.{admit, admitClass, admitGroup, admitKind, atPlace, fresh, groupFits, guard, inGroup, mappedAt, mappingFits, membersAt, narrowed, registerAt, sameSets, scan, setsAt, through}
+use Rattle.definition.specs.Admit.{admit, admitClass, admitGroup, admitKind, atPlace, fresh, groupFits, guard, inGroup, mappedAt, mappingFits, membersAt, narrowed, registerAt, scan, setsAt, through}
 use Rattle.definition.specs.Place.{alone, aloneState, firstFrom, groupWeight, hasRoom, inserted, isNone, join, joinState, lastTo, lead, leadState, made, mapUses, merge, mergeState, orElse, overlaps, place, placeBy, placeGroup, segsOf, spread, update, usesOf, withPieces}
 use Rattle.definition.specs.Build.{Result, build, buildSets, empty, runs, sameSet}
 use Rattle.definition.specs.Promised.{In, Transitive}
 use Rattle.definition.proofs.Places.{All, all-getD, all-set, all-map, bind-some, bind-done, update-length, gate-done}
 use Rattle.definition.proofs.Classes.{Masks, Serves, Below, common-in, below-in, below-trans, serves-below, same-step, class-step}
 use Rattle.definition.proofs.Scans.{scan-step}
-use Rattle.definition.proofs.Tables.{nth, update-same, update-other, same-vreg, same-group, memb, Inside, spread-at, spread-in, spread-out, getD-memb, memb-all, all-memb, spread-len, nth-left, nth-last, AllMapped, OnMapped, mapped-found, map-all, or-empty, operandAt, all-inserted, by-pieces, piece-uses, guarded, KindIs, kind-cases}
-use Rattle.definition.proofs.Entries.{and-both}
+use Rattle.definition.proofs.Tables.{nth, update-same, update-other, same-vreg, same-group, memb, Inside, spread-at, spread-in, spread-out, getD-memb, memb-all, all-memb, spread-len, nth-left, nth-last, AllMapped, OnMapped, mapped-found, map-all, or-empty, operandAt, all-inserted, by-pieces, piece-uses, guarded, fits-parts, KindIs, kind-cases}
 use Rattle.definition.proofs.Runs.{SegOk, PieceOk, RunOk, runs-all, sets-kept}
 
 -- ---- what holds of the tables
@@ -111,7 +110,7 @@ module _ (job : Job) (ms : Masks job) (tr : Transitive job) (sz : Sizes job) (st
   target-none : (c : RegClass) (t : Option VirtReg) (gr : Option HeldGroup) (i : ℕ) (sets : List ValueSet) → GroupOk job st κ c t gr → groupFits gr i none sets ≡ true → t ≡ none
   unfolding groupFits
   target-none c t none i sets h e = h
-  target-none c t (some hg) i sets h e = go (hg .mapped) (h .2) (and-both (eqb (hg .index) i) (mappingFits (hg .mapped) none) (and-both (eqb (hg .index) i && mappingFits (hg .mapped) none) (sameSets (hg .sets) sets) e .0) .1)
+  target-none c t (some hg) i sets h e = go (hg .mapped) (h .2) (fits-parts hg i none sets e .1)
     where
       go : (m : Option VirtRegGroup) → MappedOk job st κ c t m → mappingFits m none ≡ true → t ≡ none
       go none k f = k
@@ -120,7 +119,7 @@ module _ (job : Job) (ms : Masks job) (tr : Transitive job) (sz : Sizes job) (st
   target-in : (c : RegClass) (t : Option VirtReg) (gr : Option HeldGroup) (i : ℕ) (g : VirtRegGroup) (sets : List ValueSet) → GroupOk job st κ c t gr → groupFits gr i (some g) sets ≡ true → TargetIn st g t
   unfolding groupFits
   target-in c t none i g sets h e = subst (TargetIn st g) (sym h) tt
-  target-in c t (some hg) i g sets h e = go (hg .mapped) (h .2) (and-both (eqb (hg .index) i) (mappingFits (hg .mapped) (some g)) (and-both (eqb (hg .index) i && mappingFits (hg .mapped) (some g)) (sameSets (hg .sets) sets) e .0) .1)
+  target-in c t (some hg) i g sets h e = go (hg .mapped) (h .2) (fits-parts hg i (some g) sets e .1)
     where
       go : (m : Option VirtRegGroup) → MappedOk job st κ c t m → mappingFits m (some g) ≡ true → TargetIn st g t
       go none k f = subst (TargetIn st g) (sym k) tt

@@ -4,26 +4,26 @@ use mathlib.Core.Path.{_≡_, refl, ap, sym, _∙_, subst}
 use mathlib.Core.Logic.{_⊎_, inl, inr}
 use Prim.Native.Nat.{ℕ, zero, suc, _+_, _-_, _≤_, _<_}
 use native.Mathlib.Omega.{arith}
-use mathlib.Core.Bool.{Bool, true, false, cond, _&&_}
+use mathlib.Core.Bool.{Bool, true, false, cond}
 use mathlib.Core.Option.{Option, none, some, Option·some-injective}
 use mathlib.Core.List.{List, [], _∷_, _++_, map}
 use lib.ListN.{length, getD, set, replicate, length-append, List·getD-append, length-set}
 use lib.Seq.{getD-append-add, getD-set-same, getD-set-other}
 use lib.Dec.{ltb, eqb}
 use lib.Ieee.{Float}
-use borrow.Author.Tests.{ltb-true, ltb-false, eqb-true, eqb-false, eq-eqb, ne-eqb}
+use borrow.Author.Tests.{ltb-true, ltb-false, eqb-false, eq-eqb, ne-eqb}
 use Rattle.definition.specs.Types.{Inst, Value, ValueSet, RegClass, VirtReg, VirtRegGroup, UseKind, Use, ClassData, Operand, Segment, Job, Room, HeldGroup, Held, Piece, Register, Mapped, State, MappedTwice, Overlap, done, inst, val, vset, vreg, vrgroup}
 use Rattle.definition.specs.RegInfo.{classAt, commonSubclass, setOf}
 use Rattle.definition.specs.Uses.{slotOf}
 use Rattle.definition.specs.Weights.{weightOf}
-use Rattle.definition.specs.Admit.{admit, admitClass, admitGroup, admitKind, atPlace, fresh, groupFits, guard, inGroup, mappedAt, mappingFits, membersAt, narrowed, noRegister, registerAt, sameSets, scan, setsAt, through, vgroupAt}
+use Rattle.definition.specs.Admit.{admit, admitClass, admitGroup, admitKind, atPlace, fresh, groupFits, guard, inGroup, mappedAt, mappingFits, membersAt, narrowed, noRegister, registerAt, scan, setsAt, through, vgroupAt}
 use Rattle.definition.specs.Place.{alone, aloneState, firstFrom, groupWeight, hasRoom, inserted, isNone, join, joinState, lastTo, lead, leadState, made, mapUses, merge, mergeState, orElse, overlaps, place, placeBy, placeGroup, segsOf, spread, update, usesOf, withPieces, withWeight}
 use Rattle.definition.specs.Build.{Result, build, buildSets, empty, runs, sameSet}
 use Rattle.definition.specs.Entry.{every, functionOk, groupUseOk, membersOf, usesOk}
 use Rattle.definition.proofs.Places.{All, all-append, all-getD, all-map, bind-some, bind-done, gate-done, update-length}
-use Rattle.definition.proofs.Entries.{and-both, every-all}
+use Rattle.definition.proofs.Entries.{every-all}
 use Rattle.definition.proofs.Scans.{scan-step}
-use Rattle.definition.proofs.Tables.{nth, same-group, nth-left, AllMapped, mapped-found, map-all, or-empty, operandAt, vgroup-at, all-inserted, piece-uses, guarded, KindIs, kind-cases, uses-are}
+use Rattle.definition.proofs.Tables.{nth, same-group, nth-left, AllMapped, mapped-found, map-all, or-empty, operandAt, vgroup-at, all-inserted, piece-uses, guarded, fits-parts, KindIs, kind-cases, uses-are}
 use Rattle.definition.proofs.Runs.{SegOk, PieceOk, RunOk, runs-all, sets-kept}
 use Rattle.definition.proofs.Order.{AllOf, Rise}
 use Rattle.definition.proofs.Accepted.{group-operand}
@@ -76,21 +76,6 @@ Persists h g = (xs : List ValueSet) → SetsIs (h .group) xs → SetsIs (g .grou
 -- a group use is of an operand with the sets held
 abbrev Agrees : Job → Option HeldGroup → Inst → UseKind → Type 0
 Agrees job o p k = (s : ℕ) → slotOf k ≡ some s → SetsIs o (setsAt job p s)
-
-sets-equal : (xs ys : List ValueSet) → sameSets xs ys ≡ true → xs ≡ ys
-sets-equal [] [] e = refl
-sets-equal [] (y ∷ ys) e = let z : _≡_ {A = ℕ} 0 1 = cc in absurd (omega arith)
-sets-equal (x ∷ xs) [] e = let z : _≡_ {A = ℕ} 0 1 = cc in absurd (omega arith)
-sets-equal (x ∷ xs) (y ∷ ys) e =
-    let a = and-both (eqb (x .0) (y .0)) (sameSets xs ys) e in
-    ap (λ (n : ℕ). vset n ∷ xs) (eqb-true _ _ (a .0)) ∙ ap (λ (zs : List ValueSet). y ∷ zs) (sets-equal xs ys (a .1))
-
-fits-parts : (hg : HeldGroup) (i : ℕ) (m : Option VirtRegGroup) (sets : List ValueSet) → groupFits (some hg) i m sets ≡ true → (hg .index ≡ i) × (mappingFits (hg .mapped) m ≡ true) × (hg .sets ≡ sets)
-unfolding groupFits
-fits-parts hg i m sets e =
-    let a = and-both (eqb (hg .index) i && mappingFits (hg .mapped) m) (sameSets (hg .sets) sets) e in
-    let b = and-both (eqb (hg .index) i) (mappingFits (hg .mapped) m) (a .0) in
-    (eqb-true _ _ (b .0), b .1, sets-equal _ _ (a .1))
 
 module _ (job : Job) (st : State) (σ : VirtRegGroup → List ValueSet) (ok : Right job st σ) (u : ValueSet) where
   abbrev HeldRight : Held → Type 0

@@ -11,9 +11,9 @@ use lib.Seq.{getD-append-add}
 use lib.Dec.{leb, eqb}
 use lib.Ieee.{Float}
 use borrow.Author.Tests.{eqb-true, eqb-false, eq-eqb}
-use Rattle.definition.specs.Types.{Inst, Value, ValueSet, RegClass, VirtReg, VirtRegGroup, LiveRangePoint, UseKind, FixedDef, FixedUse, TiedUse, ConstraintConflict, ClassUse, ClassDef, GroupClassUse, GroupClassDef, BlockparamIn, BlockparamOut, Use, Operand, Segment, Job, Held, Piece, Register, Mapped, State, inst, cls, vreg, vrgroup}
+use Rattle.definition.specs.Types.{Inst, Value, ValueSet, RegClass, VirtReg, VirtRegGroup, LiveRangePoint, UseKind, FixedDef, FixedUse, TiedUse, ConstraintConflict, ClassUse, ClassDef, GroupClassUse, GroupClassDef, BlockparamIn, BlockparamOut, Use, Operand, Segment, Job, HeldGroup, Held, Piece, Register, Mapped, State, inst, vset, cls, vreg, vrgroup}
 use Rattle.definition.specs.Uses.{classOf, slotOf}
-use Rattle.definition.specs.Admit.{admitClass, admitGroup, admitKind, guard, mappedAt, noRegister, vgroupAt}
+use Rattle.definition.specs.Admit.{admitClass, admitGroup, admitKind, groupFits, guard, mappedAt, mappingFits, noRegister, sameSets, vgroupAt}
 use Rattle.definition.specs.Place.{inserted, mapOne, mapUses, onMapping, orElse, segsOf, slotD, spread, update, usesOf, withWeight}
 use Rattle.definition.specs.Entry.{every, groupUseOk, kindOk, useOk, useTests, usesOk}
 use Rattle.definition.proofs.Places.{All, all-map, all-split, all-append, update-length}
@@ -255,6 +255,22 @@ pub guarded : (b : Bool) (u : Unit {0}) → guard b ≡ some u → b ≡ true
 unfolding guard
 guarded true u e = refl
 guarded false u e = let z : _≡_ {A = ℕ} 0 1 = cc in absurd (omega arith)
+
+-- what the group held and a group use have in common
+sets-equal : (xs ys : List ValueSet) → sameSets xs ys ≡ true → xs ≡ ys
+sets-equal [] [] e = refl
+sets-equal [] (y ∷ ys) e = let z : _≡_ {A = ℕ} 0 1 = cc in absurd (omega arith)
+sets-equal (x ∷ xs) [] e = let z : _≡_ {A = ℕ} 0 1 = cc in absurd (omega arith)
+sets-equal (x ∷ xs) (y ∷ ys) e =
+    let a = and-both (eqb (x .0) (y .0)) (sameSets xs ys) e in
+    ap (λ (n : ℕ). vset n ∷ xs) (eqb-true _ _ (a .0)) ∙ ap (λ (zs : List ValueSet). y ∷ zs) (sets-equal xs ys (a .1))
+
+pub fits-parts : (hg : HeldGroup) (i : ℕ) (m : Option VirtRegGroup) (sets : List ValueSet) → groupFits (some hg) i m sets ≡ true → (hg .index ≡ i) × (mappingFits (hg .mapped) m ≡ true) × (hg .sets ≡ sets)
+unfolding groupFits
+fits-parts hg i m sets e =
+    let a = and-both _ _ e in
+    let b = and-both _ _ (a .0) in
+    (eqb-true _ _ (b .0), b .1, sets-equal _ _ (a .1))
 
 -- ---- uses by their kinds
 
