@@ -102,6 +102,14 @@ unfolding inFloat
 count-exact n k = le→leb n 16777216 k
 
 -- ---- the lesser of two
+pub min-second : (x y : Float) → lt y x ≡ true → y ≡ minF x y
+unfolding minF
+min-second x y e = rw e
+
+pub min-first : (x y : Float) → lt y x ≡ false → x ≡ minF x y
+unfolding minF
+min-first x y e = rw e
+
 pub min-nonneg : (x y : Float) → T (nonneg x) → T (nonneg y) → T (nonneg (minF x y))
 unfolding minF
 min-nonneg x y p q = cond-nonneg (lt y x) y x q p

@@ -36,10 +36,10 @@ pub fn bits_of(x: f32) -> u32
 }
 
 // `f32::min` where neither is a NaN.
-pub fn lesser(a: f32, b: f32) -> f32
-    ensures { λ r. ⌜ r ≡ minF a b ⌝ }
+pub fn lesser(x: f32, y: f32) -> f32
+    ensures { λ r. ⌜ r ≡ minF x y ⌝ }
 {
-    if b < a { b } else { a }
+    if y < x { y } else { x }
 }
 
 // The same on bit patterns: the order of weights is that of their patterns.
