@@ -9,14 +9,14 @@ use lib.Dec.{T, leb, eqb, ltb, ltb→lt, lt→ltb, eqb→eq, leb→le, le→leb,
 use lib.Pow.{pow-pos, pow-mono}
 use lib.IntN.{pos}
 use lib.Ieee.{Float, nan, inf, fin, binary32, up, down, round, odd, mul, lt, le, ofBits, ofFields, toBits, fits, nanBits}
-use lib.Ieee.Bits.{ofBits-toBits, toBits-ofBits, toBits-lt, nanBits-is, is-true, is-false}
+use lib.Ieee.Bits.{ofBits-toBits, ofBits-fits, toBits-ofBits, toBits-lt, nanBits-is, is-true, is-false}
 use lib.Ieee.Exact.{HasValue, odd-sign}
 use lib.Ieee.Fits.{and-l, and-r, and-i, eq→eqb}
 use lib.Ieee.Order.{round-mono}
 use lib.Ieee.Positive.{num, den, den-pos, value→cross}
 use Rattle.definition.specs.Entry.{plain, small}
 use Rattle.definition.specs.Weights.{minF}
-use Rattle.floats.specs.Nonneg.{nonneg}
+use Rattle.floats.specs.Nonneg.{nonneg, Weight}
 use Rattle.floats.proofs.Nonneg.{plain-nonneg, nonneg-number, odd-plain, round-nonneg}
 
 -- two tests that follow from each other
@@ -288,6 +288,12 @@ nonneg-bits-of b h p = go (leb 2147483648 b) (nleb→lt 2147483648 b) p
 
 pub nonneg-bits : (x : Float) → T (fits binary32 x) → T (nonneg x) → toBits binary32 x ≤ 2139095040
 nonneg-bits x f p = nonneg-bits-of (toBits binary32 x) (toBits-lt binary32 x f) (subst (λ (y : Float). T (nonneg y)) (sym (ofBits-toBits binary32 x f)) p)
+
+pub weight-bits : (x : Float) → Weight x → (toBits binary32 x ≤ 2139095040) × (ofBits binary32 (toBits binary32 x) ≡ x)
+weight-bits x w = (nonneg-bits x (w .1) (w .0), ofBits-toBits binary32 x (w .1))
+
+pub bits-weight : (b : ℕ) → b ≤ 2139095040 → Weight (ofBits binary32 b)
+bits-weight b h = (bits-nonneg b h, ofBits-fits binary32 b)
 
 -- a pattern that stands for a weight is no NaN's, and comes back
 pub bits-number : (b : ℕ) → b ≤ 2139095040 → T (not (nanBits binary32 b))

@@ -5,13 +5,13 @@ use native.Mathlib.Omega.{arith}
 use mathlib.Core.Bool.{Bool, true, false, not, _&&_, cond}
 use lib.IntN.{pos}
 use lib.Dec.{T, ltb, eqb, ltb→lt, le→leb, eqb→eq}
-use lib.Ieee.{Float, nan, inf, fin, Format, binary32, prec, emax, low, odd, units, round, add, mul, div, lt, ofInt, inFloat, isNan, fits}
+use lib.Ieee.{Float, nan, inf, fin, Format, binary32, prec, emax, low, odd, units, round, add, mul, div, lt, ofInt, inFloat, isNan}
 use lib.Ieee.Fits.{round-is, cond-fits}
 use lib.Ieee.Back.{round-whole}
 use lib.Ieee.Positive.{positive, positive-of-value}
 use Rattle.definition.specs.Entry.{plain}
 use Rattle.definition.specs.Weights.{minF, maxF}
-use Rattle.floats.specs.Nonneg.{nonneg}
+use Rattle.floats.specs.Nonneg.{nonneg, Weight}
 
 pub plain-nonneg : (x : Float) → T (plain x) → T (nonneg x)
 plain-nonneg nan p = p
@@ -110,13 +110,9 @@ pub min-first : (x y : Float) → lt y x ≡ false → x ≡ minF x y
 unfolding minF
 min-first x y e = rw e
 
-pub min-nonneg : (x y : Float) → T (nonneg x) → T (nonneg y) → T (nonneg (minF x y))
+pub min-weight : (x y : Float) → Weight x → Weight y → Weight (minF x y)
 unfolding minF
-min-nonneg x y p q = cond-nonneg (lt y x) y x q p
-
-pub min-fits : (x y : Float) → T (fits binary32 x) → T (fits binary32 y) → T (fits binary32 (minF x y))
-unfolding minF
-min-fits x y p q = cond-fits binary32 (lt y x) y x q p
+min-weight x y p q = (cond-nonneg (lt y x) y x (q .0) (p .0), cond-fits binary32 (lt y x) y x (q .1) (p .1))
 
 -- at most `f32::MAX`: an infinity is cut down
 pub min-plain : (x : Float) → T (nonneg x) → T (plain (minF x maxF))

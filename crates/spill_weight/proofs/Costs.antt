@@ -8,7 +8,7 @@ use lib.IntN.{ℤ, pos}
 use lib.Dec.{T, leb, eqb, not-T, eqb→eq}
 use lib.Ieee.{Float, nan, inf, fin, binary32, up, down, add, mul, div, lt, le, eq, ofInt, ofBits, toBits, fits}
 use lib.Ieee.Bits.{is-false}
-use lib.Ieee.Fits.{up-pos, inf-fits, div-fits}
+use lib.Ieee.Fits.{up-pos, cond-fits, inf-fits, div-fits}
 use Rattle.definition.specs.declared.UseKind.{UseKind}
 use Rattle.definition.specs.declared.UseKind.the-variants.{FixedDef, FixedUse, TiedUse, ConstraintConflict, ClassUse, ClassDef, GroupClassUse, GroupClassDef, BlockparamIn, BlockparamOut}
 use Rattle.definition.specs.declared.Options.{Options}
@@ -18,8 +18,8 @@ use Rattle.definition.specs.RegInfo.{zeroF}
 use Rattle.definition.specs.Uses.{oneF, halfF}
 use Rattle.definition.specs.Entry.{plain, small}
 use Rattle.definition.specs.Weights.{scaled, isZeroF, addCost, minF, maxF, normalized}
-use Rattle.floats.specs.Nonneg.{nonneg}
-use Rattle.floats.proofs.Nonneg.{plain-nonneg, cond-nonneg, add-nonneg, mul-nonneg, div-nonneg, count-positive, min-plain, min-fits}
+use Rattle.floats.specs.Nonneg.{nonneg, Weight}
+use Rattle.floats.proofs.Nonneg.{plain-nonneg, cond-nonneg, add-nonneg, mul-nonneg, div-nonneg, count-positive, min-plain, min-weight}
 use Rattle.floats.proofs.Bits.{small-plain, product-plain, nonneg-bits, inf-bits}
 use Rattle.spill_weight.specs.Costs.{fixedCost, baseCost, weightFrom, SmallScales}
 
@@ -142,7 +142,13 @@ pub is-finite : (t : Float) (n k : ℕ) (s : Bool) {r : Float} → leb n 1 && no
 unfolding weightFrom
 is-finite t n k s {r} e q = (q .0 ∙ ap (λ (b : Bool). cond b (inf false) (normalized t n k)) (sym e), plain-nonneg r (q .1))
 
-pub weightFrom-nonneg : (t : Float) (n k : ℕ) (s : Bool) → T (nonneg t) → 0 < n + k → n + k ≤ 16777216 → T (nonneg (weightFrom t n k s))
-unfolding weightFrom
-weightFrom-nonneg t n k s p h l =
-    cond-nonneg (leb n 1 && not s) (inf false) (normalized t n k) tt (plain-nonneg (normalized t n k) (normalized-plain t n k p h l))
+max-weight : Weight maxF
+unfolding fits
+max-weight = (tt, tt)
+
+pub weightFrom-weight : (t : Float) (n k : ℕ) (s : Bool) → T (nonneg t) → 0 < n + k → n + k ≤ 16777216 → Weight (weightFrom t n k s)
+unfolding weightFrom normalized
+weightFrom-weight t n k s p h l =
+    let d = div binary32 t (ofInt binary32 (pos (n + k))) in
+    let w = min-weight d maxF (div-nonneg binary32 t _ p (count-positive (n + k) h l), div-fits binary32 t _) max-weight in
+    (cond-nonneg (leb n 1 && not s) (inf false) (minF d maxF) tt (w .0), cond-fits binary32 (leb n 1 && not s) (inf false) (minF d maxF) (inf-fits binary32 false) (w .1))

@@ -1,5 +1,4 @@
 -- `spill_weight::normalize` meets its contract. Assumes nothing.
-use Prim.Native.Nat.{_+_}
 use native.Mathlib.Omega.{arith}
 use borrow.Author.Needs.{needs}
 use Rattle.floats.proofs.Nonneg.{count-exact}
@@ -12,7 +11,7 @@ add-n : tie.Need-add-n
 add-n c = search needs
 
 int-to-float-lesser : tie.Need-int-to-float-lesser
-int-to-float-lesser c = count-exact (c .before .args .insts + c .before .args .k) (omega arith)
+int-to-float-lesser c = count-exact _ (omega arith)
 
 lesser-requires : tie.Need-lesser-requires
 lesser-requires c κs = search needs
