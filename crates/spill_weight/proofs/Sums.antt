@@ -18,6 +18,8 @@ use Rattle.definition.specs.declared.Use.{Use}
 use Rattle.definition.specs.declared.BlockData.{BlockData}
 use Rattle.definition.specs.declared.ClassData.{ClassData}
 use Rattle.definition.specs.declared.Remat.{Remat}
+use Rattle.definition.specs.declared.Refusal.{Refusal}
+use Rattle.definition.specs.declared.Refusal.the-variants.{OverALimit}
 use Rattle.definition.specs.Types.{Segment, Job, Register, State}
 use Rattle.definition.specs.RegInfo.{zeroF, noClass, classAt, valueAt}
 use Rattle.definition.specs.Uses.{costOf}
@@ -25,8 +27,8 @@ use Rattle.definition.specs.LiveRange.{liveInsts}
 use Rattle.definition.specs.SplitPlacement.{freqAt}
 use Rattle.definition.specs.Weights.{scaled, addCost, sumUses, sumSegs, minF, weightOf}
 use Rattle.definition.specs.Admit.{registerAt}
-use Rattle.definition.specs.Place.{leastWeight}
-use Rattle.definition.specs.Entry.{plain, small, conj, every, classOk, classTests, bookOk, bookTests, blockOk, functionOk, functionTests}
+use Rattle.definition.specs.Place.{isNone, leastWeight}
+use Rattle.definition.specs.Entry.{plain, small, conj, every, classOk, classTests, bookOk, bookTests, blockOk, functionOk, functionTests, lowestOf, entry, entryTests}
 use Rattle.floats.specs.Nonneg.{nonneg, Weight}
 use Rattle.floats.proofs.Nonneg.{cond-nonneg, min-weight}
 use Rattle.floats.proofs.Bits.{small-plain}
@@ -94,6 +96,24 @@ entered-plain job b f = record {
   frequencies = blocks-plain (job .blocks) (conj-at (functionTests job) f 0);
 }
 
+-- the tests of a list that gives no refusal pass
+lowest-at : (ts : List (Bool × Refusal)) → lowestOf ts ≡ none → (i : ℕ) → T (getD ts i (true, OverALimit) .0)
+unfolding lowestOf
+lowest-at [] e i = tt
+lowest-at (t ∷ ts) e i = go (t .0) refl i (lowest-at ts)
+  where
+    some-none : {r : Refusal} → some r ≡ none → ⊥
+    some-none p = subst (λ (o : Option Refusal). T (not (isNone o))) p tt
+
+    go : (b : Bool) → t .0 ≡ b → (i : ℕ) → (lowestOf ts ≡ none → (i : ℕ) → T (getD ts i (true, OverALimit) .0)) → T (getD (t ∷ ts) i (true, OverALimit) .0)
+    go true q zero f = subst T (sym q) tt
+    go true q (suc i) f = f (ap (λ (b : Bool). cond b (lowestOf ts) (some (t .1))) (sym q) ∙ e) i
+    go false q i f = absurd (some-none (ap (λ (b : Bool). cond b (lowestOf ts) (some (t .1))) (sym q) ∙ e))
+
+pub accepted-plain : (job : Job) → entry job ≡ none → PlainJob job
+unfolding entry
+accepted-plain job e = entered-plain job (lowest-at (entryTests job) e 1) (lowest-at (entryTests job) e 2)
+
 -- ---- a use's cost
 pub class-cost-small : (job : Job) → PlainJob job → (k : UseKind) → T (small (classCost job k))
 unfolding classCost
@@ -115,6 +135,14 @@ cost-small job p k =
 -- the sum with one use more
 abbrev pub addUse : Job → Remat → Float → Use → Float
 addUse job r t u = addCost t (scaled (job .options) r (costOf job (u .kind))) (freqAt (job .blocks) (u .pos .0))
+
+-- by what the tables say of the use
+pub use-added : (job : Job) (r : Remat) (t : Float) (u : Use) {x w : Float} {m : Bool} → x ≡ classCost job (u .kind) → m ≡ inMemory job (u .kind) → w ≡ freqAt (job .blocks) (u .pos .0)
+    → addCost t (scaled (job .options) r (baseCost (u .kind) x m)) w ≡ addUse job r t u
+use-added job r t u {x} {w} {m} p q f =
+    let c : baseCost (u .kind) x m ≡ costOf job (u .kind) =
+    ap (λ (y : Float). baseCost (u .kind) y m) p ∙ ap (λ (b : Bool). baseCost (u .kind) (classCost job (u .kind)) b) q ∙ sym (cost-base job (u .kind)) in
+    ap (λ (y : Float). addCost t (scaled (job .options) r y) w) c ∙ ap (λ (y : Float). addCost t (scaled (job .options) r (costOf job (u .kind))) y) f
 
 pub use-nonneg : (job : Job) → PlainJob job → (r : Remat) (t : Float) (u : Use) → T (nonneg t) → T (nonneg (addUse job r t u))
 use-nonneg job p r t u h =

@@ -1,44 +1,31 @@
+-- `spill_weight_main::one_term` meets its contract. Assumes nothing.
+use mathlib.Core.Path.{ap, _∙_}
 use borrow.Author.Needs.{needs}
+use lib.Ieee.{Float, ofBits}
+use Rattle.definition.specs.RegInfo.{zeroF}
+use Rattle.spill_weight_main.specs.Terms.{addTerm}
+use Rattle.spill_weight_main.proofs.Terms.{zero-bits, weighed}
 use Rattle.spill_weight_main.proofs.one_term.Statement.{statement}
 use Rattle.spill_weight_main.proofs.one_term.Tie as tie
-use Rattle.spill_weight_main.proofs.one_term.Reads as reads
-use Rattle.spill_weight_main.proofs.one_term.Lts as lts
 use Rattle.floats.proofs.bits_of.Reads as bits-of-reads
-use Rattle.floats.proofs.float_of.Reads as float-of-reads
-use Rattle.spill_weight.proofs.add_cost.Reads as add-cost-reads
 use Rattle.spill_weight.proofs.weight.Reads as weight-reads
+use Rattle.spill_weight_main.proofs.add_term.Reads as add-term-reads
 
--- src/main.rt:19:43
-float-of-requires : tie.Need-float-of-requires
-float-of-requires c κs = search needs
+add-term-requires : tie.Need-add-term-requires
+unfolding ofBits
+add-term-requires c κs = (tt, c .pre .0, c .pre .1)
 
--- src/main.rt:19:67
-float-of-requires-2 : tie.Need-float-of-requires-2
-float-of-requires-2 c κs = search needs
-
--- src/main.rt:19:9
-add-cost-requires : tie.Need-add-cost-requires
-add-cost-requires c κs = ?
-
--- src/main.rt:20:21
 weight-requires : tie.Need-weight-requires
 weight-requires c κs = search needs
 
--- src/main.rt:20:5
 bits-of-requires : tie.Need-bits-of-requires
 bits-of-requires c κs = search needs
 
--- src/main.rt:15:1
 returns : tie.Need-returns
-returns c = ?
+returns c =
+    let a = c .before .before .before .args in
+    weighed (addTerm zeroF (a .cost) (a .freq)) (a .insts) 0 (a .spillslots)
+    (c .before .before .add-term .ensures .0 ∙ ap (λ (x : Float). addTerm x (a .cost) (a .freq)) zero-bits) (c .before .weight .ensures .0) (c .bits-of .ensures .0)
 
 pub one-term-spec : {M : Type 1} → statement M
-one-term-spec =
-    tie.close
-    (tie.spec
-    float-of-requires
-    float-of-requires-2
-    add-cost-requires
-    weight-requires
-    bits-of-requires
-    returns)
+one-term-spec = tie.close (tie.spec add-term-requires weight-requires bits-of-requires returns)

@@ -1,70 +1,67 @@
+-- `spill_weight_main::patterns` meets its contract. Assumes nothing.
+use mathlib.Core.Path.{_∙_, ap}
+use mathlib.Core.Bool.{not}
 use borrow.Author.Needs.{needs}
+use borrow.Author.Tests.{eq-eqb}
+use lib.Ieee.{ofBits, toBits, lt, le}
+use Rattle.definition.specs.Entry.{plain, small}
+use Rattle.definition.specs.Weights.{minF}
 use Rattle.spill_weight_main.proofs.patterns.Statement.{statement}
 use Rattle.spill_weight_main.proofs.patterns.Tie as tie
-use Rattle.spill_weight_main.proofs.patterns.Reads as reads
-use Rattle.spill_weight_main.proofs.patterns.Lts as lts
 use Rattle.check.proofs.expect.Reads as expect-reads
 use Rattle.floats.proofs.is_plain.Reads as is-plain-reads
 use Rattle.floats.proofs.is_small.Reads as is-small-reads
 use Rattle.floats.proofs.lesser_bits.Reads as lesser-bits-reads
 
--- src/main.rt:87:19
 is-plain-requires : tie.Need-is-plain-requires
 is-plain-requires c κs = search needs
 
--- src/main.rt:87:5
 expect-requires : tie.Need-expect-requires
-expect-requires c κs = ?
+unfolding ofBits
+expect-requires c κs = c .is-plain .ensures
 
--- src/main.rt:88:20
 is-plain-requires-2 : tie.Need-is-plain-requires-2
 is-plain-requires-2 c κs = search needs
 
--- src/main.rt:88:5
 expect-requires-2 : tie.Need-expect-requires-2
-expect-requires-2 c κs = ?
+unfolding ofBits
+expect-requires-2 c κs = ap not (c .is-plain2 .ensures)
 
--- src/main.rt:89:20
 is-plain-requires-3 : tie.Need-is-plain-requires-3
 is-plain-requires-3 c κs = search needs
 
--- src/main.rt:89:5
 expect-requires-3 : tie.Need-expect-requires-3
-expect-requires-3 c κs = ?
+unfolding ofBits
+expect-requires-3 c κs = ap not (c .is-plain3 .ensures)
 
--- src/main.rt:90:19
 is-small-requires : tie.Need-is-small-requires
 is-small-requires c κs = search needs
 
--- src/main.rt:90:5
 expect-requires-4 : tie.Need-expect-requires-4
-expect-requires-4 c κs = ?
+unfolding small ofBits
+expect-requires-4 c κs = c .is-small .ensures
 
--- src/main.rt:91:20
 is-small-requires-2 : tie.Need-is-small-requires-2
 is-small-requires-2 c κs = search needs
 
--- src/main.rt:91:5
 expect-requires-5 : tie.Need-expect-requires-5
-expect-requires-5 c κs = ?
+unfolding small ofBits
+expect-requires-5 c κs = ap not (c .is-small2 .ensures)
 
--- src/main.rt:92:19
 lesser-bits-requires : tie.Need-lesser-bits-requires
 lesser-bits-requires c κs = search needs
 
--- src/main.rt:92:5
 expect-requires-6 : tie.Need-expect-requires-6
-expect-requires-6 c κs = ?
+unfolding minF ofBits toBits lt
+expect-requires-6 c κs = eq-eqb (c .lesser-bits .result) 0x3f00_0000 (c .lesser-bits .ensures .0)
 
--- src/main.rt:93:19
 lesser-bits-requires-2 : tie.Need-lesser-bits-requires-2
 lesser-bits-requires-2 c κs = search needs
 
--- src/main.rt:93:5
 expect-requires-7 : tie.Need-expect-requires-7
-expect-requires-7 c κs = ?
+unfolding minF ofBits toBits lt
+expect-requires-7 c κs = eq-eqb (c .lesser-bits2 .result) 1 (c .lesser-bits2 .ensures .0)
 
--- src/main.rt:86:1
 returns : tie.Need-returns
 returns c = search needs
 

@@ -1,60 +1,58 @@
+-- `spill_weight_main::singles` meets its contract: each weight computed. Assumes nothing.
+use mathlib.Core.Path.{_∙_}
 use borrow.Author.Needs.{needs}
+use borrow.Author.Tests.{eq-eqb}
+use lib.Ieee.{ofBits, toBits, add, mul, div, lt, ofInt}
+use Rattle.definition.specs.Weights.{addCost, minF, normalized}
+use Rattle.spill_weight.specs.Costs.{weightFrom}
+use Rattle.spill_weight_main.specs.Terms.{addTerm, bitsFrom}
 use Rattle.spill_weight_main.proofs.singles.Statement.{statement}
 use Rattle.spill_weight_main.proofs.singles.Tie as tie
-use Rattle.spill_weight_main.proofs.singles.Reads as reads
-use Rattle.spill_weight_main.proofs.singles.Lts as lts
 use Rattle.check.proofs.expect.Reads as expect-reads
 use Rattle.spill_weight_main.proofs.one_term.Reads as one-term-reads
 
--- src/main.rt:77:19
 one-term-requires : tie.Need-one-term-requires
 one-term-requires c κs = search needs
 
--- src/main.rt:77:5
 expect-requires : tie.Need-expect-requires
-expect-requires c κs = ?
+unfolding addTerm bitsFrom addCost minF normalized weightFrom ofBits toBits add mul div lt ofInt
+expect-requires c κs = eq-eqb (c .one-term .result) 0x3f00_0000 (c .one-term .ensures)
 
--- src/main.rt:78:19
 one-term-requires-2 : tie.Need-one-term-requires-2
 one-term-requires-2 c κs = search needs
 
--- src/main.rt:78:5
 expect-requires-2 : tie.Need-expect-requires-2
-expect-requires-2 c κs = ?
+unfolding addTerm bitsFrom addCost minF normalized weightFrom ofBits toBits add mul div lt ofInt
+expect-requires-2 c κs = eq-eqb (c .one-term2 .result) 0x3e80_0000 (c .one-term2 .ensures)
 
--- src/main.rt:79:19
 one-term-requires-3 : tie.Need-one-term-requires-3
 one-term-requires-3 c κs = search needs
 
--- src/main.rt:79:5
 expect-requires-3 : tie.Need-expect-requires-3
-expect-requires-3 c κs = ?
+unfolding addTerm bitsFrom addCost minF normalized weightFrom ofBits toBits add mul div lt ofInt
+expect-requires-3 c κs = eq-eqb (c .one-term3 .result) 0x7f7f_ffff (c .one-term3 .ensures)
 
--- src/main.rt:80:19
 one-term-requires-4 : tie.Need-one-term-requires-4
 one-term-requires-4 c κs = search needs
 
--- src/main.rt:80:5
 expect-requires-4 : tie.Need-expect-requires-4
-expect-requires-4 c κs = ?
+unfolding addTerm bitsFrom addCost minF normalized weightFrom ofBits toBits add mul div lt ofInt
+expect-requires-4 c κs = eq-eqb (c .one-term4 .result) 2 (c .one-term4 .ensures)
 
--- src/main.rt:81:19
 one-term-requires-5 : tie.Need-one-term-requires-5
 one-term-requires-5 c κs = search needs
 
--- src/main.rt:81:5
 expect-requires-5 : tie.Need-expect-requires-5
-expect-requires-5 c κs = ?
+unfolding addTerm bitsFrom addCost minF normalized weightFrom ofBits toBits add mul div lt ofInt
+expect-requires-5 c κs = eq-eqb (c .one-term5 .result) 0x7f80_0000 (c .one-term5 .ensures)
 
--- src/main.rt:82:19
 one-term-requires-6 : tie.Need-one-term-requires-6
 one-term-requires-6 c κs = search needs
 
--- src/main.rt:82:5
 expect-requires-6 : tie.Need-expect-requires-6
-expect-requires-6 c κs = ?
+unfolding addTerm bitsFrom addCost minF normalized weightFrom ofBits toBits add mul div lt ofInt
+expect-requires-6 c κs = eq-eqb (c .one-term6 .result) 0x3f80_0000 (c .one-term6 .ensures)
 
--- src/main.rt:76:1
 returns : tie.Need-returns
 returns c = search needs
 

@@ -1,63 +1,45 @@
+-- `spill_weight_main::sum_terms` meets its contract. Assumes nothing.
+use Prim.Native.Nat.{_-_}
+use native.Mathlib.Omega.{arith}
+use borrow.Author.Needs.{needs}
+use Rattle.spill_weight_main.proofs.Terms.{Summing, start, next, done}
 use Rattle.spill_weight_main.proofs.sum_terms.Statement.{statement}
 use Rattle.spill_weight_main.proofs.sum_terms.Tie as tie
-use Rattle.spill_weight_main.proofs.sum_terms.Reads as reads
-use Rattle.spill_weight_main.proofs.sum_terms.Lts as lts
-use Rattle.floats.proofs.float_of.Reads as float-of-reads
-use Rattle.spill_weight.proofs.add_cost.Reads as add-cost-reads
+use Rattle.spill_weight_main.proofs.add_term.Reads as add-term-reads
+use Rattle.spill_weight_main.proofs.cost_at.Reads as cost-at-reads
 
 abbrev Inv-loop : tie.InvT-loop
-Inv-loop costs freqs sum₀ i₀ sum i = ?
+Inv-loop n sum₀ i₀ sum i = Summing n sum i
 
 abbrev μ-loop : tie.MeasureT-loop
-μ-loop costs freqs sum₀ i₀ sum i = ?
+μ-loop n sum₀ i₀ sum i = n - i
 
--- src/main.rt:30:5
 loop-holds : tie.Need-loop-holds Inv-loop μ-loop
-loop-holds c = ?
+loop-holds c = start _
 
--- src/main.rt:31:60
-mul-float-of : tie.Need-mul-float-of Inv-loop μ-loop
-mul-float-of c = ?
+cost-at-requires : tie.Need-cost-at-requires Inv-loop μ-loop
+cost-at-requires c κs = omega arith
 
--- src/main.rt:31:60
-shared-slice-read-float-of : tie.Need-shared-slice-read-float-of Inv-loop μ-loop
-shared-slice-read-float-of c = ?
+mul-add-term : tie.Need-mul-add-term Inv-loop μ-loop
+mul-add-term c = omega arith
 
--- src/main.rt:31:43
-float-of-requires : tie.Need-float-of-requires Inv-loop μ-loop
-float-of-requires c κs = ?
+sub-add-term : tie.Need-sub-add-term Inv-loop μ-loop
+sub-add-term c = omega arith
 
--- src/main.rt:31:88
-mul-float-of-2 : tie.Need-mul-float-of-2 Inv-loop μ-loop
-mul-float-of-2 c = ?
+add-term-requires : tie.Need-add-term-requires Inv-loop μ-loop
+add-term-requires c κs = (c .before .before .loop .inv .sound, c .cost-at .ensures .1, omega arith)
 
--- src/main.rt:31:88
-shared-slice-read-float-of-2 : tie.Need-shared-slice-read-float-of-2 Inv-loop μ-loop
-shared-slice-read-float-of-2 c = ?
-
--- src/main.rt:31:71
-float-of-requires-2 : tie.Need-float-of-requires-2 Inv-loop μ-loop
-float-of-requires-2 c κs = ?
-
--- src/main.rt:31:9
-add-cost-requires : tie.Need-add-cost-requires Inv-loop μ-loop
-add-cost-requires c κs = ?
-
--- src/main.rt:32:9
 add-i : tie.Need-add-i Inv-loop μ-loop
-add-i c = ?
+add-i c = omega arith
 
--- src/main.rt:30:5
 loop-less : tie.Need-loop-less Inv-loop μ-loop
-loop-less c = ?
+loop-less c = omega arith
 
--- src/main.rt:30:5
 loop-again : tie.Need-loop-again Inv-loop μ-loop
-loop-again c = ?
+loop-again c = next (c .before .before .before .loop .inv) (omega arith) (c .before .cost-at .ensures .0) (c .add-term .ensures)
 
--- src/main.rt:24:1
 returns : tie.Need-returns Inv-loop μ-loop
-returns c = ?
+returns c = done (c .before .loop .inv) (omega arith)
 
 pub sum-terms-spec : {M : Type 1} → statement M
 sum-terms-spec =
@@ -66,13 +48,10 @@ sum-terms-spec =
     Inv-loop
     μ-loop
     loop-holds
-    mul-float-of
-    shared-slice-read-float-of
-    float-of-requires
-    mul-float-of-2
-    shared-slice-read-float-of-2
-    float-of-requires-2
-    add-cost-requires
+    cost-at-requires
+    mul-add-term
+    sub-add-term
+    add-term-requires
     add-i
     loop-less
     loop-again
