@@ -24,18 +24,18 @@ data Lex (a b : ℕ) (P : Type 0) : Type 0 where
 lex-true : (a b : ℕ) (t : Bool) → (ltb a b || (eqb a b && t)) ≡ true → Lex a b (t ≡ true)
 lex-true a b t = go (ltb a b) refl (eqb a b) refl
   where
-  go : (l : Bool) → ltb a b ≡ l → (e : Bool) → eqb a b ≡ e → (l || (e && t)) ≡ true → Lex a b (t ≡ true)
-  go true p e q h = less (ltb-true a b p)
-  go false p true q h = same (eqb-true a b q) h
-  go false p false q h = absurd (let z : _≡_ {A = ℕ} 0 1 = cc in omega arith)
+    go : (l : Bool) → ltb a b ≡ l → (e : Bool) → eqb a b ≡ e → (l || (e && t)) ≡ true → Lex a b (t ≡ true)
+    go true p e q h = less (ltb-true a b p)
+    go false p true q h = same (eqb-true a b q) h
+    go false p false q h = absurd (let z : _≡_ {A = ℕ} 0 1 = cc in omega arith)
 
 lex-false : (a b : ℕ) (t : Bool) → (ltb a b || (eqb a b && t)) ≡ false → Lex b a (t ≡ false)
 lex-false a b t = go (ltb a b) refl (eqb a b) refl
   where
-  go : (l : Bool) → ltb a b ≡ l → (e : Bool) → eqb a b ≡ e → (l || (e && t)) ≡ false → Lex b a (t ≡ false)
-  go true p e q h = absurd (let z : _≡_ {A = ℕ} 0 1 = cc in omega arith)
-  go false p true q h = same (sym (eqb-true a b q)) h
-  go false p false q h = less (let l = ltb-false a b p in let n = eqb-false a b q in omega arith)
+    go : (l : Bool) → ltb a b ≡ l → (e : Bool) → eqb a b ≡ e → (l || (e && t)) ≡ false → Lex b a (t ≡ false)
+    go true p e q h = absurd (let z : _≡_ {A = ℕ} 0 1 = cc in omega arith)
+    go false p true q h = same (sym (eqb-true a b q)) h
+    go false p false q h = less (let l = ltb-false a b p in let n = eqb-false a b q in omega arith)
 
 lex-yes : (a b : ℕ) (t : Bool) → Lex a b (t ≡ true) → (ltb a b || (eqb a b && t)) ≡ true
 lex-yes a b t (less h) = simp (lt-ltb a b h)
@@ -49,12 +49,12 @@ module _ (v : Value) (k : ℕ) where
       lex-yes (g .value .0) (v .0) (ltb (asKey g) k)
       (go (lex-true (g .value .0) (h .value .0) (leb (asKey g) (asKey h)) p) (lex-true (h .value .0) (v .0) (ltb (asKey h) k) q))
     where
-    go : Lex (g .value .0) (h .value .0) (leb (asKey g) (asKey h) ≡ true) → Lex (h .value .0) (v .0) (ltb (asKey h) k ≡ true)
-        → Lex (g .value .0) (v .0) (ltb (asKey g) k ≡ true)
-    go (less a) (less b) = less (omega arith)
-    go (less a) (same b y) = less (omega arith)
-    go (same a x) (less b) = less (omega arith)
-    go (same a x) (same b y) = same (a ∙ b) (lt-ltb (asKey g) k (omega (arith, leb-true (asKey g) (asKey h) x, ltb-true (asKey h) k y)))
+      go : Lex (g .value .0) (h .value .0) (leb (asKey g) (asKey h) ≡ true) → Lex (h .value .0) (v .0) (ltb (asKey h) k ≡ true)
+          → Lex (g .value .0) (v .0) (ltb (asKey g) k ≡ true)
+      go (less a) (less b) = less (omega arith)
+      go (less a) (same b y) = less (omega arith)
+      go (same a x) (less b) = less (omega arith)
+      go (same a x) (same b y) = same (a ∙ b) (lt-ltb (asKey g) k (omega (arith, leb-true (asKey g) (asKey h) x, ltb-true (asKey h) k y)))
 
 and-left : (a b : Bool) → (a && b) ≡ true → a ≡ true
 and-left true b h = refl
@@ -98,9 +98,9 @@ module _ (v : Value) (k : ℕ) (hs : List Hint) (d : Hint) (sorted : chained not
   pub above-behind : (i j : ℕ) → i ≤ j → j < length hs → keyBelow v k (getD hs i d) ≡ false → keyBelow v k (getD hs j d) ≡ false
   above-behind i j h l b = go (keyBelow v k (getD hs j d)) refl
     where
-    go : (t : Bool) → keyBelow v k (getD hs j d) ≡ t → t ≡ false
-    go true e = absurd (let y = below-before i j h l e in let z : _≡_ {A = ℕ} 0 1 = cc in omega arith)
-    go false e = refl
+      go : (t : Bool) → keyBelow v k (getD hs j d) ≡ t → t ≡ false
+      go true e = absurd (let y = below-before i j h l e in let z : _≡_ {A = ℕ} 0 1 = cc in omega arith)
+      go false e = refl
 
 -- what a search has found
 pub first-from-is : (v : Value) (k : ℕ) (hs : List Hint) (d : Hint) (i : ℕ) → i ≤ length hs → ((j : ℕ) → j < i → keyBelow v k (getD hs j d) ≡ true)
@@ -134,29 +134,29 @@ module _ (v : Value) (a b : ℕ) where
   below-key : (h : Hint) → asKey h < 2 * a + 1 → inside h ≡ false
   below-key h l = go (eqb (h .value .0) (v .0))
     where
-    go : (e : Bool) → (e && leb (2 * a + 1) (asKey h) && leb (asKey h) (2 * b)) ≡ false
-    go true = simp (lt-leb (2 * a + 1) (asKey h) l)
-    go false = refl
+      go : (e : Bool) → (e && leb (2 * a + 1) (asKey h) && leb (asKey h) (2 * b)) ≡ false
+      go true = simp (lt-leb (2 * a + 1) (asKey h) l)
+      go false = refl
 
   above-key : (h : Hint) → Above h → inside h ≡ false
   unfolding Above
   above-key h (less l) = other-value h (λ e. omega arith)
   above-key h (same e l) = go (eqb (h .value .0) (v .0)) (leb (2 * a + 1) (asKey h))
     where
-    go : (e l : Bool) → (e && l && leb (asKey h) (2 * b)) ≡ false
-    go true true = lt-leb (asKey h) (2 * b) l
-    go true false = refl
-    go false l = refl
+      go : (e l : Bool) → (e && l && leb (asKey h) (2 * b)) ≡ false
+      go true true = lt-leb (asKey h) (2 * b) l
+      go true false = refl
+      go false l = refl
 
   above-rises : (g h : Hint) → notAfter g h ≡ true → Above g → Above h
   unfolding Above
   above-rises g h p q = go (lex-true (g .value .0) (h .value .0) (leb (asKey g) (asKey h)) p) q
     where
-    go : Lex (g .value .0) (h .value .0) (leb (asKey g) (asKey h) ≡ true) → Lex (v .0) (g .value .0) (2 * b < asKey g) → Lex (v .0) (h .value .0) (2 * b < asKey h)
-    go (less x) (less y) = less (omega arith)
-    go (less x) (same y z) = less (omega arith)
-    go (same x w) (less y) = less (omega arith)
-    go (same x w) (same y z) = same (y ∙ x) (omega (arith, leb-true (asKey g) (asKey h) w))
+      go : Lex (g .value .0) (h .value .0) (leb (asKey g) (asKey h) ≡ true) → Lex (v .0) (g .value .0) (2 * b < asKey g) → Lex (v .0) (h .value .0) (2 * b < asKey h)
+      go (less x) (less y) = less (omega arith)
+      go (less x) (same y z) = less (omega arith)
+      go (same x w) (less y) = less (omega arith)
+      go (same x w) (same y z) = same (y ∙ x) (omega (arith, leb-true (asKey g) (asKey h) w))
 
   -- nothing behind a hint that is behind the upper key
   none-behind : (h : Hint) (hs : List Hint) → chained notAfter (h ∷ hs) ≡ true → Above h → hinted hs v a b ≡ false
@@ -172,13 +172,15 @@ module _ (v : Value) (a b : ℕ) where
   first-hit h hs e (less l) = let n : eqb (h .value .0) (v .0) ≡ false = ne-eqb (h .value .0) (v .0) (λ q. omega arith) in rw n (none-behind h hs e (less l))
   first-hit h hs e (same q l) = go (leb (asKey h) (2 * b)) refl
     where
-    n : eqb (h .value .0) (v .0) ≡ true
-    n = eq-eqb (h .value .0) (v .0) (sym q)
-    m : leb (2 * a + 1) (asKey h) ≡ true
-    m = le-leb (2 * a + 1) (asKey h) (ltb-false (asKey h) (2 * a + 1) l)
-    go : (t : Bool) → leb (asKey h) (2 * b) ≡ t → hinted (h ∷ hs) v a b ≡ firstHits v b (h ∷ hs)
-    go true f = rw (n, m, f)
-    go false f = rw (n, m, f) (none-behind h hs e (same q (leb-false (asKey h) (2 * b) f)))
+      n : eqb (h .value .0) (v .0) ≡ true
+      n = eq-eqb (h .value .0) (v .0) (sym q)
+
+      m : leb (2 * a + 1) (asKey h) ≡ true
+      m = le-leb (2 * a + 1) (asKey h) (ltb-false (asKey h) (2 * a + 1) l)
+
+      go : (t : Bool) → leb (asKey h) (2 * b) ≡ t → hinted (h ∷ hs) v a b ≡ firstHits v b (h ∷ hs)
+      go true f = rw (n, m, f)
+      go false f = rw (n, m, f) (none-behind h hs e (same q (leb-false (asKey h) (2 * b) f)))
 
   -- the whole test from the first hint that is not before the lower key
   pub hinted-first : (hs : List Hint) → chained notAfter hs ≡ true → hinted hs v a b ≡ firstHits v b (drop (firstFrom v (2 * a + 1) hs) hs)
@@ -186,10 +188,11 @@ module _ (v : Value) (a b : ℕ) where
   hinted-first [] e = refl
   hinted-first (h ∷ hs) e = go (hinted-first hs (chained-rest h hs e)) (keyBelow v (2 * a + 1) h) refl
     where
-    under : Lex (h .value .0) (v .0) (ltb (asKey h) (2 * a + 1) ≡ true) → inside h ≡ false
-    under (less l) = other-value h (λ q. omega arith)
-    under (same q l) = below-key h (ltb-true (asKey h) (2 * a + 1) l)
-    go : hinted hs v a b ≡ firstHits v b (drop (firstFrom v (2 * a + 1) hs) hs) → (t : Bool) → keyBelow v (2 * a + 1) h ≡ t
-        → hinted (h ∷ hs) v a b ≡ firstHits v b (drop (firstFrom v (2 * a + 1) (h ∷ hs)) (h ∷ hs))
-    go r true f = rw (f, firstFrom, under (lex-true (h .value .0) (v .0) (ltb (asKey h) (2 * a + 1)) f)) r
-    go r false f = rw (f, firstFrom) (first-hit h hs e (lex-false (h .value .0) (v .0) (ltb (asKey h) (2 * a + 1)) f))
+      under : Lex (h .value .0) (v .0) (ltb (asKey h) (2 * a + 1) ≡ true) → inside h ≡ false
+      under (less l) = other-value h (λ q. omega arith)
+      under (same q l) = below-key h (ltb-true (asKey h) (2 * a + 1) l)
+
+      go : hinted hs v a b ≡ firstHits v b (drop (firstFrom v (2 * a + 1) hs) hs) → (t : Bool) → keyBelow v (2 * a + 1) h ≡ t
+          → hinted (h ∷ hs) v a b ≡ firstHits v b (drop (firstFrom v (2 * a + 1) (h ∷ hs)) (h ∷ hs))
+      go r true f = rw (f, firstFrom, under (lex-true (h .value .0) (v .0) (ltb (asKey h) (2 * a + 1)) f)) r
+      go r false f = rw (f, firstFrom) (first-hit h hs e (lex-false (h .value .0) (v .0) (ltb (asKey h) (2 * a + 1)) f))
