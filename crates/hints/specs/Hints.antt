@@ -1,8 +1,8 @@
 -- Rows of hints, and the search by key. Assumes nothing.
-use Prim.Native.Nat.{ℕ, suc, _+_, _*_}
+use Prim.Native.Nat.{ℕ, suc, _+_}
 use mathlib.Core.Bool.{Bool, true, false, _&&_, _||_}
 use mathlib.Core.List.{List, [], _∷_}
-use lib.Dec.{leb, ltb, eqb}
+use lib.Dec.{ltb, eqb}
 use lib.ListN.{getD}
 use Rattle.definition.specs.declared.Value.{Value}
 use Rattle.definition.specs.declared.Hint.{Hint}

@@ -1,11 +1,10 @@
 -- The points of segments, and the instructions that they touch. Assumes nothing.
-use Prim.Native.Nat.{ℕ, _+_, _-_, _*_, _/_, max}
+use Prim.Native.Nat.{ℕ, _+_, _-_, max}
 use mathlib.Core.Bool.{false}
-use mathlib.Core.List.{List, [], _∷_, map}
+use mathlib.Core.List.{List, [], map}
 use lib.ListN.{getD}
-use Rattle.definition.specs.declared.UseFlags.{UseFlags}
 use Rattle.definition.specs.Types.{Segment, val, point}
-use Rattle.definition.specs.LiveRange.{instOf, nextInst, touched, liveInsts}
+use Rattle.definition.specs.LiveRange.{instOf, nextInst, liveInsts}
 use Rattle.live_insts.specs.declared.LiveRangeSegment.{LiveRangeSegment}
 
 abbrev pub rangeOf : Segment → LiveRangeSegment

@@ -1,7 +1,7 @@
 -- The rows of a read-only table: `row W i` reads the row whose first word is word i of W; the table has n rows of s words, the first at word `at`.
 -- Every job table and every lent list is read so: `rowsAt row (wordsOf (now t)) at s n`. The laws hold for any decoder and any stride.
 -- Assumes nothing.
-use mathlib.Core.Path.{_≡_, refl, sym, ap, _∙_}
+use mathlib.Core.Path.{_≡_, refl, ap, _∙_}
 use mathlib.Core.List.{List, [], _∷_, _++_, map}
 use Prim.Native.Nat.{ℕ, zero, suc, _+_, _-_, _*_, _≤_, _<_}
 use native.Mathlib.Nat.{zero-add, zero-mul, one-mul, add-mul}
