@@ -2,7 +2,9 @@
 use Prim.Native.Nat.{ℕ, _+_, _-_, max}
 use mathlib.Core.Bool.{false}
 use mathlib.Core.List.{List, [], map}
+use native.Mathlib.Omega.{arith}
 use lib.ListN.{getD}
+use Rattle.rows.specs.RowsAt.{Reads}
 use Rattle.definition.specs.Types.{Segment, val, point}
 use Rattle.definition.specs.LiveRange.{instOf, nextInst, liveInsts}
 use Rattle.live_insts.specs.declared.LiveRangeSegment.{LiveRangeSegment}
@@ -32,3 +34,8 @@ newInsts n r = nextInst (r .to) - max n (instOf (r .«from»))
 unfoldable pub rangeInsts : List LiveRangeSegment → ℕ
 unfolding liveInsts
 rangeInsts rs = liveInsts (map bare rs)
+
+-- of a row it reads two words
+pub range-reads : Reads 7 rangeAt
+unfolding rangeAt
+range-reads W W′ i k h = rw (h 1 (omega arith), h 2 (omega arith))
