@@ -5,6 +5,7 @@ use definition::RegClass;
 ghost use mathlib.Core.Path.{_≡_};
 ghost use Prim.Native.Nat.{ℕ, _+_, _*_, _≤_, _<_};
 ghost use lib.Bits.{bitAnd};
+ghost use lib.ListN.{getD};
 ghost use Rattle.words.specs.Words.{wordCount, wordsOf};
 ghost use Rattle.definition.specs.Types.{Job};
 ghost use Rattle.definition.specs.RegInfo.{lowest, commonSubclass};
@@ -18,12 +19,12 @@ pub enum Found {
 
 // The class whose row begins at word i.
 pub fn class_at(t: &[u8], i: usize) -> ClassData
-    requires { ⌜ i + 4 ≤ wordCount (now t) ⌝ }
+    requires { ⌜ (i + 4 ≤ wordCount (now t)) × (getD (wordsOf (now t)) (i + 1) 0 ≤ 0x7f80_0000) ⌝ }
     ensures { λ r. ⌜ r ≡ classRow (wordsOf (now (t .entry))) i ⌝ }
 {
     ClassData {
         mask: words::word_at(t, i),
-        cost: f32::from_bits(words::word_at(t, i + 1)),
+        cost: floats::float_of(words::word_at(t, i + 1)),
         size: words::word_at(t, i + 2),
         spillslots: words::word_at(t, i + 3) == 1,
     }

@@ -27,10 +27,24 @@ pub fn kind_of(kind: u32, a: u32, b: u32, c: u32, d: u32) -> UseKind
             class: RegClass(c),
             group_index: (d % 256) as u8,
         },
-        4 => UseKind::ClassUse { slot: (a % 65536) as u16, class: RegClass(b) },
-        5 => UseKind::ClassDef { slot: (a % 65536) as u16, class: RegClass(b) },
-        6 => UseKind::GroupClassUse { slot: (a % 65536) as u16, class: RegClass(b), group_index: (c % 256) as u8 },
-        7 => UseKind::GroupClassDef { slot: (a % 65536) as u16, class: RegClass(b), group_index: (c % 256) as u8 },
+        4 => UseKind::ClassUse {
+            slot: (a % 65536) as u16,
+            class: RegClass(b),
+        },
+        5 => UseKind::ClassDef {
+            slot: (a % 65536) as u16,
+            class: RegClass(b),
+        },
+        6 => UseKind::GroupClassUse {
+            slot: (a % 65536) as u16,
+            class: RegClass(b),
+            group_index: (c % 256) as u8,
+        },
+        7 => UseKind::GroupClassDef {
+            slot: (a % 65536) as u16,
+            class: RegClass(b),
+            group_index: (c % 256) as u8,
+        },
         8 => UseKind::BlockparamIn { blockparam_idx: a },
         9 => UseKind::BlockparamOut,
         _ => UseKind::ConstraintConflict,
