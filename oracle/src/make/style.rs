@@ -1,0 +1,116 @@
+//! What the profiles of whole jobs ask for.
+
+/// From, to.
+pub type Span = (u32, u32);
+
+pub struct Style {
+    pub insts: Span,
+    pub blocks: Span,
+    pub classes: Span,
+    pub banks: Span,
+    pub values: Span,
+    /// Percent of values that join the set of an earlier one.
+    pub shared: u32,
+    /// Segments of a set.
+    pub segs: Span,
+    /// Percent of sets that live through the whole function.
+    pub long: u32,
+    /// Uses of a segment, group uses not counted.
+    pub uses: Span,
+    /// Weights of the kinds 0 to 9; kinds 3, 6 and 7 are not drawn.
+    pub kinds: [u32; 10],
+    /// Percent of uses at the instruction of the use before.
+    pub crowd: u32,
+    pub vgroups: Span,
+    pub operands: Span,
+    pub hints: Span,
+    /// Percent of segments with each flag.
+    pub flags: u32,
+    pub floats: Floats,
+    /// Weights of the books: closed, with itself, any masks, leaves.
+    pub books: [u32; 4],
+}
+
+#[derive(Clone, Copy, PartialEq, Eq)]
+pub enum Floats {
+    Plain,
+    Extreme,
+}
+
+const CLASSES: Style = Style {
+    insts: (2, 16),
+    blocks: (1, 5),
+    classes: (2, 7),
+    banks: (1, 2),
+    values: (1, 4),
+    shared: 30,
+    segs: (1, 3),
+    long: 50,
+    uses: (0, 7),
+    kinds: [2, 4, 4, 0, 40, 8, 0, 0, 3, 3],
+    crowd: 25,
+    vgroups: (0, 0),
+    operands: (0, 0),
+    hints: (0, 3),
+    flags: 20,
+    floats: Floats::Plain,
+    books: [30, 20, 10, 40],
+};
+
+pub fn of(profile: &str) -> Option<Style> {
+    Some(match profile {
+        "small" => Style {
+            insts: (1, 4),
+            blocks: (1, 2),
+            classes: (1, 4),
+            banks: (1, 1),
+            values: (1, 3),
+            segs: (1, 2),
+            uses: (0, 3),
+            kinds: [1, 1, 1, 0, 6, 3, 0, 0, 2, 1],
+            crowd: 40,
+            vgroups: (0, 1),
+            operands: (0, 2),
+            hints: (0, 2),
+            books: [1, 1, 1, 1],
+            ..CLASSES
+        },
+        "classes" => CLASSES,
+        "groups" => Style {
+            insts: (2, 10),
+            blocks: (1, 3),
+            classes: (3, 7),
+            banks: (1, 1),
+            values: (2, 7),
+            shared: 25,
+            segs: (1, 3),
+            long: 75,
+            uses: (0, 2),
+            kinds: [1, 1, 2, 0, 12, 1, 0, 0, 4, 1],
+            crowd: 30,
+            vgroups: (1, 3),
+            operands: (1, 8),
+            books: [40, 15, 5, 40],
+            ..CLASSES
+        },
+        "hints" => Style {
+            hints: (1, 12),
+            flags: 60,
+            uses: (1, 8),
+            kinds: [3, 6, 2, 0, 40, 5, 0, 0, 2, 2],
+            crowd: 10,
+            books: [20, 10, 0, 70],
+            ..CLASSES
+        },
+        "floats" => Style {
+            blocks: (1, 6),
+            kinds: [4, 8, 8, 0, 40, 5, 0, 0, 3, 3],
+            floats: Floats::Extreme,
+            books: [50, 10, 0, 40],
+            vgroups: (0, 1),
+            operands: (0, 3),
+            ..CLASSES
+        },
+        _ => return None,
+    })
+}
