@@ -2,7 +2,7 @@
 
 use super::limits::one_above;
 use super::rng::Rng;
-use crate::job::{CLASS_USE, Class, GROUP_USE, Hint, Job, Operand, Use, Value};
+use crate::job::{BLOCKPARAM_OUT, CLASS_USE, Class, GROUP_USE, Hint, Job, Operand, Use, Value};
 
 /// The lowest float above 2^20, and floats that are no cost or frequency.
 const BAD_COSTS: [u32; 6] = [
@@ -208,7 +208,7 @@ fn break_uses(job: &mut Job, rng: &mut Rng) {
     let plain = |kind: u32, inst: u32, fields: [u32; 4]| Use { kind, inst, fields };
     let classes = job.classes.len();
     let bad = match rng.below(12) {
-        0 => plain(BLOCKPARAM_OUT_AT(first), insts, [0; 4]),
+        0 => plain(BLOCKPARAM_OUT, insts, [0; 4]),
         1 => plain(CLASS_USE, first, [0, unknown(rng, classes), 0, 0]),
         2 => plain(rng.below(2), first, [unknown(rng, job.regs.len()), 0, 0, 0]),
         3 => plain(CLASS_USE, first, [65_536, 0, 0, 0]),
@@ -230,11 +230,6 @@ fn break_uses(job: &mut Job, rng: &mut Rng) {
         _ => return swap_uses(job, at),
     };
     add_use(job, rng, at, bad);
-}
-
-#[allow(non_snake_case)]
-fn BLOCKPARAM_OUT_AT(_first: u32) -> u32 {
-    crate::job::BLOCKPARAM_OUT
 }
 
 /// Puts a use at one end of a segment's list.

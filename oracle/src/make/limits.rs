@@ -8,7 +8,7 @@ use crate::job::{
     BLOCKPARAM_IN, Block, CLASS_USE, Class, GROUP_USE, Hint, Job, Operand, Use, Value,
 };
 
-const SHAPES: [fn(&mut Rng) -> Job; 9] = [
+const SHAPES: [fn(&mut Rng) -> Job; 11] = [
     deep_cuts,
     deep_turns,
     many_sets,
@@ -18,6 +18,8 @@ const SHAPES: [fn(&mut Rng) -> Job; 9] = [
     wide_book,
     long_merge,
     many_blocks,
+    full_uses,
+    full_segs,
 ];
 
 pub fn make(rng: &mut Rng) -> Frame {
@@ -119,7 +121,7 @@ fn deep_turns(rng: &mut Rng) -> Job {
     value(&mut job, 0);
     let mut long = piece(0, 0, 4 * insts);
     let classes = rng.pick(&[2, 5, 31]);
-    let count = rng.pick(&[512, 1024]);
+    let count = rng.pick(&[512, 1024, 4095]);
     if rng.chance(50) {
         long.uses.push(Use {
             kind: BLOCKPARAM_IN,
@@ -355,6 +357,57 @@ fn many_blocks(rng: &mut Rng) -> Job {
         inst += 1 + rng.below(300);
     }
     soup::put(&mut job, rng, vec![long]);
+    job
+}
+
+/// Segments that begin with a block parameter, behind which all uses but one
+/// are turned: with four uses each the use table is full to the last place,
+/// with more it overflows.
+fn full_uses(rng: &mut Rng) -> Job {
+    let mut job = Job::default();
+    leaves(&mut job, 31, 1);
+    let each: u32 = rng.pick(&[3, 4, 4, 5, 8]);
+    let segs = 4096 / each.max(4);
+    blocks(&mut job, rng, 16, segs.div_ceil(16));
+    value(&mut job, 0);
+    let mut pieces = Vec::new();
+    for inst in 0..segs {
+        let mut one = piece(0, 4 * inst, 4 * inst + 3 - rng.below(2));
+        one.to -= u32::from(one.to % 4 == 3);
+        one.uses.push(Use {
+            kind: BLOCKPARAM_IN,
+            inst,
+            fields: [inst, 0, 0, 0],
+        });
+        for slot in 1..each {
+            one.uses.push(class_use(inst, slot, slot));
+        }
+        pieces.push(one);
+    }
+    soup::put(&mut job, rng, pieces);
+    job
+}
+
+/// A register for each of 4,096 uses, and up to two segments without uses
+/// besides: the segment table is full, or overflows by one or two.
+fn full_segs(rng: &mut Rng) -> Job {
+    let mut job = Job::default();
+    leaves(&mut job, 2, 1);
+    blocks(&mut job, rng, 1, 4096);
+    value(&mut job, 0);
+    let bare = rng.below(3);
+    let mut pieces: Vec<Piece> = (0..bare).map(|point| piece(0, point, point + 1)).collect();
+    let mut inst = 0;
+    while inst < 4096 {
+        let next = (inst + 5).min(4096);
+        let mut one = piece(0, (4 * inst).max(bare), 4 * next);
+        for inst in inst..next {
+            one.uses.push(class_use(inst, 0, 1 + inst % 2));
+        }
+        pieces.push(one);
+        inst = next;
+    }
+    soup::put(&mut job, rng, pieces);
     job
 }
 

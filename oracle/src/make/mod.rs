@@ -1,6 +1,7 @@
 //! Generated job sheets: the same profile and seed always give the same sheet.
 
 mod book;
+mod braids;
 mod breaks;
 mod damage;
 mod limits;
@@ -34,6 +35,7 @@ pub fn make(profile: &str, seed: u64) -> Option<Frame> {
             room: None,
         },
         "rooms" => rooms::make(&mut rng),
+        "groups" if rng.chance(60) => plain(braids::make(&mut rng)),
         _ => plain(soup::make(&mut rng, &style::of(profile)?)),
     })
 }

@@ -2,14 +2,16 @@
 
 use super::rng::Rng;
 use super::write::sheet_of;
-use super::{soup, style};
+use super::{braids, soup, style};
 use crate::answer::{Room, counts};
 use crate::frames::Frame;
 use crate::run;
 
 pub fn make(rng: &mut Rng) -> Frame {
-    let profile = rng.pick(&["small", "classes", "groups", "groups"]);
-    let job = soup::make(rng, &style::of(profile).unwrap());
+    let job = match rng.pick(&["small", "classes", "groups", ""]) {
+        "" => braids::make(rng),
+        profile => soup::make(rng, &style::of(profile).unwrap()),
+    };
     let mut room = counts(&run::run(&job, None));
     let table = rng.below(4) as usize;
     match rng.below(4) {

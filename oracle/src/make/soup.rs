@@ -101,6 +101,12 @@ fn vgroups(job: &mut Job, rng: &mut Rng, style: &Style) {
         return;
     }
     for _ in 0..rng.within(style.vgroups) {
+        if let Some(last) = job.vgroups.last()
+            && rng.chance(style.same)
+        {
+            job.vgroups.push(last.clone());
+            continue;
+        }
         let size = rng.pick(&sizes);
         let mut members: Vec<u32> = Vec::new();
         for _ in 0..size {
@@ -190,10 +196,11 @@ fn ranges(job: &Job, rng: &mut Rng, style: &Style) -> Vec<(u32, u32)> {
 /// Uses of all kinds but those of groups.
 fn plain_uses(job: &Job, rng: &mut Rng, style: &Style, piece: &mut Piece) {
     let palette: Vec<u32> = (0..3).map(|_| some_class(job, rng)).collect();
+    let bare = rng.chance(style.bare);
     let mut inst = None;
-    for _ in 0..rng.within(style.uses) {
+    for _ in 0..if bare { 0 } else { rng.within(style.uses) } {
         let here = inst.filter(|_| rng.chance(style.crowd));
-        let Some(place) = here.or_else(|| some_inst(job, rng, piece)) else {
+        let Some(place) = here.or_else(|| some_inst(job, rng, style, piece)) else {
             continue;
         };
         inst = Some(place);
@@ -241,10 +248,16 @@ fn end_point(u: &Use) -> u32 {
 }
 
 /// An instruction the piece may hold uses of.
-fn some_inst(job: &Job, rng: &mut Rng, piece: &Piece) -> Option<u32> {
+fn some_inst(job: &Job, rng: &mut Rng, style: &Style, piece: &Piece) -> Option<u32> {
     let first = piece.from / 4;
     let last = (piece.to / 4).min(job.inst_count() as u32 - 1);
-    (first <= last).then(|| rng.within((first, last)))
+    if first > last {
+        None
+    } else if rng.chance(style.edges) {
+        Some(rng.pick(&[first, last]))
+    } else {
+        Some(rng.within((first, last)))
+    }
 }
 
 /// A class of single registers, rarely any other.
@@ -295,7 +308,7 @@ fn operands(job: &mut Job, rng: &mut Rng, style: &Style, pieces: &mut [Piece]) {
         let members = job.vgroups[operand.vgroup as usize].clone();
         let kind = if rng.chance(85) { GROUP_USE } else { GROUP_DEF };
         for (index, &value) in members.iter().enumerate() {
-            let times = rng.weighted(&[6, 90, 4]);
+            let times = rng.weighted(&[6, 94 - style.twice, style.twice]);
             for _ in 0..times {
                 group_use(rng, pieces, operand, value, kind, index as u32);
             }

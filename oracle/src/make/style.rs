@@ -21,8 +21,16 @@ pub struct Style {
     pub kinds: [u32; 10],
     /// Percent of uses at the instruction of the use before.
     pub crowd: u32,
+    /// Percent of uses at the first or last instruction of their segment.
+    pub edges: u32,
+    /// Percent of segments without uses other than of groups.
+    pub bare: u32,
     pub vgroups: Span,
+    /// Percent of value groups with the members of the one before.
+    pub same: u32,
     pub operands: Span,
+    /// Percent of group uses written twice.
+    pub twice: u32,
     pub hints: Span,
     /// Percent of segments with each flag.
     pub flags: u32,
@@ -49,8 +57,12 @@ const CLASSES: Style = Style {
     uses: (0, 7),
     kinds: [2, 4, 4, 0, 40, 8, 0, 0, 3, 3],
     crowd: 25,
+    edges: 20,
+    bare: 0,
     vgroups: (0, 0),
+    same: 0,
     operands: (0, 0),
+    twice: 4,
     hints: (0, 3),
     flags: 20,
     floats: Floats::Plain,
