@@ -191,8 +191,5 @@ fn plain_uses(rng: &mut Rng, insts: u32, piece: &mut Piece) {
             },
         );
     }
-    let count = piece.uses.len();
-    if count > 0 && rng.chance(50) {
-        piece.uses.rotate_left(rng.below(count as u32) as usize);
-    }
+    soup::shuffle(rng, &mut piece.uses);
 }

@@ -8,6 +8,7 @@ mod limits;
 mod rng;
 mod rooms;
 mod soup;
+mod stops;
 mod style;
 mod write;
 
@@ -35,7 +36,12 @@ pub fn make(profile: &str, seed: u64) -> Option<Frame> {
             room: None,
         },
         "rooms" => rooms::make(&mut rng),
-        "groups" if rng.chance(60) => plain(braids::make(&mut rng)),
+        "groups" => plain(match rng.below(10) {
+            0..=5 => braids::make(&mut rng),
+            6 => soup::make(&mut rng, &style::of("knots")?),
+            7 => stops::make(&mut rng),
+            _ => soup::make(&mut rng, &style::of("groups")?),
+        }),
         _ => plain(soup::make(&mut rng, &style::of(profile)?)),
     })
 }

@@ -2,14 +2,15 @@
 
 use super::rng::Rng;
 use super::write::sheet_of;
-use super::{braids, soup, style};
+use super::{braids, soup, stops, style};
 use crate::answer::{Room, counts};
 use crate::frames::Frame;
 use crate::run;
 
 pub fn make(rng: &mut Rng) -> Frame {
-    let job = match rng.pick(&["small", "classes", "groups", ""]) {
-        "" => braids::make(rng),
+    let job = match rng.pick(&["small", "classes", "groups", "braids", "stops"]) {
+        "braids" => braids::make(rng),
+        "stops" => stops::make(rng),
         profile => soup::make(rng, &style::of(profile).unwrap()),
     };
     let mut room = counts(&run::run(&job, None));

@@ -30,9 +30,21 @@ pub fn make(rng: &mut Rng, style: &Style) -> Job {
         plain_uses(&job, rng, style, piece);
     }
     operands(&mut job, rng, style, &mut pieces);
+    for piece in &mut pieces {
+        shuffle(rng, &mut piece.uses);
+    }
     put(&mut job, rng, pieces);
     debug_assert_eq!(entry::refusal(&job), None);
     job
+}
+
+/// Mixes the order of uses at one instruction, in most lists.
+pub fn shuffle(rng: &mut Rng, uses: &mut [Use]) {
+    if rng.chance(60) {
+        for last in (1..uses.len()).rev() {
+            uses.swap(last, rng.below(last as u32 + 1) as usize);
+        }
+    }
 }
 
 /// Puts the pieces into the job, each with its uses in order.

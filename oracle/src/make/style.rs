@@ -105,6 +105,28 @@ pub fn of(profile: &str) -> Option<Style> {
             books: [40, 15, 5, 40],
             ..CLASSES
         },
+        // One or two instructions, where values stand in several places.
+        "knots" => Style {
+            insts: (1, 2),
+            blocks: (1, 1),
+            classes: (2, 4),
+            banks: (1, 1),
+            values: (1, 3),
+            shared: 70,
+            segs: (1, 2),
+            long: 90,
+            uses: (0, 2),
+            kinds: [1, 1, 1, 0, 15, 10, 0, 0, 6, 0],
+            crowd: 60,
+            edges: 60,
+            bare: 30,
+            vgroups: (1, 2),
+            same: 70,
+            operands: (2, 5),
+            twice: 20,
+            books: [40, 10, 10, 40],
+            ..CLASSES
+        },
         "hints" => Style {
             hints: (1, 12),
             flags: 60,
