@@ -86,8 +86,7 @@ pub struct Log {
     pub placed: Vec<Placed>,
     pub conflicts: usize,
     pub turns: usize,
-    /// The run's last register was weighed and a group made for it, or it was
-    /// weighed without having been emitted.
+    /// The last register met a stop after a group was made for it.
     pub group_open: bool,
     trying: bool,
     admitted: bool,
@@ -121,19 +120,14 @@ pub fn end() -> Log {
     LOG.take()
 }
 
-#[cfg(feature = "bare")]
-#[inline(always)]
-pub fn reached(_point: Point) {}
-
-#[cfg(not(feature = "bare"))]
+/// Takes note of the point; a bare build never does.
 #[inline(always)]
 pub fn reached(point: Point) {
-    if !matches!(point, Point::Other) {
+    if !cfg!(feature = "bare") && !matches!(point, Point::Other) {
         record(point);
     }
 }
 
-#[cfg(not(feature = "bare"))]
 fn record(point: Point) {
     let (lost, halt) = LOG.with_borrow_mut(|log| {
         let lost = log.see(point);
@@ -147,7 +141,6 @@ fn record(point: Point) {
     }
 }
 
-#[cfg(not(feature = "bare"))]
 impl Log {
     /// Takes note of the point; true if a round admitted none.
     fn see(&mut self, point: Point) -> bool {
