@@ -89,7 +89,12 @@ impl Tally {
         );
         let pieces = regs.virt_regs().flat_map(|reg| regs.segments(reg));
         let added = pieces.filter(|piece| print::is_added(whole, piece, job.uses.len()));
-        let led = added.filter(|piece| {
+        let added: Vec<_> = added.collect();
+        let falls = added.windows(2).filter(|pair| {
+            pair[0].value == pair[1].value && pair[0].live_range.from > pair[1].live_range.from
+        });
+        self.see("conflicts fall in instruction", falls.count());
+        let led = added.iter().filter(|piece| {
             matches!(
                 whole.uses[piece.use_list][0].kind,
                 UseKind::BlockparamIn { .. }

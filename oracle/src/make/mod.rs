@@ -4,6 +4,7 @@ mod book;
 mod braids;
 mod breaks;
 mod damage;
+mod falling;
 mod limits;
 mod rng;
 mod rooms;
@@ -36,6 +37,7 @@ pub fn make(profile: &str, seed: u64) -> Option<Frame> {
             room: None,
         },
         "rooms" => rooms::make(&mut rng),
+        "classes" if rng.chance(6) => plain(falling::make(&mut rng)),
         "groups" => plain(match rng.below(10) {
             0..=5 => braids::make(&mut rng),
             6 => soup::make(&mut rng, &style::of("knots")?),
