@@ -73,7 +73,8 @@ fn class_use(kind: u32, inst: u32, class: u32) -> Use {
 }
 
 /// A group use is turned, then the use that turned it is turned by a
-/// definition, and the same operand comes again: it merges into its own place.
+/// definition, and the same operand comes again: it merges into its own place,
+/// which is free only if the segment begins behind the conflict piece.
 fn overlap(job: &mut Job, rng: &mut Rng, at: u32, pieces: &mut Vec<Piece>) {
     let value = new_value(job, None);
     job.vgroups.push(vec![value, value]);
@@ -91,7 +92,10 @@ fn overlap(job: &mut Job, rng: &mut Rng, at: u32, pieces: &mut Vec<Piece>) {
     let index = rng.below(2);
     let again = if rng.chance(70) { index } else { 1 - index };
     let alone = rng.pick(&ALONE);
-    let mut one = piece(value, rng.below(4 * at + 3) / 4 * 4, 4 * at + 4);
+    let before = rng.below(4 * at + 3) / 4 * 4;
+    let from = rng.pick(&[before, before, 4 * at + 1, 4 * at + 2, 4 * at + 2]);
+    let last = 4 * job.inst_count() as u32;
+    let mut one = piece(value, from, rng.pick(&[4 * at + 4, last]));
     one.uses = vec![
         class_use(CLASS_USE, at, alone),
         grouped(index),
