@@ -1,7 +1,7 @@
 //! One run of the reference pass over a tested job.
 
 use std::any::Any;
-use std::cell::RefCell;
+use std::cell::{Cell, RefCell};
 use std::panic::{self, AssertUnwindSafe};
 use std::sync::Once;
 
@@ -67,14 +67,19 @@ pub struct Run {
 }
 
 thread_local! {
+    static RUNNING: Cell<bool> = const { Cell::new(false) };
     static PANIC: RefCell<(String, String)> = const { RefCell::new((String::new(), String::new())) };
 }
 
-/// Keeps the message of a panic instead of printing it.
+/// Keeps the message of a panic in the pass instead of printing it.
 fn keep_messages() {
     static KEPT: Once = Once::new();
     KEPT.call_once(|| {
-        panic::set_hook(Box::new(|info| {
+        let usual = panic::take_hook();
+        panic::set_hook(Box::new(move |info| {
+            if !RUNNING.get() {
+                return usual(info);
+            }
             let text = info.payload_as_str().unwrap_or("").to_string();
             let place = info.location().map_or(String::new(), |place| {
                 let file = place.file().rsplit("src/").next().unwrap_or("");
@@ -98,6 +103,7 @@ pub fn run(job: &Job, halt_after: Option<(usize, Placed)>) -> Run {
     placement.prepare(&tables);
     let mut regs = VirtRegs::new();
     watch::begin(halt_after);
+    RUNNING.set(true);
     let caught = panic::catch_unwind(AssertUnwindSafe(|| {
         regs.build_initial_vregs(
             &tables,
@@ -113,6 +119,7 @@ pub fn run(job: &Job, halt_after: Option<(usize, Placed)>) -> Run {
             &options(job),
         );
     }));
+    RUNNING.set(false);
     let log = watch::end();
     let end = caught.map_or_else(|thrown| end_of(&*thrown), |()| End::Done);
     Run {

@@ -64,10 +64,9 @@ fn break_book(job: &mut Job, rng: &mut Rng) {
 /// Gives a class of groups a subclass of another size.
 fn mixed_sizes(job: &mut Job, rng: &mut Rng, class: usize) {
     job.classes[class].size = rng.within((2, 8));
-    let other = job
-        .classes
-        .iter()
-        .position(|sub| sub.size != job.classes[class].size);
+    let size = job.classes[class].size;
+    let mut known = job.classes.iter().take(32);
+    let other = known.position(|sub| sub.size != size);
     match other {
         Some(sub) => job.classes[class].mask |= 1 << sub,
         None => job.classes[class].size = 0,
@@ -121,7 +120,8 @@ fn break_operands(job: &mut Job, rng: &mut Rng) {
         2 => operand.vgroup = unknown(rng, job.vgroups.len()),
         3 => operand.class = unknown(rng, job.classes.len()),
         4 => {
-            let size = job.vgroups[operand.vgroup as usize].len() as u32;
+            let members = job.vgroups.get(operand.vgroup as usize);
+            let size = members.map_or(0, |members| members.len() as u32);
             let other = job.classes.iter().position(|class| class.size != size);
             operand.class = other.unwrap_or(job.classes.len()) as u32;
         }
