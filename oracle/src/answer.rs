@@ -41,7 +41,7 @@ pub struct Answer {
 }
 
 impl Answer {
-    fn refused(number: u8, cause: Option<String>) -> Self {
+    pub fn refused(number: u8, cause: Option<String>) -> Self {
         Self {
             text: format!("refused\t{number}\n"),
             number: Some(number),

@@ -2,13 +2,17 @@
 
 mod model;
 
+use std::env;
+
 use oracle::answer::{Room, answer_job, tested};
 use oracle::make::make;
 
-/// Compares `count` sheets of a profile; answers with how many had a result.
+/// Compares `count` sheets of a profile, or PAPER_TIMES as many; answers with
+/// how many had a result.
 fn compare(profile: &str, count: u64) -> usize {
+    let times = env::var("PAPER_TIMES").map_or(1, |times| times.parse().unwrap());
     let mut accepted = 0;
-    for seed in 1_000_000..1_000_000 + count {
+    for seed in 1_000_000..1_000_000 + count * times {
         let frame = make(profile, seed).unwrap();
         let Ok(job) = tested(&frame.bytes) else {
             continue;

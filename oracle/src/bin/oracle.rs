@@ -2,14 +2,14 @@
 //! `oracle --many [--room r,s,u,g] FILE...`: one answer frame for each file.
 //! `oracle --stream [--room r,s,u,g]`: frames on standard input, answer frames out.
 //! `oracle --cut AFTER BEFORE early|late`: the cut finder over the sheet's blocks.
+//! `oracle --untested`: the pass on a sheet that only test 1 was put to.
 
 use std::io::{self, BufWriter, Read, Write};
 use std::process::exit;
 use std::{env, fs};
 
-use oracle::answer::{Answer, Room, answer, tested};
-use oracle::cut;
-use oracle::frames;
+use oracle::answer::{Answer, Room, answer, answer_job, tested};
+use oracle::{cut, frames, sheet};
 
 fn main() {
     let mut args: Vec<String> = env::args().skip(1).collect();
@@ -20,6 +20,7 @@ fn main() {
         ["--many", ref files @ ..] => many(files, room),
         ["--stream"] => stream(room),
         ["--cut", after, before, side] => cut_of(after, before, side),
+        ["--untested"] => untested(room),
         _ => usage(),
     };
     if let Err(error) = done {
@@ -29,9 +30,11 @@ fn main() {
 }
 
 fn usage() -> ! {
-    eprintln!(
-        "usage: oracle [--room r,s,u,g] [--many FILE... | --stream | --cut AFTER BEFORE early|late]"
-    );
+    eprintln!("usage: oracle [--room r,s,u,g]");
+    eprintln!("       oracle [--room r,s,u,g] --many FILE...");
+    eprintln!("       oracle [--room r,s,u,g] --stream");
+    eprintln!("       oracle --cut AFTER BEFORE early|late");
+    eprintln!("       oracle --untested");
     exit(2)
 }
 
@@ -53,7 +56,17 @@ fn whole_input() -> io::Result<Vec<u8>> {
 }
 
 fn one(room: Room) -> io::Result<()> {
-    let found = answer(&whole_input()?, room);
+    show(&answer(&whole_input()?, room))
+}
+
+fn untested(room: Room) -> io::Result<()> {
+    match sheet::read(&whole_input()?) {
+        Some(job) => show(&answer_job(&job, room)),
+        None => show(&Answer::refused(1, None)),
+    }
+}
+
+fn show(found: &Answer) -> io::Result<()> {
     if let Some(cause) = &found.cause {
         eprintln!("{cause}");
     }
