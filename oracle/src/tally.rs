@@ -7,6 +7,7 @@ use crate::frames::Frame;
 use crate::job::{BLOCKPARAM_IN, Job};
 use crate::print;
 use crate::run::{End, Run, run};
+use reference::internal::live_range::ValueSegment;
 use reference::internal::uses::UseKind;
 use reference::watch::Placed;
 
@@ -87,20 +88,26 @@ impl Tally {
                 .filter(|&reg| regs[reg].has_fixed_hint)
                 .count(),
         );
+        let is_added = |piece: &&ValueSegment| print::is_added(whole, piece, job.uses.len());
         let pieces = regs.virt_regs().flat_map(|reg| regs.segments(reg));
-        let added = pieces.filter(|piece| print::is_added(whole, piece, job.uses.len()));
-        let added: Vec<_> = added.collect();
-        let falls = added.windows(2).filter(|pair| {
-            pair[0].value == pair[1].value && pair[0].live_range.from > pair[1].live_range.from
-        });
-        self.see("conflicts fall in instruction", falls.count());
-        let led = added.iter().filter(|piece| {
-            matches!(
-                whole.uses[piece.use_list][0].kind,
-                UseKind::BlockparamIn { .. }
-            )
+        let led = pieces.filter(is_added).filter(|piece| {
+            let first = whole.uses[piece.use_list][0].kind;
+            matches!(first, UseKind::BlockparamIn { .. })
         });
         self.see("block parameter before a conflict", led.count());
+        let lone = regs.virt_regs().map(|reg| regs.segments(reg));
+        let lone: Vec<_> = lone
+            .filter(|pieces| pieces.len() == 1 && is_added(&&pieces[0]))
+            .map(|pieces| {
+                (
+                    set_of(job, pieces[0].value.index()),
+                    pieces[0].live_range.from,
+                )
+            })
+            .collect();
+        let falls = lone.windows(2);
+        let falls = falls.filter(|pair| pair[0].0 == pair[1].0 && pair[0].1 > pair[1].1);
+        self.see("conflicts fall in instruction", falls.count());
         let hinted = job.segs.iter().filter(|seg| seg.flags & 4 != 0).count();
         if whole.log.conflicts > whole.log.turns {
             self.see("cut job with hinted segments", hinted);
@@ -129,9 +136,13 @@ fn is_transitive(job: &Job) -> bool {
     })
 }
 
+fn set_of(job: &Job, value: usize) -> u32 {
+    job.values[value].leader
+}
+
 /// Neighbouring segments of one set that differ in value.
 fn mixed_sets(job: &Job) -> usize {
-    let set = |value: u32| job.values[value as usize].leader;
+    let set = |value: u32| set_of(job, value as usize);
     let differ = |pair: &&[crate::job::Seg]| {
         pair[0].value != pair[1].value && set(pair[0].value) == set(pair[1].value)
     };
