@@ -147,9 +147,8 @@ fn living(job: &Job, pieces: &[Piece], inst: u32, size: u32) -> Vec<u32> {
     let mut leaders: Vec<u32> = job.values.iter().map(|value| value.leader).collect();
     leaders.dedup();
     let of = |leader: u32| {
-        let set = values.iter().copied();
-        set.filter(|&value| job.values[value as usize].leader == leader)
-            .next()
+        let mut living = values.iter().copied();
+        living.find(|&value| job.values[value as usize].leader == leader)
     };
     let members = leaders.iter().map(|&leader| of(leader).unwrap_or(leader));
     members.take(size as usize).collect()

@@ -11,6 +11,7 @@ mod rooms;
 mod soup;
 mod stops;
 mod style;
+mod tiny;
 mod write;
 
 use crate::frames::Frame;
@@ -37,6 +38,7 @@ pub fn make(profile: &str, seed: u64) -> Option<Frame> {
             room: None,
         },
         "rooms" => rooms::make(&mut rng),
+        "small" if seed.is_multiple_of(2) => plain(tiny::mixed(seed / 2)),
         "classes" if rng.chance(6) => plain(falling::make(&mut rng)),
         "groups" => plain(match rng.below(10) {
             0..=5 => braids::make(&mut rng),
