@@ -2,8 +2,8 @@
 //! makes the groups, the others join and, where they are cut, merge.
 
 use super::book;
+use super::pieces::{self, Piece};
 use super::rng::Rng;
-use super::soup::{self, Piece};
 use super::style::Floats;
 use crate::job::{
     BLOCKPARAM_IN, Block, CLASS_USE, Class, GROUP_DEF, GROUP_USE, Job, Operand, Use, Value,
@@ -28,7 +28,7 @@ pub fn make(rng: &mut Rng) -> Job {
     for piece in &mut pieces {
         plain_uses(rng, insts, piece);
     }
-    soup::put(&mut job, rng, pieces);
+    pieces::put(&mut job, rng, pieces);
     job
 }
 
@@ -130,7 +130,7 @@ fn knots(job: &mut Job, rng: &mut Rng, size: u32, insts: u32, pieces: &mut [Piec
         for (index, &value) in members.iter().enumerate() {
             if rng.chance(95) {
                 let fields = [slot, class, index as u32, 0];
-                soup::add(&mut pieces[value as usize], Use { kind, inst, fields });
+                pieces::add(&mut pieces[value as usize], Use { kind, inst, fields });
             }
         }
     }
@@ -168,7 +168,7 @@ fn plain_uses(rng: &mut Rng, insts: u32, piece: &mut Piece) {
         };
         let fields = [9, rng.within(SINGLES), 0, 0];
         if piece.from < 4 * inst + 4 {
-            soup::add(
+            pieces::add(
                 piece,
                 Use {
                     kind: CLASS_USE,
@@ -181,7 +181,7 @@ fn plain_uses(rng: &mut Rng, insts: u32, piece: &mut Piece) {
     if rng.chance(25) {
         let inst = piece.from / 4;
         let fields = [rng.below(3), 0, 0, 0];
-        soup::add(
+        pieces::add(
             piece,
             Use {
                 kind: BLOCKPARAM_IN,
@@ -190,5 +190,5 @@ fn plain_uses(rng: &mut Rng, insts: u32, piece: &mut Piece) {
             },
         );
     }
-    soup::shuffle(rng, &mut piece.uses);
+    pieces::shuffle(rng, &mut piece.uses);
 }

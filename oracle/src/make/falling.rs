@@ -2,8 +2,8 @@
 //! instruction holds, and no longer once a cut has parted them from it.
 
 use super::book;
+use super::pieces::{self, Piece};
 use super::rng::Rng;
-use super::soup::{self, Piece};
 use super::style::Floats;
 use crate::job::{BLOCKPARAM_IN, Block, CLASS_USE, Class, Job, Use, Value};
 
@@ -41,7 +41,7 @@ pub fn make(rng: &mut Rng) -> Job {
         remat: 0,
     });
     let piece = piece(&job, rng);
-    soup::put(&mut job, rng, vec![piece]);
+    pieces::put(&mut job, rng, vec![piece]);
     job
 }
 

@@ -6,6 +6,7 @@ mod breaks;
 mod damage;
 mod falling;
 mod limits;
+mod pieces;
 mod rng;
 mod rooms;
 mod soup;

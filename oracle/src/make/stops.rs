@@ -1,8 +1,8 @@
 //! The two stops that chance seldom meets, and jobs that just miss them.
 
 use super::book;
+use super::pieces::{self, Piece};
 use super::rng::Rng;
-use super::soup::{self, Piece};
 use super::style::Floats;
 use crate::job::{Block, CLASS_DEF, CLASS_USE, Class, GROUP_USE, Job, Operand, Use, Value};
 
@@ -40,7 +40,7 @@ pub fn make(rng: &mut Rng) -> Job {
     } else {
         values_differ(&mut job, rng, at, &mut pieces);
     }
-    soup::put(&mut job, rng, pieces);
+    pieces::put(&mut job, rng, pieces);
     job
 }
 

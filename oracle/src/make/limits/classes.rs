@@ -2,8 +2,8 @@
 
 use super::{blocks, class_use, leaves, piece, value};
 use crate::job::{BLOCKPARAM_IN, Block, Job, Use};
+use crate::make::pieces::{self, Piece};
 use crate::make::rng::Rng;
-use crate::make::soup::{self, Piece};
 
 /// 4,096 instructions with a use each, every one in another class than the
 /// one before: as many registers as the room holds, or one more.
@@ -22,7 +22,7 @@ pub fn deep_cuts(rng: &mut Rng) -> Job {
     if rng.chance(50) {
         pieces.push(piece(1, 0, 4));
     }
-    soup::put(&mut job, rng, pieces);
+    pieces::put(&mut job, rng, pieces);
     job
 }
 
@@ -48,7 +48,7 @@ pub fn deep_turns(rng: &mut Rng) -> Job {
         long.uses
             .push(class_use(inst, number % 65_536, 1 + number % classes));
     }
-    soup::put(&mut job, rng, vec![long]);
+    pieces::put(&mut job, rng, vec![long]);
     job
 }
 
@@ -76,7 +76,7 @@ pub fn full_uses(rng: &mut Rng) -> Job {
         }
         pieces.push(one);
     }
-    soup::put(&mut job, rng, pieces);
+    pieces::put(&mut job, rng, pieces);
     job
 }
 
@@ -99,7 +99,7 @@ pub fn full_segs(rng: &mut Rng) -> Job {
         pieces.push(one);
         inst = next;
     }
-    soup::put(&mut job, rng, pieces);
+    pieces::put(&mut job, rng, pieces);
     job
 }
 
@@ -125,6 +125,6 @@ pub fn many_blocks(rng: &mut Rng) -> Job {
         long.uses.push(class_use(inst, 0, 1 + rng.below(2)));
         inst += 1 + rng.below(300);
     }
-    soup::put(&mut job, rng, vec![long]);
+    pieces::put(&mut job, rng, vec![long]);
     job
 }

@@ -2,8 +2,8 @@
 
 use super::{blocks, class_use, leaves, piece, value};
 use crate::job::{GROUP_USE, Job, Operand, Use};
+use crate::make::pieces::{self, Piece};
 use crate::make::rng::Rng;
-use crate::make::soup::{self, Piece};
 
 /// 256 groups of eight values and 1,024 operands. With a value of its own
 /// class for each group the group table may overflow.
@@ -48,7 +48,7 @@ pub fn many_groups(rng: &mut Rng) -> Job {
             }
         }
     }
-    soup::put(&mut job, rng, pieces);
+    pieces::put(&mut job, rng, pieces);
     job
 }
 
@@ -81,6 +81,6 @@ pub fn long_merge(rng: &mut Rng) -> Job {
         }
         pieces[1].uses.push(class_use(inst + 1, 0, 2));
     }
-    soup::put(&mut job, rng, pieces);
+    pieces::put(&mut job, rng, pieces);
     job
 }

@@ -5,8 +5,8 @@ mod classes;
 mod groups;
 mod tables;
 
+use super::pieces::Piece;
 use super::rng::Rng;
-use super::soup::Piece;
 use super::write::sheet_of;
 use crate::frames::Frame;
 use crate::job::{Block, CLASS_USE, Class, Job, Use, Value};

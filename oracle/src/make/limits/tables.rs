@@ -2,8 +2,8 @@
 
 use super::{blocks, class_use, leaves, piece, value};
 use crate::job::{Class, Hint, Job, Use, Value};
+use crate::make::pieces;
 use crate::make::rng::Rng;
-use crate::make::soup;
 
 /// 1,024 values, each its own set with four uses.
 pub fn many_sets(rng: &mut Rng) -> Job {
@@ -20,7 +20,7 @@ pub fn many_sets(rng: &mut Rng) -> Job {
         }
         pieces.push(one);
     }
-    soup::put(&mut job, rng, pieces);
+    pieces::put(&mut job, rng, pieces);
     job
 }
 
@@ -41,7 +41,7 @@ pub fn many_segs(rng: &mut Rng) -> Job {
         one.uses.push(class_use(2 * number + 1, 0, rng.below(3)));
         pieces.push(one);
     }
-    soup::put(&mut job, rng, pieces);
+    pieces::put(&mut job, rng, pieces);
     job
 }
 
@@ -73,7 +73,7 @@ pub fn many_hints(rng: &mut Rng) -> Job {
         }
         pieces.push(one);
     }
-    soup::put(&mut job, rng, pieces);
+    pieces::put(&mut job, rng, pieces);
     job
 }
 
@@ -117,6 +117,6 @@ pub fn wide_book(rng: &mut Rng) -> Job {
         }
         pieces.push(one);
     }
-    soup::put(&mut job, rng, pieces);
+    pieces::put(&mut job, rng, pieces);
     job
 }
