@@ -54,6 +54,7 @@ fn main() {
     let src = supplied();
     let builder = src.join("internal/virt_regs/builder.rs");
     println!("cargo::rerun-if-changed={}", builder.display());
+    println!("cargo::rustc-env=VIRT_REGS_BUILDER={}", builder.display());
     let text = format!(
         "pub mod entity {{\npub use crate::stand_ins::entity::*;\n\
          pub use self::compact_list::{{CompactList, CompactListPool}};\n\

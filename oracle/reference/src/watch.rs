@@ -191,3 +191,21 @@ impl Log {
         here && self.placed.len() == index + 1
     }
 }
+
+#[cfg(test)]
+mod tests {
+    use super::KNOWN;
+
+    const BUILDER: &str = include_str!(env!("VIRT_REGS_BUILDER"));
+
+    #[test]
+    fn each_known_text_stands_once_in_the_builder() {
+        for (text, _) in KNOWN {
+            let traced = BUILDER.matches(&format!("trace!(\"{text}\"")).count();
+            let counted = BUILDER
+                .matches(&format!("stat!(self.stats, {text})"))
+                .count();
+            assert_eq!(traced + counted, 1, "{text}");
+        }
+    }
+}
