@@ -1,5 +1,8 @@
 //! The job's tables, answering the questions the pass puts.
 
+use std::collections::BTreeMap;
+use std::ops::Range;
+
 use reference::function::{
     self as f, Block, Function, IndirectRemat, Inst, InstRange, OperandConstraint, OperandKind,
     RematCost, TerminatorKind, Value, ValueGroup,
@@ -9,14 +12,14 @@ use reference::reginfo::{
     SpillSlotSize,
 };
 
-use crate::job::Job;
+use crate::job::{Job, Operand};
 
 pub struct Tables<'a> {
     job: &'a Job,
     /// The first instruction of each block, then the instruction count.
     starts: Vec<u32>,
     block_of: Vec<u32>,
-    operands: Vec<Vec<f::Operand>>,
+    operands: Operands,
     vgroups: Vec<Vec<Value>>,
 }
 
@@ -32,7 +35,7 @@ impl<'a> Tables<'a> {
         let values = |group: &Vec<u32>| group.iter().map(|&v| Value::new(v as usize)).collect();
         Self {
             job,
-            operands: operands(job, block_of.len()),
+            operands: Operands::new(job, block_of.len()),
             starts,
             block_of,
             vgroups: vgroups.map(values).collect(),
@@ -40,22 +43,49 @@ impl<'a> Tables<'a> {
     }
 }
 
-/// Operands by instruction and slot, unasked ones between them.
-fn operands(job: &Job, insts: usize) -> Vec<Vec<f::Operand>> {
-    let mut table = vec![Vec::new(); insts];
-    let filler = f::Operand::fixed_nonallocatable(PhysReg::new(0));
-    for operand in &job.operands {
-        let row = &mut table[operand.inst as usize];
-        let slot = operand.slot as usize;
-        if row.len() <= slot {
-            row.resize(slot + 1, filler);
+/// Each instruction's row of operands. Slots go far up and operands are few,
+/// so the rows overlap in one list; only an operand's own place is ever read.
+struct Operands {
+    list: Vec<f::Operand>,
+    rows: Vec<Range<usize>>,
+}
+
+impl Operands {
+    fn new(job: &Job, insts: usize) -> Self {
+        let mut all = Self {
+            list: Vec::new(),
+            rows: vec![0..0; insts],
+        };
+        let mut by_inst: BTreeMap<u32, Vec<&Operand>> = BTreeMap::new();
+        for operand in &job.operands {
+            by_inst.entry(operand.inst).or_default().push(operand);
         }
-        row[slot] = f::Operand::new(
-            OperandKind::UseGroup(ValueGroup::new(operand.vgroup as usize)),
-            OperandConstraint::Class(RegClass::new(operand.class as usize)),
-        );
+        for (inst, row) in by_inst {
+            all.rows[inst as usize] = all.add(&row);
+        }
+        all
     }
-    table
+
+    /// Lays a row where all of its places are free.
+    fn add(&mut self, row: &[&Operand]) -> Range<usize> {
+        let filler = f::Operand::fixed_nonallocatable(PhysReg::new(0));
+        let place = |start: usize, operand: &Operand| start + operand.slot as usize;
+        let free = |start: usize| {
+            let mut taken = row.iter().filter_map(|op| self.list.get(place(start, op)));
+            taken.all(|&there| there == filler)
+        };
+        let start = (0..).find(|&start| free(start)).unwrap();
+        let length = 1 + row.iter().map(|op| op.slot as usize).max().unwrap();
+        let end = start + length;
+        self.list.resize(self.list.len().max(end), filler);
+        for operand in row {
+            self.list[place(start, operand)] = f::Operand::new(
+                OperandKind::UseGroup(ValueGroup::new(operand.vgroup as usize)),
+                OperandConstraint::Class(RegClass::new(operand.class as usize)),
+            );
+        }
+        start..end
+    }
 }
 
 /// The questions of `Function` that nothing here ever puts.
@@ -122,7 +152,7 @@ impl Function for Tables<'_> {
     }
 
     fn inst_operands(&self, inst: Inst) -> &[f::Operand] {
-        &self.operands[inst.index()]
+        &self.operands.list[self.operands.rows[inst.index()].clone()]
     }
 
     fn num_values(&self) -> usize {
