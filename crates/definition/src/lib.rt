@@ -33,15 +33,40 @@ pub enum Slot {
 
 // What a use asks of its value's register, in UseKind's order.
 pub enum UseKind {
-    FixedDef { reg: PhysReg },
-    FixedUse { reg: PhysReg },
-    TiedUse { use_slot: u16, def_slot: u16, class: RegClass, group_index: u8 },
+    FixedDef {
+        reg: PhysReg,
+    },
+    FixedUse {
+        reg: PhysReg,
+    },
+    TiedUse {
+        use_slot: u16,
+        def_slot: u16,
+        class: RegClass,
+        group_index: u8,
+    },
     ConstraintConflict,
-    ClassUse { slot: u16, class: RegClass },
-    ClassDef { slot: u16, class: RegClass },
-    GroupClassUse { slot: u16, class: RegClass, group_index: u8 },
-    GroupClassDef { slot: u16, class: RegClass, group_index: u8 },
-    BlockparamIn { blockparam_idx: u32 },
+    ClassUse {
+        slot: u16,
+        class: RegClass,
+    },
+    ClassDef {
+        slot: u16,
+        class: RegClass,
+    },
+    GroupClassUse {
+        slot: u16,
+        class: RegClass,
+        group_index: u8,
+    },
+    GroupClassDef {
+        slot: u16,
+        class: RegClass,
+        group_index: u8,
+    },
+    BlockparamIn {
+        blockparam_idx: u32,
+    },
     BlockparamOut,
 }
 

@@ -1,6 +1,7 @@
 // The cost of a use and the spill weight of a register, in f32.
-use definition::{UseKind, Options, Remat};
-
+use definition::Options;
+use definition::Remat;
+use definition::UseKind;
 ghost use mathlib.Core.Path.{_≡_};
 ghost use Prim.Native.Nat.{ℕ, _≤_};
 ghost use lib.Dec.{T};
@@ -56,11 +57,7 @@ pub fn add_cost(sum: f32, cost: f32, freq: f32) -> f32
     requires { ⌜ T (nonneg sum) × T (plain cost) × T (plain freq) ⌝ }
     ensures { λ r. ⌜ (r ≡ addCost sum cost freq) × T (nonneg r) ⌝ }
 {
-    if cost == 0.0 {
-        sum
-    } else {
-        sum + cost * freq
-    }
+    if cost == 0.0 { sum } else { sum + cost * freq }
 }
 
 // The sum over instructions and k, at most `MAX`.
