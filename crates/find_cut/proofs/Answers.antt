@@ -20,6 +20,7 @@ use Rattle.definition.specs.SplitPlacement.{earlyCut, lateCut}
 use Rattle.rows.specs.Parts.{splice}
 use Rattle.rows.specs.RowsAt.{length-rows-at}
 use Rattle.words.specs.Words.{wordsOf}
+use Rattle.function.specs.Bools.{both, not-l, not-r}
 use Rattle.function.specs.Blocks.{blockRow, blocksAt, startWords, Starts}
 use Rattle.block_starts.proofs.Made.{starts-made}
 use Rattle.find_cut.specs.declared.Cut.{Cut}
@@ -50,18 +51,6 @@ module _ (W T T′ : List ℕ) (n a b r : ℕ) (e : T′ ≡ splice T 0 (startWo
 
 -- ---- readable or not
 
-not-l : (p q : Bool) → p ≡ false → p && q ≡ false
-not-l true q e = absurd (let z : _≡_ {A = ℕ} 0 1 = cc in omega arith)
-not-l false q e = refl
-
-not-r : (p q : Bool) → q ≡ false → p && q ≡ false
-not-r true q e = e
-not-r false q e = refl
-
-both : (p q : Bool) → p ≡ true → q ≡ true → p && q ≡ true
-both true q e f = f
-both false q e f = e
-
 module _ (s : List ℕ) (side : ℕ) where
   no-side : 1 < side → readable s side ≡ false
   no-side h = not-l (leb side 1) (eqb (length s % 8) 0 && ltb 0 (length s)) (lt-leb side 1 h)
@@ -77,10 +66,10 @@ module _ (s : List ℕ) (side : ℕ) where
 
 -- ---- the answer
 
-abbrev answered : ℕ → ℕ → Cut
+abbrev pub answered : ℕ → ℕ → Cut
 answered k i = record { number = k; inst = i }
 
-numbered : (r : Refusal) → 0 ≡ numberOf r → ⊥
+pub numbered : (r : Refusal) → 0 ≡ numberOf r → ⊥
 numbered NotARecord e = omega arith
 numbered OverALimit e = omega arith
 numbered BadBook e = omega arith
@@ -102,11 +91,11 @@ by-cut none c bs a b side e h = ap (λ (x : ℕ). answered 0 x) h
 by-cut (some r) c bs a b side e h = absurd (numbered r e)
 
 module _ (s : List ℕ) (a b side : ℕ) where
-  unread : readable s side ≡ false → answered 1 0 ≡ cutAnswer s a b side
+  pub unread : readable s side ≡ false → answered 1 0 ≡ cutAnswer s a b side
   unfolding cutAnswer cutOut cutOf
   unread e = rw e
 
-  opened : readable s side ≡ true → cutAnswer s a b side ≡ cutOf (cutTo (lowestOf (cutTests (blocksIn s) (inst a) (inst b))) (blocksIn s) (inst a) (inst b) (sideNamed side))
+  pub opened : readable s side ≡ true → cutAnswer s a b side ≡ cutOf (cutTo (lowestOf (cutTests (blocksIn s) (inst a) (inst b))) (blocksIn s) (inst a) (inst b) (sideNamed side))
   unfolding cutAnswer cutOut findCut
   opened e = rw e
 

@@ -11,11 +11,9 @@ use Rattle.definition.specs.declared.Refusal.the-variants.{OverALimit, BadFunct
 use Rattle.definition.specs.Entry.{instsOf, every, blockOk, lowestOf}
 use Rattle.rows.specs.RowsAt.{length-rows-at}
 use Rattle.words.specs.Words.{wordsOf}
+use Rattle.function.specs.Bools.{clash, and-l, and-r, both, not-l, not-r}
 use Rattle.function.specs.Blocks.{blockRow}
 use Rattle.find_cut.specs.Answer.{blocksIn, numberAt, testNumber}
-
-clash : {A : Type 0} → true ≡ false → A
-clash e = absurd (let z : _≡_ {A = ℕ} 0 1 = cc in omega arith)
 
 -- ---- both tests by their outcomes
 
@@ -44,28 +42,6 @@ unfolding number numberAt lowestOf
 was-fine false y e = absurd (omega arith)
 was-fine true false e = absurd (omega arith)
 was-fine true true e = (refl, refl)
-
--- ---- conjunctions
-
-both : (p q : Bool) → p ≡ true → q ≡ true → p && q ≡ true
-both true q e f = f
-both false q e f = e
-
-not-l : (p q : Bool) → p ≡ false → p && q ≡ false
-not-l true q e = clash e
-not-l false q e = refl
-
-not-r : (p q : Bool) → q ≡ false → p && q ≡ false
-not-r true q e = e
-not-r false q e = refl
-
-and-l : (p q : Bool) → p && q ≡ true → p ≡ true
-and-l true q e = refl
-and-l false q e = e
-
-and-r : (p q : Bool) → p && q ≡ true → q ≡ true
-and-r true q e = e
-and-r false q e = clash (sym e)
 
 -- ---- the code's ways
 

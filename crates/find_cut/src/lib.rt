@@ -30,21 +30,21 @@ fn tested(blocks: &[u8], after: u32, before: u32) -> u32
     ensures { λ r. ⌜ r ≡ testNumber (now (blocks .entry)) after before ⌝ }
 {
     if 512 < blocks.len() / 8 {
-        return 2;
+        return 2; // too many blocks
     }
     let n = (blocks.len() / 8) as u32;
     let total = function::count_insts(blocks, 0, n);
     if 4096 < total {
-        return 2;
+        return 2; // too many instructions
     }
     if !function::blocks_ok(blocks, 0, n) {
-        return 4;
+        return 4; // a block empty or of bad frequency
     }
     if before <= after {
-        return 4;
+        return 4; // ends not in order
     }
     if total <= before as u64 {
-        return 4;
+        return 4; // past the last instruction
     }
     0
 }

@@ -3,16 +3,17 @@ use Prim.Native.Nat.{ℕ, zero, suc, _+_, _-_, _*_, _≤_, _<_}
 use native.Mathlib.Omega.{arith}
 use native.Mathlib.Nat.{add-sub-cancel-left}
 use mathlib.Core.Path.{_≡_, refl, sym, ap, _∙_}
-use mathlib.Core.Bool.{Bool, true, false}
+use mathlib.Core.Bool.{Bool, true, false, _&&_}
 use mathlib.Core.List.{List, [], _∷_, _++_}
-use lib.Dec.{ltb}
+use lib.Dec.{leb, ltb}
 use lib.ListN.{length, getD}
 use lib.Ieee.{Float}
-use borrow.Author.Tests.{lt-ltb, le-ltb, ltb-true, ltb-false}
+use borrow.Author.Tests.{lt-ltb, le-ltb, le-leb, ltb-true, ltb-false, leb-true}
 use Rattle.definition.specs.declared.BlockData.{BlockData}
 use Rattle.definition.specs.Place.{total}
-use Rattle.definition.specs.Entry.{instsOf}
+use Rattle.definition.specs.Entry.{instsOf, blockOk, every, plain}
 use Rattle.definition.specs.SplitPlacement.{freqAt}
+use Rattle.function.specs.Bools.{and-l, and-r, both}
 use Rattle.function.specs.Blocks.{startOf, blockOf, blockAt, noBlock, Starts}
 
 -- the next block begins behind this one's instructions
@@ -34,6 +35,32 @@ start-mono bs zero k h l = omega arith
 start-mono [] (suc j) k h l = absurd (omega arith)
 start-mono (b ∷ bs) (suc j) zero h l = absurd (omega arith)
 start-mono (b ∷ bs) (suc j) (suc k) h l = let r = start-mono bs j k (omega arith) (omega arith) in omega arith
+
+-- ---- blocks that pass their test
+
+pub block-filled : (b : BlockData) → blockOk b ≡ true → 1 ≤ b .insts
+unfolding blockOk
+block-filled b e = leb-true 1 (b .insts) (and-l (leb 1 (b .insts)) (plain (b .frequency)) e)
+
+pub block-plain : (b : BlockData) → blockOk b ≡ true → plain (b .frequency) ≡ true
+unfolding blockOk
+block-plain b e = and-r (leb 1 (b .insts)) (plain (b .frequency)) e
+
+pub block-passes : (b : BlockData) → 1 ≤ b .insts → plain (b .frequency) ≡ true → blockOk b ≡ true
+unfolding blockOk
+block-passes b h e = both (leb 1 (b .insts)) (plain (b .frequency)) (le-leb 1 (b .insts) h) e
+
+-- all pass exactly if each does
+pub each-passes : (bs : List BlockData) (j : ℕ) → every blockOk bs ≡ true → j < length bs → blockOk (blockAt bs j) ≡ true
+unfolding every blockAt
+each-passes [] j e h = absurd (omega arith)
+each-passes (b ∷ bs) zero e h = and-l (blockOk b) (every blockOk bs) e
+each-passes (b ∷ bs) (suc j) e h = each-passes bs j (and-r (blockOk b) (every blockOk bs) e) (omega arith)
+
+pub all-pass : (bs : List BlockData) → ((j : ℕ) → j < length bs → blockOk (blockAt bs j) ≡ true) → every blockOk bs ≡ true
+unfolding every blockAt
+all-pass [] f = refl
+all-pass (b ∷ bs) f = both (blockOk b) (every blockOk bs) (f 0 (omega arith)) (all-pass bs (λ j h. f (suc j) (omega arith)))
 
 -- ---- the block of an instruction
 

@@ -9,9 +9,7 @@ use lib.Ieee.{Float, nan, inf, fin, lt}
 use lib.Ieee.Positive.{num, den, den-pos, through}
 use borrow.Author.Tests.{ltb-true, ltb-false, lt-ltb, le-ltb}
 use Rattle.definition.specs.Entry.{plain}
-
-clash : {A : Type 0} → true ≡ false → A
-clash e = absurd (let z : _≡_ {A = ℕ} 0 1 = cc in omega arith)
+use Rattle.function.specs.Bools.{clash}
 
 no-clash : {A : Type 0} → false ≡ true → A
 no-clash e = clash (sym e)

@@ -13,7 +13,9 @@ use Rattle.definition.specs.declared.BlockData.{BlockData}
 use Rattle.definition.specs.RegInfo.{zeroF}
 use Rattle.definition.specs.Entry.{plain, every, blockOk}
 use Rattle.definition.specs.SplitPlacement.{freqAt, starts, ends, keep, earliest, latest, lateFrom, earlyCut, lateCut}
+use Rattle.function.specs.Bools.{and-l, and-r, both}
 use Rattle.function.specs.Blocks.{startOf}
+use Rattle.function.specs.BlockLaws.{block-plain}
 use Rattle.split_placement.specs.Places.{IsStart, IsEnd, EarlyPlace, next, start, LatePlace, last, end, EarliestLeast, LatestLeast}
 use Rattle.split_placement.proofs.Folds.{In, Rising, earliest-least, late-from}
 
@@ -49,18 +51,6 @@ same-latest : (P Q : ℕ → Type 0) (price : ℕ → Float) (c : ℕ) → ((p :
 same-latest P Q price c f g e = record { place = f c (e .place); least = λ p q. e .least p (g p q); latest = λ p q. e .latest p (g p q) }
 
 -- ---- every frequency is finite and not negative
-
-and-l : (p q : Bool) → p && q ≡ true → p ≡ true
-and-l true q e = refl
-and-l false q e = e
-
-and-r : (p q : Bool) → p && q ≡ true → q ≡ true
-and-r true q e = e
-and-r false q e = absurd (let z : _≡_ {A = ℕ} 0 1 = cc in omega arith)
-
-block-plain : (b : BlockData) → blockOk b ≡ true → plain (b .frequency) ≡ true
-unfolding blockOk
-block-plain b e = and-r (leb 1 (b .insts)) (plain (b .frequency)) e
 
 pub frequency-plain : (bs : List BlockData) → every blockOk bs ≡ true → (i : ℕ) → plain (freqAt bs i) ≡ true
 unfolding every freqAt
@@ -157,14 +147,7 @@ ends-rise i (b ∷ bs) = ((λ x m. omega (arith, in-ends (i + b .insts) bs x m .
 
 -- ---- early
 
-and-i : (p q : Bool) → p ≡ true → q ≡ true → p && q ≡ true
-and-i true q e f = f
-and-i false q e f = e
-
 module _ (bs : List BlockData) (after before : ℕ) where
-  open-early : ℕ → Bool
-  open-early i = ltb (suc after) i && leb i before
-
   early-list : List ℕ
   early-list = keep (λ i. ltb (suc after) i && leb i before) (starts 0 bs)
 
@@ -183,7 +166,7 @@ module _ (bs : List BlockData) (after before : ℕ) where
   from-early p (next e) = inl e
   from-early p (start s h l) =
       inr (keeps (λ i. ltb (suc after) i && leb i before) (starts 0 bs) p (starts-in 0 bs p (s .block) (s .there) (omega (arith, s .is)))
-      (and-i (ltb (suc after) p) (leb p before) (lt-ltb (suc after) p h) (le-leb p before l)))
+      (both (ltb (suc after) p) (leb p before) (lt-ltb (suc after) p h) (le-leb p before l)))
 
   early-rises : Rising (suc after ∷ early-list)
   unfolding early-list
@@ -255,7 +238,7 @@ module _ (bs : List BlockData) (after before : ℕ) where
   from-late p (end s h l) =
       ahead-in late-list before p
       (keeps (λ i. ltb after i && leb i before) (ends 0 bs) p (ends-in 0 bs p (s .block) (s .there) (omega (arith, s .is)))
-      (and-i (ltb after p) (leb p before) (lt-ltb after p h) (le-leb p before l)))
+      (both (ltb after p) (leb p before) (lt-ltb after p h) (le-leb p before l)))
 
   late-rises : Rising (late-list ++ (before ∷ []))
   unfolding late-list
