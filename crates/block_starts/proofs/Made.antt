@@ -2,18 +2,17 @@
 use Prim.Native.Nat.{ℕ, zero, suc, _+_, _-_, _*_, _≤_, _<_}
 use native.Mathlib.Omega.{arith}
 use native.Mathlib.Nat.{eq-or-lt-of-le}
-use mathlib.Core.Path.{_≡_, refl, sym, ap, _∙_, subst}
+use mathlib.Core.Path.{_≡_, sym, ap, _∙_, subst}
 use mathlib.Core.Logic.{_⊎_, inl, inr}
-use mathlib.Core.Bool.{Bool, true, false, _&&_}
+use mathlib.Core.Bool.{true}
 use mathlib.Core.List.{List, [], _∷_, _++_}
-use lib.Dec.{T, leb, ltb}
 use lib.ListN.{length, getD, length-append, List·getD-append}
-use lib.Ieee.{Float, binary32, ofBits}
-use borrow.Author.Tests.{leb-true, ltb-true}
+use lib.Ieee.{binary32, ofBits}
+use borrow.Author.Tests.{ltb-true}
 use Rattle.definition.specs.declared.BlockData.{BlockData}
-use Rattle.definition.specs.Entry.{instsOf, blockOk, every, plain}
+use Rattle.definition.specs.Entry.{blockOk, every, plain}
 use Rattle.rows.specs.Parts.{splice, getD-splice-in, getD-past}
-use Rattle.rows.specs.RowsAt.{rowsAt, length-rows-at, getD-rows-at}
+use Rattle.rows.specs.RowsAt.{length-rows-at, getD-rows-at}
 use Rattle.floats.proofs.Bits.{plain-test}
 use Rattle.function.specs.Blocks.{blockRow, blocksAt, blockAt, noBlock, startOf, startRows, startWords, Starts}
 use Rattle.function.specs.BlockLaws.{block-filled, block-plain, each-passes}

@@ -1,8 +1,8 @@
 -- The answer and the work space, one law for each way out. Assumes nothing.
-use Prim.Native.Nat.{ℕ, suc, _+_, _*_, _/_, _%_, _≤_, _<_}
+use Prim.Native.Nat.{ℕ, _+_, _*_, _/_, _%_, _≤_, _<_}
 use native.Mathlib.Omega.{arith}
-use mathlib.Core.Path.{_≡_, refl, sym, ap, _∙_, subst}
-use mathlib.Core.Bool.{Bool, true, false, _&&_, cond}
+use mathlib.Core.Path.{_≡_, sym, ap, _∙_, subst}
+use mathlib.Core.Bool.{true, false, _&&_}
 use mathlib.Core.Option.{Option, none, some}
 use mathlib.Core.List.{List}
 use lib.Dec.{leb, ltb, eqb}
@@ -14,7 +14,7 @@ use Rattle.definition.specs.declared.Side.{Side}
 use Rattle.definition.specs.declared.Side.the-variants.{Early, Late}
 use Rattle.definition.specs.declared.Refusal.{Refusal}
 use Rattle.definition.specs.declared.Refusal.the-variants.{NotARecord, OverALimit, BadBook, BadFunction, BadHint, BadSegment, BadUse, Stopped, Full}
-use Rattle.definition.specs.Types.{Out, done, refused, inst, numberOf}
+use Rattle.definition.specs.Types.{inst, numberOf}
 use Rattle.definition.specs.Entry.{instsOf, every, blockOk, lowestOf, cutTests, cutTo, findCut, sideOf}
 use Rattle.definition.specs.SplitPlacement.{earlyCut, lateCut}
 use Rattle.rows.specs.Parts.{splice}

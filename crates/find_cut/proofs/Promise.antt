@@ -11,7 +11,7 @@ use Rattle.definition.specs.declared.Side.{Side}
 use Rattle.definition.specs.declared.Refusal.{Refusal}
 use Rattle.definition.specs.Types.{inst}
 use Rattle.definition.specs.Entry.{lowestOf, cutTests, cutTo, sideOf}
-use Rattle.definition.specs.SplitPlacement.{freqAt, earlyCut, lateCut}
+use Rattle.definition.specs.SplitPlacement.{freqAt}
 use Rattle.split_placement.specs.Places.{EarlyPlace, LatePlace, EarliestLeast, LatestLeast}
 use Rattle.split_placement.proofs.Rules.{early-rule, late-rule}
 use Rattle.find_cut.specs.declared.Cut.{Cut}

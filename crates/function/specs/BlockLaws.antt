@@ -1,20 +1,18 @@
 -- Laws of block starts. Assumes nothing.
-use Prim.Native.Nat.{ℕ, zero, suc, _+_, _-_, _*_, _≤_, _<_}
+use Prim.Native.Nat.{ℕ, zero, suc, _+_, _-_, _≤_, _<_}
 use native.Mathlib.Omega.{arith}
-use native.Mathlib.Nat.{add-sub-cancel-left}
-use mathlib.Core.Path.{_≡_, refl, sym, ap, _∙_}
-use mathlib.Core.Bool.{Bool, true, false, _&&_}
-use mathlib.Core.List.{List, [], _∷_, _++_}
+use mathlib.Core.Path.{_≡_, refl, ap}
+use mathlib.Core.Bool.{Bool, true, false}
+use mathlib.Core.List.{List, [], _∷_}
 use lib.Dec.{leb, ltb}
-use lib.ListN.{length, getD}
-use lib.Ieee.{Float}
+use lib.ListN.{length}
 use borrow.Author.Tests.{lt-ltb, le-ltb, le-leb, ltb-true, ltb-false, leb-true}
 use Rattle.definition.specs.declared.BlockData.{BlockData}
 use Rattle.definition.specs.Place.{total}
 use Rattle.definition.specs.Entry.{instsOf, blockOk, every, plain}
 use Rattle.definition.specs.SplitPlacement.{freqAt}
 use Rattle.function.specs.Bools.{and-l, and-r, both}
-use Rattle.function.specs.Blocks.{startOf, blockOf, blockAt, noBlock, Starts}
+use Rattle.function.specs.Blocks.{startOf, blockOf, blockAt}
 
 -- the next block begins behind this one's instructions
 pub start-next : (bs : List BlockData) (j : ℕ) → j < length bs → startOf bs (suc j) ≡ startOf bs j + blockAt bs j .insts

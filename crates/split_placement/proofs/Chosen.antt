@@ -1,23 +1,23 @@
 -- The place that the code answers is the definition's: `early-next`, `early-start`, `late-before`, `late-end`. Assumes nothing.
-use Prim.Native.Nat.{ℕ, zero, suc, _+_, _-_, _*_, _≤_, _<_}
+use Prim.Native.Nat.{ℕ, suc, _+_, _-_, _*_, _≤_, _<_}
 use native.Mathlib.Omega.{arith}
 use native.Mathlib.Numerals.{add-one}
 use mathlib.Core.Path.{_≡_, refl, sym, ap, _∙_, subst}
 use mathlib.Core.Logic.{_⊎_, inl, inr}
-use mathlib.Core.Bool.{Bool, true, false, _&&_, cond}
-use mathlib.Core.List.{List, [], _∷_}
-use lib.Dec.{T, leb, ltb}
+use mathlib.Core.Bool.{Bool, true, false}
+use mathlib.Core.List.{List}
+use lib.Dec.{ltb}
 use lib.ListN.{length, getD}
 use lib.Ieee.{Float, lt, binary32, ofBits}
 use lib.Ieee.Bits.{is-true}
-use borrow.Author.Tests.{lt-ltb, le-ltb, ltb-true, ltb-false, le-leb}
+use borrow.Author.Tests.{lt-ltb, le-ltb, ltb-true, ltb-false}
 use Rattle.definition.specs.declared.BlockData.{BlockData}
 use Rattle.definition.specs.Entry.{plain, every, blockOk, instsOf}
 use Rattle.definition.specs.SplitPlacement.{freqAt, earlyCut, lateCut}
 use Rattle.floats.proofs.Bits.{lt-bits, bits-plain}
 use Rattle.function.specs.Blocks.{startOf, blockOf, blockAt, Starts}
 use Rattle.function.specs.BlockLaws.{start-next, start-mono, block-passes, all-pass, block-frequency, Holding, block-holds}
-use Rattle.split_placement.specs.Places.{IsStart, IsEnd, EarlyPlace, next, start, LatePlace, last, end, EarliestLeast, LatestLeast, bitsOf, firstLeast, lastLeast}
+use Rattle.split_placement.specs.Places.{EarlyPlace, next, start, LatePlace, last, end, bitsOf, firstLeast, lastLeast}
 use Rattle.split_placement.proofs.Walks.{FirstOf, LastOf, first-of, last-of}
 use Rattle.split_placement.proofs.Rules.{early-rule, late-rule, one-earliest, one-latest}
 

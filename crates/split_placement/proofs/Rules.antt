@@ -1,22 +1,21 @@
 -- The definition's cuts are document 01's: `early-rule` and `late-rule`. And there is one such place: `one-earliest`, `one-latest`. Assumes nothing.
 use Prim.Native.Nat.{ℕ, zero, suc, _+_, _-_, _≤_, _<_}
 use native.Mathlib.Omega.{arith}
-use mathlib.Core.Path.{_≡_, refl, sym, ap, _∙_, subst}
+use mathlib.Core.Path.{_≡_, refl, ap, _∙_}
 use mathlib.Core.Logic.{_⊎_, inl, inr}
 use mathlib.Core.Bool.{Bool, true, false, _&&_, cond}
 use mathlib.Core.List.{List, [], _∷_, _++_}
 use lib.Dec.{leb, ltb}
 use lib.ListN.{length}
-use lib.Ieee.{Float, lt}
-use borrow.Author.Tests.{ltb-true, ltb-false, leb-true, lt-ltb, le-ltb, le-leb}
+use lib.Ieee.{Float}
+use borrow.Author.Tests.{ltb-true, ltb-false, leb-true, lt-ltb, le-leb}
 use Rattle.definition.specs.declared.BlockData.{BlockData}
-use Rattle.definition.specs.RegInfo.{zeroF}
 use Rattle.definition.specs.Entry.{plain, every, blockOk}
-use Rattle.definition.specs.SplitPlacement.{freqAt, starts, ends, keep, earliest, latest, lateFrom, earlyCut, lateCut}
+use Rattle.definition.specs.SplitPlacement.{freqAt, starts, ends, keep, earliest, latest, earlyCut, lateCut}
 use Rattle.function.specs.Bools.{and-l, and-r, both}
 use Rattle.function.specs.Blocks.{startOf}
 use Rattle.function.specs.BlockLaws.{block-plain}
-use Rattle.split_placement.specs.Places.{IsStart, IsEnd, EarlyPlace, next, start, LatePlace, last, end, EarliestLeast, LatestLeast}
+use Rattle.split_placement.specs.Places.{EarlyPlace, next, start, LatePlace, last, end, EarliestLeast, LatestLeast}
 use Rattle.split_placement.proofs.Folds.{In, Rising, earliest-least, late-from}
 
 -- ---- one place is wanted

@@ -1,5 +1,4 @@
 use Rattle.find_cut.proofs.Answers.{named-early, named-late}
-use borrow.Author.Needs.{needs}
 use Rattle.find_cut.proofs.side_of.Statement.{statement}
 use Rattle.find_cut.proofs.side_of.Tie as tie
 
