@@ -14,7 +14,10 @@ fn main() {
         let archive = folder.join(format!("lib{name}.a"));
         println!("cargo::rerun-if-changed={}", archive.display());
         if !archive.exists() {
-            panic!("no {}: run `rt staticlib {name}` at the top of the repository first", archive.display());
+            panic!(
+                "no {}: run `rt staticlib {name}` at the top of the repository first",
+                archive.display()
+            );
         }
         println!("cargo::rustc-link-lib=static={name}");
     }

@@ -43,7 +43,15 @@ enum Style {
     Any,
 }
 
-const STYLES: [Style; 7] = [Style::Equal, Style::Few, Style::Zeros, Style::Subnormal, Style::Huge, Style::Neighbours, Style::Any];
+const STYLES: [Style; 7] = [
+    Style::Equal,
+    Style::Few,
+    Style::Zeros,
+    Style::Subnormal,
+    Style::Huge,
+    Style::Neighbours,
+    Style::Any,
+];
 
 fn frequency(style: Style, base: u32, random: &mut Random) -> u32 {
     match style {
@@ -64,7 +72,9 @@ fn blocks(random: &mut Random) -> Vec<Block> {
         4..=8 => 1 + random.below(40),
         _ => 1 + random.below(8),
     };
-    let longest = (4096 / count).min(if random.one_in(3) { 1 } else { 12 }).max(1);
+    let longest = (4096 / count)
+        .min(if random.one_in(3) { 1 } else { 12 })
+        .max(1);
     let style = STYLES[random.below(STYLES.len() as u64) as usize];
     let base = random.below(INFINITY as u64) as u32;
     (0..count)
@@ -76,22 +86,29 @@ fn blocks(random: &mut Random) -> Vec<Block> {
 }
 
 fn rows(blocks: &[Block]) -> Vec<u8> {
-    let words = blocks.iter().flat_map(|block| [block.insts, block.frequency.to_bits()]);
+    let words = blocks
+        .iter()
+        .flat_map(|block| [block.insts, block.frequency.to_bits()]);
     words.flat_map(u32::to_le_bytes).collect()
 }
 
 fn rust(placement: &SplitPlacement, tables: &Tables, after: u32, before: u32, early: bool) -> u32 {
     let inst = |number: u32| Inst::new(number as usize);
-    placement.find_optimal_split_point(inst(after), inst(before), early, tables).index() as u32
+    placement
+        .find_optimal_split_point(inst(after), inst(before), early, tables)
+        .index() as u32
 }
 
 /// Document 01's answer to any input: its numbers, or what the Rust gives.
 fn expected(bytes: &[u8], after: u32, before: u32, side: u32) -> Result<u32, Refused> {
-    if side > 1 || bytes.len() % 8 != 0 || bytes.is_empty() {
+    if side > 1 || !bytes.len().is_multiple_of(8) || bytes.is_empty() {
         return Err(Refused(1));
     }
     let word = |at: usize| u32::from_le_bytes(bytes[at..at + 4].try_into().unwrap());
-    let rows: Vec<(u32, u32)> = (0..bytes.len()).step_by(8).map(|at| (word(at), word(at + 4))).collect();
+    let rows: Vec<(u32, u32)> = (0..bytes.len())
+        .step_by(8)
+        .map(|at| (word(at), word(at + 4)))
+        .collect();
     let total: u64 = rows.iter().map(|row| u64::from(row.0)).sum();
     if rows.len() > 512 || total > 4096 {
         return Err(Refused(2));
@@ -103,8 +120,17 @@ fn expected(bytes: &[u8], after: u32, before: u32, side: u32) -> Result<u32, Ref
     if !fine || after >= before || u64::from(before) >= total {
         return Err(Refused(4));
     }
-    let blocks = rows.iter().map(|&(insts, bits)| Block { insts, frequency: f32::from_bits(bits) }).collect();
-    let job = Job { blocks, ..Job::default() };
+    let blocks = rows
+        .iter()
+        .map(|&(insts, bits)| Block {
+            insts,
+            frequency: f32::from_bits(bits),
+        })
+        .collect();
+    let job = Job {
+        blocks,
+        ..Job::default()
+    };
     let tables = Tables::new(&job);
     let mut placement = SplitPlacement::new();
     placement.prepare(&tables);
@@ -117,7 +143,13 @@ struct Counts {
     answers: [u64; 5],
 }
 
-fn differs(what: &str, bytes: &[u8], query: (u32, u32, u32), ours: Result<u32, Refused>, theirs: Result<u32, Refused>) -> ! {
+fn differs(
+    what: &str,
+    bytes: &[u8],
+    query: (u32, u32, u32),
+    ours: Result<u32, Refused>,
+    theirs: Result<u32, Refused>,
+) -> ! {
     println!("{what}: {query:?} over {bytes:02x?}: {ours:?}, expected {theirs:?}");
     exit(1)
 }
@@ -127,7 +159,10 @@ fn accepted(queries: u64, random: &mut Random, work: &mut Work, counts: &mut Cou
     while counts.queries < queries {
         let blocks = blocks(random);
         let bytes = rows(&blocks);
-        let job = Job { blocks, ..Job::default() };
+        let job = Job {
+            blocks,
+            ..Job::default()
+        };
         let tables = Tables::new(&job);
         let insts = job.inst_count();
         if insts < 2 {
@@ -137,7 +172,11 @@ fn accepted(queries: u64, random: &mut Random, work: &mut Work, counts: &mut Cou
         placement.prepare(&tables);
         for _ in 0..8 {
             let before = 1 + random.below(insts - 1) as u32;
-            let after = if random.one_in(3) { before - 1 - random.below(u64::from(before.min(6))) as u32 } else { random.below(u64::from(before)) as u32 };
+            let after = if random.one_in(3) {
+                before - 1 - random.below(u64::from(before.min(6))) as u32
+            } else {
+                random.below(u64::from(before)) as u32
+            };
             for side in 0..2 {
                 let theirs = Ok(rust(&placement, &tables, after, before, side == 0));
                 let ours = find_in_bytes(&bytes, after, before, side, work);
@@ -169,9 +208,18 @@ fn damaged(random: &mut Random) -> (Vec<u8>, u32, u32, u32) {
             2 => bytes.extend((0..random.below(9)).map(|byte| byte as u8)),
             3 => bytes = (0..random.below(40)).map(|_| random.next() as u8).collect(),
             4 if row + 8 <= bytes.len() => bytes[row..row + 4].fill(0),
-            5 if row + 8 <= bytes.len() => bytes[row..row + 4].copy_from_slice(&(random.next() as u32).to_le_bytes()),
+            5 if row + 8 <= bytes.len() => {
+                bytes[row..row + 4].copy_from_slice(&(random.next() as u32).to_le_bytes())
+            }
             6 if row + 8 <= bytes.len() => {
-                let bits = [INFINITY, INFINITY - 1, 0x8000_0000, 0xbf80_0000, 0x7fc0_0000, 0xffff_ffff][random.below(6) as usize];
+                let bits = [
+                    INFINITY,
+                    INFINITY - 1,
+                    0x8000_0000,
+                    0xbf80_0000,
+                    0x7fc0_0000,
+                    0xffff_ffff,
+                ][random.below(6) as usize];
                 bytes[row + 4..row + 8].copy_from_slice(&bits.to_le_bytes());
             }
             7 => before = random.next() as u32,
@@ -189,15 +237,26 @@ fn damaged(random: &mut Random) -> (Vec<u8>, u32, u32, u32) {
 }
 
 fn main() {
-    let mut args = env::args().skip(1).map(|arg| arg.parse::<u64>().expect("a number"));
+    let mut args = env::args()
+        .skip(1)
+        .map(|arg| arg.parse::<u64>().expect("a number"));
     let queries = args.next().unwrap_or(600_000);
     let seed = args.next().unwrap_or(1);
     let mut random = Random(seed.wrapping_mul(0x9e37_79b9_7f4a_7c15) | 1);
     let mut work = Work::new();
-    let mut counts = Counts { queries: 0, moved: 0, answers: [0; 5] };
-    work.bytes().iter_mut().for_each(|byte| *byte = random.next() as u8);
+    let mut counts = Counts {
+        queries: 0,
+        moved: 0,
+        answers: [0; 5],
+    };
+    work.bytes()
+        .iter_mut()
+        .for_each(|byte| *byte = random.next() as u8);
     accepted(queries, &mut random, &mut work, &mut counts);
-    println!("{} accepted queries, {} of them moved by a frequency: no difference", counts.queries, counts.moved);
+    println!(
+        "{} accepted queries, {} of them moved by a frequency: no difference",
+        counts.queries, counts.moved
+    );
     for _ in 0..queries {
         let (bytes, after, before, side) = damaged(&mut random);
         let theirs = expected(&bytes, after, before, side);
@@ -208,5 +267,7 @@ fn main() {
         counts.answers[ours.map_or_else(|refused| refused.0, |_| 0) as usize] += 1;
     }
     let [accepted, one, two, _, four] = counts.answers;
-    println!("{queries} damaged inputs: {one} refused by 1, {two} by 2, {four} by 4, {accepted} still in order: no difference");
+    println!(
+        "{queries} damaged inputs: {one} refused by 1, {two} by 2, {four} by 4, {accepted} still in order: no difference"
+    );
 }

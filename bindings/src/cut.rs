@@ -81,15 +81,36 @@ impl Blocks {
 }
 
 /// The instruction before which a cut between `after` and `before` is best made.
-pub fn find(blocks: &Blocks, after: u32, before: u32, side: Side, work: &mut Work) -> Result<u32, Refused> {
+pub fn find(
+    blocks: &Blocks,
+    after: u32,
+    before: u32,
+    side: Side,
+    work: &mut Work,
+) -> Result<u32, Refused> {
     find_in_bytes(blocks.bytes(), after, before, side.number(), work)
 }
 
 /// The same over any bytes, and side 0 (early) or 1 (late): what is not in order is refused.
-pub fn find_in_bytes(bytes: &[u8], after: u32, before: u32, side: u32, work: &mut Work) -> Result<u32, Refused> {
+pub fn find_in_bytes(
+    bytes: &[u8],
+    after: u32,
+    before: u32,
+    side: u32,
+    work: &mut Work,
+) -> Result<u32, Refused> {
     // SAFETY: the function reads `length` bytes at `blocks` and reads and writes the array at `work`. Both are
     // borrowed for the call, and it keeps neither. It is proved to stay inside them, for all bytes and numbers.
-    let cut = unsafe { find_optimal_split_point(bytes.as_ptr(), bytes.len(), after, before, side, &mut *work.0) };
+    let cut = unsafe {
+        find_optimal_split_point(
+            bytes.as_ptr(),
+            bytes.len(),
+            after,
+            before,
+            side,
+            &mut *work.0,
+        )
+    };
     match cut.number {
         0 => Ok(cut.inst),
         number => Err(Refused(number)),

@@ -15,17 +15,11 @@ returns-2 c = not-whole _ _ _ _ _ (c .if2 .taken)
 returns-3 : tie.Need-returns-3
 returns-3 c = nothing _ _ _ _ _ (c .if3 .taken)
 
-tested-requires : tie.Need-tested-requires
-tested-requires c κs = search needs
-
 returns-4 : tie.Need-returns-4
 returns-4 c = failed _ _ _ _ _ (c .before .before .before .before .if1 .left) (c .before .before .before .if2 .left) (c .before .before .if3 .left) _ (c .before .tested .ensures) (c .if4 .taken)
 
 cast-n : tie.Need-cast-n
 cast-n c = omega (arith, was-passed _ _ _ (sym (c .if4 .left) ∙ c .before .tested .ensures) .blocks-few)
-
-side-of-requires : tie.Need-side-of-requires
-side-of-requires c κs = search needs
 
 cut-by-requires : tie.Need-cut-by-requires
 cut-by-requires c κs =
@@ -42,9 +36,9 @@ find-optimal-split-point-spec =
     returns
     returns-2
     returns-3
-    tested-requires
+    (λ c κs. search needs)
     returns-4
     cast-n
-    side-of-requires
+    (λ c κs. search needs)
     cut-by-requires
     returns-5)

@@ -8,17 +8,8 @@ use Rattle.find_cut.proofs.tested.Tie as tie
 returns : tie.Need-returns
 returns c = many _ _ _ (c .if1 .taken)
 
-cast-n : tie.Need-cast-n
-cast-n c = search needs
-
-count-insts-requires : tie.Need-count-insts-requires
-count-insts-requires c κs = search needs
-
 returns-2 : tie.Need-returns-2
 returns-2 c = long _ _ _ _ (c .before .count-insts .ensures) (c .if2 .taken)
-
-blocks-ok-requires : tie.Need-blocks-ok-requires
-blocks-ok-requires c κs = search needs
 
 returns-3 : tie.Need-returns-3
 returns-3 c = bad _ _ _ _ (c .before .before .before .before .if1 .left) (c .before .before .before .count-insts .ensures) (c .before .before .if2 .left) (sym (not-true _ (c .if3 .taken)) ∙ c .before .blocks-ok .ensures)
@@ -37,10 +28,10 @@ tested-spec =
     tie.close
     (tie.spec
     returns
-    cast-n
-    count-insts-requires
+    (λ c. search needs)
+    (λ c κs. search needs)
     returns-2
-    blocks-ok-requires
+    (λ c κs. search needs)
     returns-3
     returns-4
     returns-5
