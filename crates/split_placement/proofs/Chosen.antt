@@ -16,7 +16,7 @@ use Rattle.definition.specs.Entry.{plain, every, blockOk, instsOf}
 use Rattle.definition.specs.SplitPlacement.{freqAt, earlyCut, lateCut}
 use Rattle.floats.proofs.Bits.{lt-bits, bits-plain}
 use Rattle.function.specs.Blocks.{startOf, blockOf, blockAt, Starts}
-use Rattle.function.specs.BlockLaws.{start-next, start-mono, block-passes, all-pass, block-frequency, Holding, block-holds}
+use Rattle.function.specs.BlockLaws.{start-next, start-mono, block-passes, all-pass, starts-frequency, Holding, block-holds}
 use Rattle.split_placement.specs.Places.{EarlyPlace, next, start, LatePlace, last, end, bitsOf, firstLeast, lastLeast}
 use Rattle.split_placement.proofs.Walks.{FirstOf, LastOf, first-of, last-of}
 use Rattle.split_placement.proofs.Rules.{early-rule, late-rule, one-earliest, one-latest}
@@ -42,7 +42,7 @@ module _ (W : List ℕ) (at : ℕ) (bs : List BlockData) (s : Starts W at bs) wh
       go false e = absurd (omega (arith, l, start-mono bs k j (ltb-false j k e) h))
 
   price-of : (k i : ℕ) → k < length bs → startOf bs k ≤ i → i < startOf bs (suc k) → freqAt bs i ≡ ofBits binary32 (bitsOf W at k)
-  price-of k i h l u = block-frequency bs k i h l u ∙ sym (s .bits k h)
+  price-of k i h l u = starts-frequency s (record { there = h; low = l; high = u })
 
   -- prices compare as bits
   compare-prices : (x y : Float) (j k : ℕ) (t : Bool) → j < length bs → k < length bs → x ≡ ofBits binary32 (bitsOf W at j) → y ≡ ofBits binary32 (bitsOf W at k)

@@ -146,15 +146,21 @@ ends-rise i (b ∷ bs) = ((λ x m. omega (arith, in-ends (i + b .insts) bs x m .
 
 -- ---- early
 
+abbrev early-open : ℕ → ℕ → ℕ → Bool
+early-open after before i = ltb (suc after) i && leb i before
+
+abbrev late-open : ℕ → ℕ → ℕ → Bool
+late-open after before i = ltb after i && leb i before
+
 module _ (bs : List BlockData) (after before : ℕ) where
   early-list : List ℕ
-  early-list = keep (λ i. ltb (suc after) i && leb i before) (starts 0 bs)
+  early-list = keep (early-open after before) (starts 0 bs)
 
   to-early : (p : ℕ) → In p (suc after ∷ early-list) → EarlyPlace bs after before p
   unfolding early-list
   to-early p (inl e) = next e
   to-early p (inr m) =
-      let k = kept (λ i. ltb (suc after) i && leb i before) (starts 0 bs) p m in
+      let k = kept (early-open after before) (starts 0 bs) p m in
       let b = in-starts 0 bs p (k .0) in
       start (record { block = b .block; there = b .there; is = omega (arith, b .is) })
       (ltb-true (suc after) p (and-l (ltb (suc after) p) (leb p before) (k .1)))
@@ -164,16 +170,16 @@ module _ (bs : List BlockData) (after before : ℕ) where
   unfolding early-list
   from-early p (next e) = inl e
   from-early p (start s h l) =
-      inr (keeps (λ i. ltb (suc after) i && leb i before) (starts 0 bs) p (starts-in 0 bs p (s .block) (s .there) (omega (arith, s .is)))
+      inr (keeps (early-open after before) (starts 0 bs) p (starts-in 0 bs p (s .block) (s .there) (omega (arith, s .is)))
       (both (ltb (suc after) p) (leb p before) (lt-ltb (suc after) p h) (le-leb p before l)))
 
   early-rises : Rising (suc after ∷ early-list)
   unfolding early-list
-  early-rises = (above, keep-rises (λ i. ltb (suc after) i && leb i before) (starts 0 bs) (starts-rise 0 bs))
+  early-rises = (above, keep-rises (early-open after before) (starts 0 bs) (starts-rise 0 bs))
     where
-      above : (x : ℕ) → In x (keep (λ i. ltb (suc after) i && leb i before) (starts 0 bs)) → suc after ≤ x
+      above : (x : ℕ) → In x (keep (early-open after before) (starts 0 bs)) → suc after ≤ x
       above x m =
-          let h : suc after < x = ltb-true (suc after) x (and-l (ltb (suc after) x) (leb x before) (kept (λ i. ltb (suc after) i && leb i before) (starts 0 bs) x m .1)) in
+          let h : suc after < x = ltb-true (suc after) x (and-l (ltb (suc after) x) (leb x before) (kept (early-open after before) (starts 0 bs) x m .1)) in
           omega arith
 
   -- "Early: among `after`+1 and the block starts above it up to `before`, the earliest whose block frequency is least."
@@ -186,7 +192,7 @@ module _ (bs : List BlockData) (after before : ℕ) where
   -- ---- late
 
   late-list : List ℕ
-  late-list = keep (λ i. ltb after i && leb i before) (ends 0 bs)
+  late-list = keep (late-open after before) (ends 0 bs)
 
   in-last : (xs : List ℕ) (b p : ℕ) → In p (xs ++ (b ∷ [])) → In p xs ⊎ (p ≡ b)
   in-last [] b p (inl e) = inr e
@@ -217,7 +223,7 @@ module _ (bs : List BlockData) (after before : ℕ) where
 
   late-kept : (p : ℕ) → In p late-list → In p (ends 0 bs) × (ltb after p && leb p before ≡ true)
   unfolding late-list
-  late-kept p m = kept (λ i. ltb after i && leb i before) (ends 0 bs) p m
+  late-kept p m = kept (late-open after before) (ends 0 bs) p m
 
   late-upto : (p : ℕ) → In p late-list → p ≤ before
   late-upto p m = leb-true p before (and-r (ltb after p) (leb p before) (late-kept p m .1))
@@ -236,12 +242,12 @@ module _ (bs : List BlockData) (after before : ℕ) where
   from-late p (last e) = last-in late-list before p e
   from-late p (end s h l) =
       ahead-in late-list before p
-      (keeps (λ i. ltb after i && leb i before) (ends 0 bs) p (ends-in 0 bs p (s .block) (s .there) (omega (arith, s .is)))
+      (keeps (late-open after before) (ends 0 bs) p (ends-in 0 bs p (s .block) (s .there) (omega (arith, s .is)))
       (both (ltb after p) (leb p before) (lt-ltb after p h) (le-leb p before l)))
 
   late-rises : Rising (late-list ++ (before ∷ []))
   unfolding late-list
-  late-rises = rises-to late-list before (keep-rises (λ i. ltb after i && leb i before) (ends 0 bs) (ends-rise 0 bs)) late-upto
+  late-rises = rises-to late-list before (keep-rises (late-open after before) (ends 0 bs) (ends-rise 0 bs)) late-upto
 
   -- "Late: among `before` and the block ends from `after`+1 to it, the latest whose preceding instruction's block frequency is least."
   pub late-rule : every blockOk bs ≡ true → LatestLeast (LatePlace bs after before) (λ p. freqAt bs (p - 1)) (lateCut bs after before)
