@@ -144,7 +144,7 @@ unfolding ends
 ends-rise i [] = tt
 ends-rise i (b ∷ bs) = ((λ x m. omega (arith, in-ends (i + b .insts) bs x m .is)), ends-rise (i + b .insts) bs)
 
--- ---- early
+-- ---- the places that the definition keeps
 
 abbrev early-open : ℕ → ℕ → ℕ → Bool
 early-open after before i = ltb (suc after) i && leb i before
@@ -153,6 +153,8 @@ abbrev late-open : ℕ → ℕ → ℕ → Bool
 late-open after before i = ltb after i && leb i before
 
 module _ (bs : List BlockData) (after before : ℕ) where
+  -- ---- early
+
   early-list : List ℕ
   early-list = keep (early-open after before) (starts 0 bs)
 
