@@ -1,18 +1,27 @@
 -- The members of a value group, and their value sets filled into eight places. Assumes nothing.
 use mathlib.Core.Path.{_≡_, refl, sym, ap, _∙_}
 use mathlib.Core.List.{List, [], _∷_, _++_, map, map-append}
-use Prim.Native.Nat.{ℕ, zero, suc, _+_, _-_, _*_, _≤_, _<_}
+use Prim.Native.Nat.{ℕ, suc, _+_, _-_, _*_, _≤_, _<_}
 use native.Mathlib.Numerals.{add-one}
 use native.Mathlib.Omega.{arith}
-use lib.ListN.{length, getD, take, replicate, set, length-append, length-map, length-take, length-replicate}
+use lib.ListN.{length, getD, take, replicate, set, length-map, length-take}
 use lib.Seq.{take-suc, set-at, append-snoc, take-length}
-use Rattle.rows.specs.RowsAt.{rowsAt, getD-rows-at, length-rows-at}
+use Rattle.rows.specs.RowsAt.{getD-rows-at, length-rows-at}
 use Rattle.definition.specs.declared.Value.{Value}
 use Rattle.definition.specs.declared.ValueSet.{ValueSet}
 use Rattle.definition.specs.declared.ValueData.{ValueData}
-use Rattle.definition.specs.Types.{Job, val, vset}
-use Rattle.definition.specs.RegInfo.{noValue, valueAt, setOf}
-use Rattle.coalescing.specs.Rows.{memberRow, vgroupRow, setIn, setsOf, reserved}
+use Rattle.definition.specs.Types.{Job, val}
+use Rattle.definition.specs.RegInfo.{valueAt, setOf}
+use Rattle.coalescing.specs.Rows.{memberRow, vgroupRow, vgroupsAt, setIn, setsOf, reserved}
+
+pub groups-long : (W : List ℕ) (at n : ℕ) → length (vgroupsAt W at n) ≡ n
+unfolding vgroupsAt
+groups-long W at n = length-rows-at vgroupRow W at 9 n
+
+-- value group g from its row
+pub group-row-at : (W : List ℕ) (at n g : ℕ) → g < n → vgroupRow W (at + g * 9) ≡ getD (vgroupsAt W at n) g []
+unfolding vgroupsAt
+group-row-at W at n g h = sym (getD-rows-at vgroupRow W at 9 n g [] h)
 
 -- the first word of a row is the number of members
 pub group-long : (W : List ℕ) (i : ℕ) → length (vgroupRow W i) ≡ getD W i 0

@@ -1,6 +1,5 @@
 use borrow.Author.Tests.{ne-eqb}
 use Rattle.coalescing.specs.Rows.{rematOf}
-use borrow.Author.Needs.{needs}
 use Rattle.coalescing.proofs.remat_of.Statement.{statement}
 use Rattle.coalescing.proofs.remat_of.Tie as tie
 

@@ -1,8 +1,8 @@
 use Rattle.coalescing.proofs.Same.{same-step, same-stop, same-end}
-use Prim.Native.Nat.{ℕ, _≤_, _<_, _-_, _+_}
-use mathlib.Core.Path.{_≡_, ap, sym, _∙_, refl}
+use Prim.Native.Nat.{_≤_, _-_}
+use mathlib.Core.Path.{_≡_, sym, _∙_, refl}
 use native.Mathlib.Omega.{arith}
-use lib.ListN.{length, drop, getD}
+use lib.ListN.{length, drop}
 use Rattle.definition.specs.Admit.{sameSets}
 use borrow.Author.Needs.{needs}
 use Rattle.coalescing.proofs.same_sets.Statement.{statement}
