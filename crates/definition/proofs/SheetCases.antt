@@ -1,0 +1,115 @@
+-- Sheets in and sheets out, byte for byte, by computation: case A, and sheets on both sides of number 1. Assumes nothing.
+use mathlib.Core.Path.{_≡_, refl}
+use Prim.Native.Nat.{ℕ, _+_}
+use Prim.Native.String.{String}
+use mathlib.Core.Bool.{cond}
+use mathlib.Core.List.{List, [], _∷_, _++_, map}
+use lib.Dec.{eqb}
+use lib.ListN.{take, drop, set, replicate}
+use Rattle.definition.specs.Text.{bytes, tab, lineFeed}
+use Rattle.definition.specs.RegisterSheet.{vregsOf}
+
+-- "tabs as blanks", and a line feed behind each line
+text : List String → List ℕ
+text [] = []
+text (l ∷ ls) = map (λ b. cond (eqb b 32) tab b) (bytes l) ++ (lineFeed ∷ text ls)
+
+caseA : List String
+caseA =
+    "opt 0 3f800000 3f800000 3f800000"
+    ∷ "bank 0"
+    ∷ "class 00000007 3f800000 1 0"
+    ∷ "class 00000002 3f800000 1 0"
+    ∷ "class 00000004 3f800000 1 0"
+    ∷ "block 2 3f800000"
+    ∷ "block 2 3f000000"
+    ∷ "value 0 0 0"
+    ∷ "seg 0 2 14 0"
+    ∷ "use 5 0 0 1"
+    ∷ "use 4 3 0 2"
+    ∷ "end"
+    ∷ []
+
+printedA : List String
+printedA =
+    "vreg 0 0 1 3f000000 - 0 0"
+    ∷ "seg 0 2 8 2 own"
+    ∷ "use 5 0 0 1"
+    ∷ "vreg 1 0 2 3e800000 - 0 0"
+    ∷ "seg 0 8 14 1 own"
+    ∷ "use 4 3 0 2"
+    ∷ "end 2 0"
+    ∷ []
+
+case-a : vregsOf (text caseA) ≡ text printedA
+unfolding vregsOf text caseA printedA
+case-a = refl
+
+-- ---- case A's sheet with a change: line n is another one, is left out, has a line before it
+
+changed : ℕ → String → List ℕ
+unfolding text caseA
+changed n l = text (set caseA n l)
+
+without : ℕ → List ℕ
+unfolding text caseA
+without n = text (take n caseA ++ drop (n + 1) caseA)
+
+withLine : ℕ → String → List ℕ
+unfolding text caseA
+withLine n l = text (take n caseA ++ (l ∷ drop n caseA))
+
+-- its first lines, the last of them ended by no line feed
+withoutLineFeed : List ℕ
+unfolding text caseA
+withoutLineFeed = text (take 11 caseA) ++ bytes "end"
+
+cases : List (List ℕ × String)
+unfolding text caseA changed without withLine withoutLineFeed
+cases =
+    ([], "refused 1")
+    ∷ (withoutLineFeed, "refused 1")
+    ∷ (without 0, "refused 1")
+    ∷ (without 1, "refused 1")
+    ∷ (text ("opt 0 3f800000 3f800000 3f800000" ∷ "bank 0" ∷ "block 2 3f800000" ∷ "end" ∷ []), "refused 1")
+    ∷ (text ("opt 0 3f800000 3f800000 3f800000" ∷ "bank 0" ∷ "class 00000001 3f800000 1 0" ∷ "end" ∷ []), "refused 1")
+    ∷ (without 11, "refused 1")
+    ∷ (withLine 1 "opt 0 3f800000 3f800000 3f800000", "refused 1")
+    ∷ (withLine 8 "use 5 0 0 1", "refused 1")
+    ∷ (withLine 9 "hint 0 0 0", "refused 1")
+    ∷ (withLine 11 "end", "refused 1")
+    ∷ (withLine 12 "", "refused 1")
+    ∷ (withLine 7 "values 0 0 0", "refused 1")
+    ∷ (withLine 7 "Value 0 0 0", "refused 1")
+    ∷ (changed 1 "bank 0\r", "refused 1")
+    ∷ (changed 1 "bank 00", "refused 1")
+    ∷ (changed 1 "bank +0", "refused 1")
+    ∷ (changed 1 "bank  0", "refused 1")
+    ∷ (changed 1 "bank 0 ", "refused 1")
+    ∷ (changed 1 "bank", "refused 1")
+    ∷ (changed 1 "bank 4294967296", "refused 1")
+    ∷ (changed 1 "bank 4294967295", "refused 3")
+    ∷ (changed 2 "class 0000000A 3f800000 1 0", "refused 1")
+    ∷ (changed 2 "class 000000007 3f800000 1 0", "refused 1")
+    ∷ (changed 2 "class 7 3f800000 1 0", "refused 1")
+    ∷ (changed 2 "class 00000007 3f800000 1 2", "refused 1")
+    ∷ (changed 2 "class 00000007 3f800000 9 0", "refused 3")
+    ∷ (withLine 5 "reg 2", "refused 1")
+    ∷ (changed 7 "value 0 0 4", "refused 1")
+    ∷ (withLine 8 "vgroup", "refused 4")
+    ∷ (withLine 8 "vgroup 0 0 0 0 0 0 0 0 0 0", "refused 4")
+    ∷ (withLine 8 "vgroup 0 -", "refused 1")
+    ∷ (withLine 8 "hint 0 0 2", "refused 1")
+    ∷ (changed 8 "seg 0 2 14 16", "refused 1")
+    ∷ (changed 9 "use 10 0", "refused 1")
+    ∷ (changed 9 "use 05 0 0 1", "refused 1")
+    ∷ (changed 9 "use 2 0 0 0 1", "refused 1")
+    ∷ (changed 9 "use 3 0 0", "refused 1")
+    ∷ (changed 9 "use 3 0", "refused 7")
+    ∷ (text (take 1 caseA ++ (replicate 9 "bank 0" ++ drop 2 caseA)), "refused 2")
+    ∷ (text (take 1 caseA ++ (replicate 9 "bank 0" ++ drop 2 (take 11 caseA))), "refused 1")
+    ∷ []
+
+cases-hold : map (λ c. vregsOf (c .0)) cases ≡ map (λ c. text (c .1 ∷ [])) cases
+unfolding vregsOf text cases
+cases-hold = refl
