@@ -2,10 +2,13 @@
 use mathlib.Core.Path.{_≡_, refl}
 use Prim.Native.Nat.{ℕ, _+_}
 use Prim.Native.String.{String}
-use mathlib.Core.Bool.{cond}
+use mathlib.Core.Bool.{Bool, true, false, cond}
 use mathlib.Core.List.{List, [], _∷_, _++_, map}
 use lib.Dec.{eqb}
 use lib.ListN.{take, drop, set, replicate}
+use Rattle.definition.specs.Types.{UseKind, FixedDef, FixedUse, TiedUse, ConstraintConflict, ClassUse, ClassDef, GroupClassUse, GroupClassDef, BlockparamIn, BlockparamOut, UseFlags, inst}
+use Rattle.definition.specs.Lines.{numbersOf, flagsNumber}
+use Rattle.definition.specs.JobSheet.{useOf, flagsOf}
 use Rattle.definition.specs.Text.{bytes, tab, lineFeed}
 use Rattle.definition.specs.RegisterSheet.{vregsOf}
 
@@ -113,3 +116,40 @@ cases =
 cases-hold : map (λ c. vregsOf (c .0)) cases ≡ map (λ c. text (c .1 ∷ [])) cases
 unfolding vregsOf text cases
 cases-hold = refl
+
+-- ---- what the writer makes of a use and of flags is what the reader reads
+
+use-back : (k : UseKind) (p : ℕ) → useOf (numbersOf k p) ≡ record { pos = inst p; kind = k }
+unfolding useOf
+use-back (FixedDef r) p = refl
+use-back (FixedUse r) p = refl
+use-back (TiedUse u d c i) p = refl
+use-back ConstraintConflict p = refl
+use-back (ClassUse s c) p = refl
+use-back (ClassDef s c) p = refl
+use-back (GroupClassUse s c i) p = refl
+use-back (GroupClassDef s c i) p = refl
+use-back (BlockparamIn q) p = refl
+use-back BlockparamOut p = refl
+
+flagsAs : Bool → Bool → Bool → Bool → UseFlags
+flagsAs a b c d = record { livein = a; liveout = b; fixedhint = c; fixeddef = d }
+
+flags-back : (a b c d : Bool) → flagsOf (flagsNumber (flagsAs a b c d)) ≡ flagsAs a b c d
+unfolding flagsOf flagsAs
+flags-back false false false false = refl
+flags-back true false false false = refl
+flags-back false true false false = refl
+flags-back true true false false = refl
+flags-back false false true false = refl
+flags-back true false true false = refl
+flags-back false true true false = refl
+flags-back true true true false = refl
+flags-back false false false true = refl
+flags-back true false false true = refl
+flags-back false true false true = refl
+flags-back true true false true = refl
+flags-back false false true true = refl
+flags-back true false true true = refl
+flags-back false true true true = refl
+flags-back true true true true = refl

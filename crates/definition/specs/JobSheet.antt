@@ -58,11 +58,12 @@ wordAmong (w ∷ ws) f = elim (same f (spelling w)) [ true ↦ some w | false �
 
 -- ---- the fields of a record
 
--- "Numbers are decimal .. up to 4,294,967,295"; a choice is a number up to the last of its list; masks and f32 bits
+-- The form of a field: a number up to a greatest one, a choice up to the last of its list; "masks and f32 bits".
 pub data Form : Type 0 where
   upTo : ℕ → Form
   bits : Form
 
+-- "a number above 4,294,967,295" is 1
 abbrev pub number : Form
 number = upTo 4294967295
 
