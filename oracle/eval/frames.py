@@ -1,9 +1,10 @@
 #!/usr/bin/env python3
-"""Generated sheets with the oracle's answers, as files and a manifest for eval.py.
+"""Sheets with the oracle's answers, as files and a manifest for eval.py.
 
-    frames.py BIN FOLDER PROFILE SEED COUNT [MOST]
+    gen PROFILE SEED COUNT | frames.py ORACLE FOLDER NAME [MOST] > MANIFEST
 
-BIN is the folder of the programs `gen` and `oracle`. Sheets of more than MOST bytes are left out. The manifest is on standard output.
+ORACLE is the program, the sheets come as frames, and are put into FOLDER under NAME and a number.
+Sheets of more than MOST bytes are left out.
 """
 import os
 import subprocess
@@ -11,7 +12,7 @@ import sys
 
 
 def frames(data, word):
-    """The fields behind the word in each frame's head, and the bytes."""
+    """The fields behind the word and the length in each frame's head, and the bytes."""
     at = 0
     while at < len(data):
         end = data.index(b'\n', at)
@@ -22,19 +23,22 @@ def frames(data, word):
         at = end + 1 + size
 
 
+def frame(room, data):
+    return b'sheet\t%d\t%s\n' % (len(data), room.encode()) + data
+
+
 def main():
-    bin_, folder, profile, seed, count = sys.argv[1:6]
-    most = int(sys.argv[6]) if len(sys.argv) > 6 else 1 << 40
+    oracle, folder, name = sys.argv[1:4]
+    most = int(sys.argv[4]) if len(sys.argv) > 4 else 1 << 40
     os.makedirs(folder, exist_ok=True)
-    made = subprocess.run([os.path.join(bin_, 'gen'), profile, seed, count], check=True, capture_output=True).stdout
-    told = subprocess.run([os.path.join(bin_, 'oracle'), '--stream'], input=made, check=True, capture_output=True).stdout
-    for i, ((room,), sheet), ((stop,), answer) in zip(range(int(seed), 1 << 60), *map(list, (frames(made, 'sheet'), frames(told, 'answer')))):
-        if len(sheet) > most:
-            continue
-        path = os.path.join(folder, f'{profile}-{i}')
-        for name, data in ((path, sheet), (path + '.out', answer)):
-            with open(name, 'wb') as f:
-                f.write(data)
+    sheets = [(room, data) for (room,), data in frames(sys.stdin.buffer.read(), 'sheet') if len(data) <= most]
+    made = b''.join(frame(*s) for s in sheets)
+    told = subprocess.run([oracle, '--stream'], input=made, check=True, capture_output=True).stdout
+    for i, ((room, data), ((stop,), answer)) in enumerate(zip(sheets, frames(told, 'answer'))):
+        path = os.path.join(folder, f'{name}-{i}')
+        for file, content in ((path, data), (path + '.out', answer)):
+            with open(file, 'wb') as f:
+                f.write(content)
         print(path, path + '.out', room, stop, sep='\t')
 
 
