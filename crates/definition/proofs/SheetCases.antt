@@ -3,12 +3,13 @@ use mathlib.Core.Path.{_≡_, refl}
 use Prim.Native.Nat.{ℕ, _+_}
 use Prim.Native.String.{String}
 use mathlib.Core.Bool.{Bool, true, false, cond}
+use mathlib.Core.Option.{Option, none, some}
 use mathlib.Core.List.{List, [], _∷_, _++_, map}
 use lib.Dec.{eqb}
 use lib.ListN.{take, drop, set, replicate}
 use Rattle.definition.specs.Types.{UseKind, FixedDef, FixedUse, TiedUse, ConstraintConflict, ClassUse, ClassDef, GroupClassUse, GroupClassDef, BlockparamIn, BlockparamOut, UseFlags, inst}
 use Rattle.definition.specs.Lines.{numbersOf, flagsNumber}
-use Rattle.definition.specs.JobSheet.{useOf, flagsOf}
+use Rattle.definition.specs.JobSheet.{Record, sheetOf, useOf, flagsOf}
 use Rattle.definition.specs.Text.{bytes, tab, lineFeed}
 use Rattle.definition.specs.RegisterSheet.{vregsOf}
 
@@ -47,6 +48,91 @@ printedA =
 case-a : vregsOf (text caseA) ≡ text printedA
 unfolding vregsOf text caseA printedA
 case-a = refl
+
+-- ---- a sheet with every record, every kind of use that a job may have, and every form of a printed line
+
+everyRecord : List String
+everyRecord =
+    "opt 1 3f000000 3e800000 3e000000"
+    ∷ "bank 0"
+    ∷ "bank 3"
+    ∷ "class 00000007 3f800000 1 0"
+    ∷ "class 00000002 3f800000 1 0"
+    ∷ "class 00000004 40000000 1 1"
+    ∷ "class 00000008 3f800000 2 0"
+    ∷ "reg 0"
+    ∷ "reg 1"
+    ∷ "block 4 3f800000"
+    ∷ "block 4 40000000"
+    ∷ "value 0 0 1"
+    ∷ "value 0 1 2"
+    ∷ "value 0 2 3"
+    ∷ "value 1 3 0"
+    ∷ "value 1 4 0"
+    ∷ "value 0 0 0"
+    ∷ "vgroup 3 4"
+    ∷ "vgroup 4 3"
+    ∷ "operand 2 0 0 3"
+    ∷ "operand 6 1 1 3"
+    ∷ "hint 0 0 1"
+    ∷ "hint 0 5 0"
+    ∷ "seg 0 2 26 4"
+    ∷ "use 5 0 0 1"
+    ∷ "use 4 6 0 2"
+    ∷ "seg 5 28 30 1"
+    ∷ "use 4 7 0 1"
+    ∷ "use 4 7 1 2"
+    ∷ "seg 1 2 20 8"
+    ∷ "use 0 0 1"
+    ∷ "use 1 4 0"
+    ∷ "seg 2 0 32 3"
+    ∷ "use 8 0 4294967295"
+    ∷ "use 2 3 0 1 0 0"
+    ∷ "use 9 7"
+    ∷ "seg 3 8 26 0"
+    ∷ "use 7 2 0 3 0"
+    ∷ "use 6 6 1 3 1"
+    ∷ "end"
+    ∷ []
+
+printedRecords : List String
+printedRecords =
+    "vreg 0 0 1 7f800000 - 0 1"
+    ∷ "seg 0 2 4 6 own"
+    ∷ "use 5 0 0 1"
+    ∷ "vreg 1 0 2 3e924925 - 0 1"
+    ∷ "seg 0 4 26 5 own"
+    ∷ "use 4 6 0 2"
+    ∷ "vreg 2 0 1 7f800000 - 0 0"
+    ∷ "seg 5 28 30 1 own"
+    ∷ "use 4 7 0 1"
+    ∷ "use 3 7"
+    ∷ "vreg 3 0 2 40000000 - 0 0"
+    ∷ "seg 5 28 30 1 conflict"
+    ∷ "use 4 7 1 2"
+    ∷ "vreg 4 1 0 3daaaaab - 0 0"
+    ∷ "seg 1 2 20 8 own"
+    ∷ "use 0 0 1"
+    ∷ "use 1 4 0"
+    ∷ "vreg 5 2 0 3be38e39 - 0 0"
+    ∷ "seg 2 0 32 3 own"
+    ∷ "use 8 0 4294967295"
+    ∷ "use 2 3 0 1 0 0"
+    ∷ "use 9 7"
+    ∷ "vreg 6 3 3 7f800000 0 0 0"
+    ∷ "seg 3 8 12 2 own"
+    ∷ "use 7 2 0 3 0"
+    ∷ "vreg 7 3 3 3ecccccd 1 1 0"
+    ∷ "seg 3 12 26 1 own"
+    ∷ "use 6 6 1 3 1"
+    ∷ "group 0 6 -"
+    ∷ "group 1 - 7"
+    ∷ "end 8 2"
+    ∷ []
+
+every-record : vregsOf (text everyRecord) ≡ text printedRecords
+unfolding vregsOf text everyRecord printedRecords
+every-record = refl
 
 -- ---- case A's sheet with a change: line n is another one, is left out, has a line before it
 
@@ -90,9 +176,15 @@ cases =
     ∷ (changed 1 "bank  0", "refused 1")
     ∷ (changed 1 "bank 0 ", "refused 1")
     ∷ (changed 1 "bank", "refused 1")
+    ∷ (changed 1 "bank ", "refused 1")
+    ∷ (changed 1 "bank /", "refused 1")
+    ∷ (changed 1 "bank :", "refused 1")
     ∷ (changed 1 "bank 4294967296", "refused 1")
     ∷ (changed 1 "bank 4294967295", "refused 3")
     ∷ (changed 2 "class 0000000A 3f800000 1 0", "refused 1")
+    ∷ (changed 2 "class 0000000g 3f800000 1 0", "refused 1")
+    ∷ (changed 2 "class 0000000` 3f800000 1 0", "refused 1")
+    ∷ (changed 2 "class 0000000: 3f800000 1 0", "refused 1")
     ∷ (changed 2 "class 000000007 3f800000 1 0", "refused 1")
     ∷ (changed 2 "class 7 3f800000 1 0", "refused 1")
     ∷ (changed 2 "class 00000007 3f800000 1 2", "refused 1")
@@ -116,6 +208,62 @@ cases =
 cases-hold : map (λ c. vregsOf (c .0)) cases ≡ map (λ c. text (c .1 ∷ [])) cases
 unfolding vregsOf text cases
 cases-hold = refl
+
+-- ---- the order of the records
+
+oneEach : List String
+oneEach =
+    "opt 0 00000000 00000000 00000000"
+    ∷ "bank 0"
+    ∷ "class 00000001 00000000 1 0"
+    ∷ "reg 0"
+    ∷ "block 1 00000000"
+    ∷ "value 0 0 0"
+    ∷ "vgroup"
+    ∷ "operand 0 0 0 0"
+    ∷ "hint 0 0 0"
+    ∷ "seg 0 0 4 0"
+    ∷ "use 9 0"
+    ∷ "end"
+    ∷ []
+
+-- 1 for a sheet, 0 for none
+mark : Option (List Record) → ℕ
+mark none = 48
+mark (some rs) = 49
+
+isSheet : List String → ℕ
+unfolding mark sheetOf text
+isSheet ls = mark (sheetOf (text ls))
+
+-- each of the twelve put before line n
+puts : ℕ → List ℕ
+unfolding isSheet oneEach
+puts n = map (λ l. isSheet (take n oneEach ++ (l ∷ drop n oneEach))) oneEach
+
+put-in : map puts (0 ∷ 1 ∷ 2 ∷ 3 ∷ 4 ∷ 5 ∷ 6 ∷ 7 ∷ 8 ∷ 9 ∷ 10 ∷ 11 ∷ 12 ∷ [])
+    ≡ map (λ s. bytes s) ("000000000000" ∷ "010000000000" ∷ "011000000000" ∷ "001100000000" ∷ "000110000000" ∷ "000011000000" ∷ "000001100000"
+    ∷ "000000110000" ∷ "000000011000" ∷ "000000001100" ∷ "000000000110" ∷ "000000000110" ∷ "000000000000" ∷ [])
+unfolding puts
+put-in = refl
+
+-- with and without each of these
+ways : List (List String) → List (List String)
+ways [] = [] ∷ []
+ways (p ∷ ps) = let r = ways ps in map (λ w. p ++ w) r ++ r
+
+-- reg, value, vgroup, operand, hint and seg with its use may each be missing
+parts : List (List String)
+unfolding oneEach
+parts = map (λ n. take 1 (drop n oneEach)) (5 ∷ 6 ∷ 7 ∷ 8 ∷ []) ++ (take 2 (drop 9 oneEach) ∷ [])
+
+sheets : List (List String)
+unfolding ways parts oneEach
+sheets = map (λ w. take 5 oneEach ++ (w ++ drop 11 oneEach)) (ways parts) ++ map (λ w. take 3 oneEach ++ (take 1 (drop 4 oneEach) ++ (w ++ drop 11 oneEach))) (ways parts)
+
+left-out : map isSheet sheets ≡ replicate 64 49
+unfolding isSheet sheets
+left-out = refl
 
 -- ---- what the writer makes of a use and of flags is what the reader reads
 
