@@ -236,34 +236,30 @@ isSheet : List String → ℕ
 unfolding mark sheetOf text
 isSheet ls = mark (sheetOf (text ls))
 
--- each of the twelve put before line n
-puts : ℕ → List ℕ
+-- the lines up to line n, and then those from each of the twelve on: which records may follow that of line n
+followers : ℕ → List ℕ
 unfolding isSheet oneEach
-puts n = map (λ l. isSheet (take n oneEach ++ (l ∷ drop n oneEach))) oneEach
+followers n = map (λ m. isSheet (take (n + 1) oneEach ++ drop m oneEach)) (0 ∷ 1 ∷ 2 ∷ 3 ∷ 4 ∷ 5 ∷ 6 ∷ 7 ∷ 8 ∷ 9 ∷ 10 ∷ 11 ∷ [])
 
-put-in : map puts (0 ∷ 1 ∷ 2 ∷ 3 ∷ 4 ∷ 5 ∷ 6 ∷ 7 ∷ 8 ∷ 9 ∷ 10 ∷ 11 ∷ 12 ∷ [])
-    ≡ map (λ s. bytes s) ("000000000000" ∷ "010000000000" ∷ "011000000000" ∷ "001100000000" ∷ "000110000000" ∷ "000011000000" ∷ "000001100000"
-    ∷ "000000110000" ∷ "000000011000" ∷ "000000001100" ∷ "000000000110" ∷ "000000000110" ∷ "000000000000" ∷ [])
-unfolding puts
-put-in = refl
+order : List (ℕ × String)
+order =
+    (0, "010000000000")
+    ∷ (1, "011000000000")
+    ∷ (2, "001110000000")
+    ∷ (3, "000110000000")
+    ∷ (4, "000011111101")
+    ∷ (5, "000001111101")
+    ∷ (6, "000000111101")
+    ∷ (7, "000000011101")
+    ∷ (8, "000000001101")
+    ∷ (9, "000000000111")
+    ∷ (10, "000000000111")
+    ∷ (11, "000000000000")
+    ∷ []
 
--- with and without each of these
-ways : List (List String) → List (List String)
-ways [] = [] ∷ []
-ways (p ∷ ps) = let r = ways ps in map (λ w. p ++ w) r ++ r
-
--- reg, value, vgroup, operand, hint and seg with its use may each be missing
-parts : List (List String)
-unfolding oneEach
-parts = map (λ n. take 1 (drop n oneEach)) (5 ∷ 6 ∷ 7 ∷ 8 ∷ []) ++ (take 2 (drop 9 oneEach) ∷ [])
-
-sheets : List (List String)
-unfolding ways parts oneEach
-sheets = map (λ w. take 5 oneEach ++ (w ++ drop 11 oneEach)) (ways parts) ++ map (λ w. take 3 oneEach ++ (take 1 (drop 4 oneEach) ++ (w ++ drop 11 oneEach))) (ways parts)
-
-left-out : map isSheet sheets ≡ replicate 64 49
-unfolding isSheet sheets
-left-out = refl
+order-holds : map (λ c. followers (c .0)) order ≡ map (λ c. bytes (c .1)) order
+unfolding followers order
+order-holds = refl
 
 -- ---- what the writer makes of a use and of flags is what the reader reads
 
