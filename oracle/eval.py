@@ -3,9 +3,11 @@
 
     eval.py MANIFEST [--bytes N] [--lemma N]
 
-A line of MANIFEST has four fields, parted by tabs: the job sheet's path; the path of the expected output
-(a register sheet, or a refusal's line), or `sheet` or `no-sheet` where only number 1 is compared; the room as registers,segments,uses,groups, or - for that of `vregs`;
-the stop's name (no-start, turned-def, values-differ, mapped-twice, overlap, none-admitted), or - where it is not compared.
+A line of MANIFEST has four fields, parted by tabs:
+- the job sheet's path;
+- the path of the expected output (a register sheet, or a refusal's line), or `sheet` or `no-sheet` where only number 1 is compared;
+- the room as registers,segments,uses,groups, or - for that of `vregs`;
+- the stop's name (no-start, turned-def, values-differ, mapped-twice, overlap, none-admitted), or - where it is not compared.
 
 A temporary copy of crates/definition, without its proofs, gets a module of tables: sheets and expected outputs
 as texts, and an equation by computation for each lemma. A module holds about --bytes bytes of sheets, a lemma
@@ -187,44 +189,46 @@ class Checker:
         shutil.rmtree(self.folder, ignore_errors=True)
 
 
+def hold(checker, groups, found):
+    """Sorts the cases of the groups into found; a refused group is tried case by case."""
+    bad = checker.refused(groups)
+    if bad is None:
+        print(checker.log[-2000:], file=sys.stderr)
+        found['no verdict'] += [c for g in groups for c in g]
+        return
+    alone = []
+    for i, group in enumerate(groups):
+        if i not in bad:
+            found['agrees'] += group
+        elif len(group) == 1:
+            found['differs'] += group
+        else:
+            alone += [[c] for c in group]
+    if alone:
+        hold(checker, alone, found)
+
+
 def main():
     args = argparse.ArgumentParser(description='Holds the definition to expected answers.')
     args.add_argument('manifest')
-    args.add_argument('--bytes', type=int, default=100000)
-    args.add_argument('--lemma', type=int, default=5000)
-    args.add_argument('--keep', action='store_true', help='keep the temporary copy')
+    args.add_argument('--bytes', type=int, default=100000, help='of sheets and expected outputs in a module')
+    args.add_argument('--lemma', type=int, default=5000, help='of sheets and expected outputs under a lemma')
     args = args.parse_args()
     with open(args.manifest) as f:
         cases = [Case(l.rstrip('\n').split('\t')) for l in f if l.strip()]
+    found = {'agrees': [], 'differs': [], 'no verdict': []}
     checker = Checker(os.path.dirname(HERE))
-    differed, open_, agreed = [], [], 0
-    for chunk in grouped(cases, args.bytes):
-        groups = list(grouped(chunk, args.lemma))
-        todo = [groups]
-        while todo:
-            groups = todo.pop()
-            bad = checker.refused(groups)
-            if bad is None:
-                print(checker.log[-2000:], file=sys.stderr)
-                open_ += [c for g in groups for c in g]
-                continue
-            agreed += sum(len(g) for i, g in enumerate(groups) if i not in bad)
-            if bad:
-                single = [groups[i][0] for i in bad if len(groups[i]) == 1]
-                differed += single
-                rest = [[c] for i in bad if len(groups[i]) > 1 for c in groups[i]]
-                if rest:
-                    todo.append(rest)
-        print(f'{agreed} agreed, {len(differed)} differed, {len(open_)} without a verdict '
-              f'({checker.seconds:.0f} s)', flush=True)
-    for word, found in (('differs', differed), ('no verdict', open_)):
-        for c in found:
-            print(f'{word}\t{c.path}')
-    if args.keep:
-        print(checker.folder)
-    else:
+    try:
+        for chunk in grouped(cases, args.bytes):
+            hold(checker, list(grouped(chunk, args.lemma)), found)
+            counts = [len(found[word]) for word in ('agrees', 'differs', 'no verdict')]
+            print('{} agreed, {} differed, {} without a verdict ({:.0f} s)'.format(*counts, checker.seconds), flush=True)
+    finally:
         checker.close()
-    sys.exit(0 if agreed == len(cases) else 1)
+    for word in ('differs', 'no verdict'):
+        for c in found[word]:
+            print(word, c.path, sep='\t')
+    sys.exit(0 if len(found['agrees']) == len(cases) else 1)
 
 
 if __name__ == '__main__':
