@@ -1,4 +1,4 @@
--- The words of the promises on accepted jobs: a value's points and uses, a set's ranges and own pieces, their order, the lines of a result, classes.
+-- The words of the promises on accepted jobs: a value's points and uses, a set's ranges and own pieces, their order, classes.
 -- Assumes nothing.
 use mathlib.Core.Path.{_≡_}
 use mathlib.Core.Logic.{_⊎_}
@@ -13,6 +13,7 @@ use Rattle.definition.specs.RegInfo.{classAt, setOf}
 use Rattle.definition.specs.Uses.{isClassUse}
 use Rattle.definition.specs.Place.{total}
 use Rattle.definition.specs.Lines.{useNumbers}
+use Rattle.definition.specs.Text.{same}
 use Rattle.definition.specs.Build.{one, turnedUse}
 
 -- ---- points: those of the seg records, `to` excluded
@@ -34,12 +35,6 @@ unfolding total
 covered x ss = total (λ s. one (covers x s)) ss
 
 -- ---- uses: the use lines under the seg records, the same if kind and all fields are
-
-abbrev pub same : List ℕ → List ℕ → Bool
-same [] [] = true
-same [] (y ∷ ys) = false
-same (x ∷ xs) [] = false
-same (x ∷ xs) (y ∷ ys) = eqb x y && same xs ys
 
 unfoldable pub sameUse : Use → Use → Bool
 sameUse w u = same (useNumbers w) (useNumbers u)
