@@ -10,8 +10,8 @@ aside=$(mktemp -d)
 trap 'rm -rf "$aside"' EXIT
 : > "$aside/manifest"
 for profile in small classes groups hints floats rooms; do
-  "$bin/gen" "$profile" "$seed" "$jobs" | eval/frames.py "$bin/oracle" "$aside/$profile" "$profile" >> "$aside/manifest"
+  "$bin/gen" "$profile" "$seed" "$jobs" | python3 eval/frames.py "$bin/oracle" "$aside/$profile" "$profile" >> "$aside/manifest"
 done
-"$bin/gen" damaged "$seed" "$damaged" | eval/frames.py "$bin/oracle" "$aside/damaged" damaged >> "$aside/manifest"
+"$bin/gen" damaged "$seed" "$damaged" | python3 eval/frames.py "$bin/oracle" "$aside/damaged" damaged >> "$aside/manifest"
 cut -f2 "$aside/manifest" | while read -r out; do head -n 1 "$out" | grep '^refused' || echo accepted; done | sort | uniq -c
 python3 eval.py "$aside/manifest"
