@@ -1,5 +1,5 @@
 #!/usr/bin/env bash
-# Generates jobs of every profile and damaged sheets, has the oracle answer them, and holds the definition to the answers
+# Generates jobs of every profile (of limits: those up to 8,000 bytes) and damaged sheets, has the oracle answer them, and holds the definition to the answers
 # by computation (eval.py). usage: evaluate.sh [JOBS_PER_PROFILE [DAMAGED [SEED]]]   (default 200, 400, 1)
 set -eu
 cd "$(dirname "$0")"
@@ -13,5 +13,7 @@ for profile in small classes groups hints floats rooms; do
   "$bin/gen" "$profile" "$seed" "$jobs" | python3 eval/frames.py "$bin/oracle" "$aside/$profile" "$profile" >> "$aside/manifest"
 done
 "$bin/gen" damaged "$seed" "$damaged" | python3 eval/frames.py "$bin/oracle" "$aside/damaged" damaged >> "$aside/manifest"
+# jobs at the limits: those that the checker can compute
+"$bin/gen" limits "$seed" "$jobs" | python3 eval/frames.py "$bin/oracle" "$aside/limits" limits 8000 >> "$aside/manifest"
 cut -f2 "$aside/manifest" | while read -r out; do head -n 1 "$out" | grep '^refused' || echo accepted; done | sort | uniq -c
 python3 eval.py "$aside/manifest"
