@@ -1,0 +1,1 @@
+// Lemmas on rows of words in flat tables; no code.
