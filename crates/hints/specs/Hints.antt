@@ -1,0 +1,24 @@
+-- Rows of hints, and the search by key. Assumes nothing.
+use Prim.Native.Nat.{ℕ, suc, _+_, _*_}
+use mathlib.Core.Bool.{Bool, true, false, _&&_, _||_}
+use mathlib.Core.List.{List, [], _∷_}
+use lib.Dec.{leb, ltb, eqb}
+use lib.ListN.{getD}
+use Rattle.definition.specs.declared.Value.{Value}
+use Rattle.definition.specs.declared.Hint.{Hint}
+use Rattle.definition.specs.Types.{val, inst}
+use Rattle.definition.specs.Hints.{asKey}
+
+-- the hint whose row (value, instruction, side) begins at word i: incoming if the side is 1. The job's own tests refuse a side above 1.
+unfoldable pub hintAt : List ℕ → ℕ → Hint
+hintAt W i = record { value = val (getD W i 0); inst = inst (getD W (i + 1) 0); incoming = eqb (getD W (i + 2) 0) 1 }
+
+-- h is sorted before key k of value v
+unfoldable pub keyBelow : Value → ℕ → Hint → Bool
+keyBelow v k h = ltb (h .value .0) (v .0) || (eqb (h .value .0) (v .0) && ltb (asKey h) k)
+
+-- how many of the hints are before key k of value v, where none behind the first that is not is
+unfoldable pub firstFrom : Value → ℕ → List Hint → ℕ
+unfolding keyBelow
+firstFrom v k [] = 0
+firstFrom v k (h ∷ hs) = elim (keyBelow v k h) [ true ↦ suc (firstFrom v k hs) | false ↦ 0 ]
