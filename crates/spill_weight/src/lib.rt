@@ -59,6 +59,7 @@ pub fn add_cost(sum: f32, cost: f32, freq: f32) -> f32
 {
     if cost == 0.0 { sum } else { sum + cost * freq }
 <<<<<<< HEAD
+<<<<<<< HEAD
 }
 
 // One use more, by its cost and its value's remat kind: the scaled cost is tested.
@@ -70,6 +71,8 @@ pub fn add_use(sum: f32, options: Options, remat: Remat, cost: f32, freq: f32) -
     add_cost(sum, by_scale, freq)
 =======
 >>>>>>> leaves2
+=======
+>>>>>>> cutfinder
 }
 
 // The sum over instructions and k, at most `MAX`.
