@@ -58,8 +58,6 @@ pub fn add_cost(sum: f32, cost: f32, freq: f32) -> f32
     ensures { λ r. ⌜ (r ≡ addCost sum cost freq) × T (nonneg r) ⌝ }
 {
     if cost == 0.0 { sum } else { sum + cost * freq }
-<<<<<<< HEAD
-<<<<<<< HEAD
 }
 
 // One use more, by its cost and its value's remat kind: the scaled cost is tested.
@@ -69,10 +67,6 @@ pub fn add_use(sum: f32, options: Options, remat: Remat, cost: f32, freq: f32) -
 {
     let by_scale = scaled_cost(options, remat, cost);
     add_cost(sum, by_scale, freq)
-=======
->>>>>>> leaves2
-=======
->>>>>>> cutfinder
 }
 
 // The sum over instructions and k, at most `MAX`.
