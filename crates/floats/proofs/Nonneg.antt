@@ -1,8 +1,8 @@
 -- What the operations of a weight make of values that are not negative: no NaN arises. Assumes nothing.
-use mathlib.Core.Path.{_≡_, refl, sym, ap, _∙_, subst}
+use mathlib.Core.Path.{_≡_, sym, subst}
 use Prim.Native.Nat.{ℕ, zero, suc, _+_, _*_, _^_, _≤_, _<_}
 use native.Mathlib.Omega.{arith}
-use mathlib.Core.Bool.{Bool, true, false, not, _&&_, cond}
+use mathlib.Core.Bool.{Bool, true, false, not, cond}
 use lib.IntN.{pos}
 use lib.Dec.{T, ltb, eqb, ltb→lt, le→leb, eqb→eq}
 use lib.Ieee.{Float, nan, inf, fin, Format, binary32, prec, emax, low, odd, units, round, add, mul, div, lt, ofInt, inFloat, isNan}

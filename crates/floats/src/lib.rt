@@ -1,6 +1,6 @@
 // Floats and their bit patterns: the entry rules as tests on bits, the lesser of two weights.
 ghost use mathlib.Core.Path.{_≡_};
-ghost use Prim.Native.Nat.{ℕ, _≤_};
+ghost use Prim.Native.Nat.{_≤_};
 ghost use lib.Dec.{T};
 ghost use lib.Ieee.{binary32, toBits, ofBits};
 ghost use Rattle.definition.specs.Entry.{plain, small};

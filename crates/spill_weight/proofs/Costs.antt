@@ -1,12 +1,11 @@
 -- The functions' ways, and that costs stay finite and sums and weights stay not negative. Assumes nothing.
 use mathlib.Core.Path.{_≡_, refl, sym, ap, _∙_, subst}
 use Prim.Native.Nat.{ℕ, zero, suc, _+_, _*_, _≤_, _<_}
-use native.Mathlib.Nat.{zero-mul, mul-one, mul-pos, zero-lt-suc, lt-irrefl}
-use native.Mathlib.Omega.{arith}
+use native.Mathlib.Nat.{zero-mul, mul-pos, zero-lt-suc, lt-irrefl}
 use mathlib.Core.Bool.{Bool, true, false, not, _&&_, cond}
 use lib.IntN.{ℤ, pos}
 use lib.Dec.{T, leb, eqb, not-T, eqb→eq}
-use lib.Ieee.{Float, nan, inf, fin, binary32, up, down, add, mul, div, lt, le, eq, ofInt, ofBits, toBits, fits}
+use lib.Ieee.{Float, nan, inf, fin, binary32, up, down, add, mul, div, eq, ofInt, ofBits, fits}
 use lib.Ieee.Bits.{is-false}
 use lib.Ieee.Fits.{up-pos, cond-fits, inf-fits, div-fits}
 use Rattle.definition.specs.declared.UseKind.{UseKind}
@@ -20,7 +19,7 @@ use Rattle.definition.specs.Entry.{plain, small}
 use Rattle.definition.specs.Weights.{scaled, isZeroF, addCost, minF, maxF, normalized}
 use Rattle.floats.specs.Nonneg.{nonneg, Weight}
 use Rattle.floats.proofs.Nonneg.{plain-nonneg, cond-nonneg, add-nonneg, mul-nonneg, div-nonneg, count-positive, min-plain, min-weight}
-use Rattle.floats.proofs.Bits.{small-plain, product-plain, nonneg-bits, inf-bits}
+use Rattle.floats.proofs.Bits.{small-plain, product-plain, inf-bits}
 use Rattle.spill_weight.specs.Costs.{fixedCost, baseCost, weightFrom, SmallScales}
 
 -- ---- the cost of a use

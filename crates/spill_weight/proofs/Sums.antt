@@ -2,13 +2,13 @@
 use mathlib.Core.Path.{_≡_, refl, sym, ap, _∙_, subst}
 use Prim.Native.Nat.{ℕ, zero, suc, _+_, _-_, _≤_, _<_}
 use native.Mathlib.Numerals.{add-one}
-use mathlib.Core.Bool.{Bool, true, false, not, _&&_, cond}
+use mathlib.Core.Bool.{Bool, true, false, not, cond}
 use mathlib.Core.Option.{Option, none, some}
 use mathlib.Core.List.{List, [], _∷_, _++_}
 use lib.Dec.{T, leb, ltb, eqb}
 use lib.ListN.{length, drop, getD, drop-of-length-le}
 use lib.Seq.{drop-cons}
-use lib.Ieee.{Float, binary32, ofBits, toBits, fits}
+use lib.Ieee.{Float, binary32}
 use lib.Ieee.Fits.{and-l, and-r, cond-fits}
 use Rattle.definition.specs.declared.RegClass.{RegClass}
 use Rattle.definition.specs.declared.VirtReg.{VirtReg}
@@ -20,7 +20,7 @@ use Rattle.definition.specs.declared.ClassData.{ClassData}
 use Rattle.definition.specs.declared.Remat.{Remat}
 use Rattle.definition.specs.declared.Refusal.{Refusal}
 use Rattle.definition.specs.declared.Refusal.the-variants.{OverALimit}
-use Rattle.definition.specs.Types.{Segment, Job, Register, State}
+use Rattle.definition.specs.Types.{Segment, Job, State}
 use Rattle.definition.specs.RegInfo.{zeroF, noClass, classAt, valueAt}
 use Rattle.definition.specs.Uses.{costOf}
 use Rattle.definition.specs.LiveRange.{liveInsts}
@@ -31,8 +31,7 @@ use Rattle.definition.specs.Place.{isNone, leastWeight}
 use Rattle.definition.specs.Entry.{plain, small, conj, every, classOk, classTests, bookOk, bookTests, blockOk, functionOk, functionTests, lowestOf, entry, entryTests}
 use Rattle.floats.specs.Nonneg.{nonneg, Weight}
 use Rattle.floats.proofs.Nonneg.{cond-nonneg, min-weight}
-use Rattle.floats.proofs.Bits.{small-plain}
-use Rattle.spill_weight.specs.Costs.{baseCost, classCost, inMemory, weightFrom, SmallScales, PlainJob}
+use Rattle.spill_weight.specs.Costs.{baseCost, classCost, inMemory, weightFrom, PlainJob}
 use Rattle.spill_weight.proofs.Costs.{zero-small, base-small, scaled-plain, addCost-nonneg, weightFrom-weight}
 
 -- ---- a job's costs and weights are those of this crate

@@ -3,7 +3,7 @@ use definition::Options;
 use definition::Remat;
 use definition::UseKind;
 ghost use mathlib.Core.Path.{_≡_};
-ghost use Prim.Native.Nat.{ℕ, _≤_};
+ghost use Prim.Native.Nat.{_≤_};
 ghost use lib.Dec.{T};
 ghost use Rattle.definition.specs.Entry.{plain, small};
 ghost use Rattle.definition.specs.Weights.{scaled, addCost, normalized};

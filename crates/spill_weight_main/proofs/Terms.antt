@@ -3,11 +3,11 @@ use mathlib.Core.Path.{_≡_, refl, sym, ap, _∙_, subst}
 use Prim.Native.Nat.{ℕ, _+_, _≤_, _<_}
 use native.Mathlib.Numerals.{add-one}
 use native.Mathlib.Omega.{arith}
-use mathlib.Core.Bool.{Bool}
+use mathlib.Core.Bool.{Bool, false}
 use lib.Dec.{T}
-use lib.Ieee.{Float, binary32, ofBits, toBits}
+use lib.Ieee.{Float, binary32, ofBits, toBits, add, mul, div, lt, ofInt}
 use Rattle.definition.specs.Entry.{plain}
-use Rattle.definition.specs.Weights.{addCost}
+use Rattle.definition.specs.Weights.{addCost, minF, normalized}
 use Rattle.definition.specs.RegInfo.{zeroF}
 use Rattle.floats.specs.Nonneg.{nonneg}
 use Rattle.floats.proofs.Bits.{bits-plain}
@@ -52,3 +52,8 @@ pub done : {n : ℕ} {t : Float} {i : ℕ} → Summing n t i → n ≤ i → (t 
 done {n} {t} {i} s h =
     let e : i ≡ n = omega arith in
     (s .is ∙ ap sumTerms e, s .sound)
+
+-- the weight of the hundred over 37 instructions and k = 5
+pub hundred-bits : bitsFrom (sumTerms 100) 37 5 false ≡ 0x3f14_12d1
+unfolding addTerm bitsFrom costAt sumTerms addCost minF normalized weightFrom ofBits toBits add mul div lt ofInt
+hundred-bits = refl

@@ -3,7 +3,7 @@ use definition::Options;
 use definition::Remat;
 use definition::UseKind;
 ghost use mathlib.Core.Path.{_≡_};
-ghost use Prim.Native.Nat.{ℕ, _≤_, _<_};
+ghost use Prim.Native.Nat.{_≤_, _<_};
 ghost use lib.Dec.{T};
 ghost use Rattle.definition.specs.RegInfo.{zeroF};
 ghost use Rattle.floats.specs.Nonneg.{nonneg};
@@ -50,12 +50,6 @@ fn sum_terms(n: u32) -> f32
         i += 1;
     }
     sum
-}
-
-// Another order, a sum in f64 or fused products give other bits.
-fn hundred() {
-    let sum = sum_terms(100);
-    check::expect(floats::bits_of(spill_weight::weight(sum, 37, 5, false)) == 0x3f1412d1);
 }
 
 // Case A's weights; an overflow; a subnormal; one instruction without and with spillslots.
@@ -105,9 +99,11 @@ fn scales() {
     );
 }
 
+// A hundred uses: another order, a sum in f64 or fused products give other bits.
 fn main() {
+    let sum = sum_terms(100);
+    check::expect(floats::bits_of(spill_weight::weight(sum, 37, 5, false)) == 0x3f1412d1);
     singles();
-    hundred();
     patterns();
     scales();
 }

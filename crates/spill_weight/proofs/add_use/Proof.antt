@@ -5,8 +5,6 @@ use lib.Ieee.{Float}
 use Rattle.definition.specs.Weights.{addCost}
 use Rattle.spill_weight.proofs.add_use.Statement.{statement}
 use Rattle.spill_weight.proofs.add_use.Tie as tie
-use Rattle.spill_weight.proofs.add_cost.Reads as add-cost-reads
-use Rattle.spill_weight.proofs.scaled_cost.Reads as scaled-cost-reads
 
 scaled-cost-requires : tie.Need-scaled-cost-requires
 scaled-cost-requires c κs = search needs

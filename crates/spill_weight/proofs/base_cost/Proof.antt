@@ -6,7 +6,6 @@ use Rattle.spill_weight.specs.Costs.{baseCost}
 use Rattle.spill_weight.proofs.Costs.{is-base, is-base-fixed}
 use Rattle.spill_weight.proofs.base_cost.Statement.{statement}
 use Rattle.spill_weight.proofs.base_cost.Tie as tie
-use Rattle.spill_weight.proofs.fixed_cost.Reads as fixed-cost-reads
 
 enum-told : tie.Need-enum-told
 enum-told c = search needs

@@ -5,7 +5,6 @@ use Rattle.floats.proofs.Nonneg.{count-exact}
 use Rattle.spill_weight.proofs.Costs.{max-bits, is-normalized}
 use Rattle.spill_weight.proofs.normalize.Statement.{statement}
 use Rattle.spill_weight.proofs.normalize.Tie as tie
-use Rattle.floats.proofs.lesser.Reads as lesser-reads
 
 add-n : tie.Need-add-n
 add-n c = search needs

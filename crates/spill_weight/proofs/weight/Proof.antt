@@ -1,15 +1,13 @@
 -- `spill_weight::weight` meets its contract. Assumes nothing.
 use mathlib.Core.Path.{_≡_}
 use mathlib.Core.Logic.{⊎-elim}
-use mathlib.Core.Bool.{true, false, not, _&&_}
+use mathlib.Core.Bool.{false, not, _&&_}
 use lib.Dec.{leb}
 use borrow.Author.Needs.{needs}
 use borrow.Author.Tests.{le-leb, lt-leb}
 use Rattle.spill_weight.proofs.Costs.{and-no, is-infinite, is-finite}
 use Rattle.spill_weight.proofs.weight.Statement.{statement}
 use Rattle.spill_weight.proofs.weight.Tie as tie
-use Rattle.floats.proofs.float_of.Reads as float-of-reads
-use Rattle.spill_weight.proofs.normalize.Reads as normalize-reads
 
 float-of-requires : tie.Need-float-of-requires
 float-of-requires c κs = search needs

@@ -3,8 +3,6 @@ use borrow.Author.Needs.{needs}
 use Rattle.spill_weight_main.proofs.Terms.{read-plain, added}
 use Rattle.spill_weight_main.proofs.add_term.Statement.{statement}
 use Rattle.spill_weight_main.proofs.add_term.Tie as tie
-use Rattle.floats.proofs.float_of.Reads as float-of-reads
-use Rattle.spill_weight.proofs.add_cost.Reads as add-cost-reads
 
 float-of-requires : tie.Need-float-of-requires
 float-of-requires c κs = search needs

@@ -7,9 +7,6 @@ use Rattle.spill_weight_main.specs.Terms.{addTerm}
 use Rattle.spill_weight_main.proofs.Terms.{zero-bits, weighed}
 use Rattle.spill_weight_main.proofs.one_term.Statement.{statement}
 use Rattle.spill_weight_main.proofs.one_term.Tie as tie
-use Rattle.floats.proofs.bits_of.Reads as bits-of-reads
-use Rattle.spill_weight.proofs.weight.Reads as weight-reads
-use Rattle.spill_weight_main.proofs.add_term.Reads as add-term-reads
 
 add-term-requires : tie.Need-add-term-requires
 unfolding ofBits

@@ -1,17 +1,13 @@
 -- `spill_weight_main::patterns` meets its contract. Assumes nothing.
-use mathlib.Core.Path.{_∙_, ap}
+use mathlib.Core.Path.{ap}
 use mathlib.Core.Bool.{not}
 use borrow.Author.Needs.{needs}
 use borrow.Author.Tests.{eq-eqb}
-use lib.Ieee.{ofBits, toBits, lt, le}
-use Rattle.definition.specs.Entry.{plain, small}
+use lib.Ieee.{ofBits, toBits, lt}
+use Rattle.definition.specs.Entry.{small}
 use Rattle.definition.specs.Weights.{minF}
 use Rattle.spill_weight_main.proofs.patterns.Statement.{statement}
 use Rattle.spill_weight_main.proofs.patterns.Tie as tie
-use Rattle.check.proofs.expect.Reads as expect-reads
-use Rattle.floats.proofs.is_plain.Reads as is-plain-reads
-use Rattle.floats.proofs.is_small.Reads as is-small-reads
-use Rattle.floats.proofs.lesser_bits.Reads as lesser-bits-reads
 
 is-plain-requires : tie.Need-is-plain-requires
 is-plain-requires c κs = search needs

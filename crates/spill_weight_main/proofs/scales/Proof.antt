@@ -4,20 +4,15 @@ use borrow.Author.Needs.{needs}
 use borrow.Author.Tests.{eq-eqb}
 use lib.Dec.{T}
 use Prim.Native.Nat.{ℕ}
-use lib.Ieee.{Float, binary32, ofBits, toBits, add, mul, le}
+use lib.Ieee.{Float, binary32, ofBits, toBits, add, mul}
 use Rattle.definition.specs.declared.Options.{Options}
 use Rattle.definition.specs.declared.Remat.{Remat}
-use Rattle.definition.specs.declared.Remat.the-variants.{CheaperThanMove, CheaperThanLoad, Indirect}
+use Rattle.definition.specs.declared.Remat.the-variants.{CheaperThanLoad, Indirect}
 use Rattle.definition.specs.Entry.{small}
 use Rattle.definition.specs.Weights.{scaled, addCost}
 use Rattle.spill_weight.specs.Costs.{baseCost, SmallScales}
 use Rattle.spill_weight_main.proofs.scales.Statement.{statement}
 use Rattle.spill_weight_main.proofs.scales.Tie as tie
-use Rattle.check.proofs.expect.Reads as expect-reads
-use Rattle.floats.proofs.bits_of.Reads as bits-of-reads
-use Rattle.floats.proofs.float_of.Reads as float-of-reads
-use Rattle.spill_weight.proofs.add_use.Reads as add-use-reads
-use Rattle.spill_weight.proofs.base_cost.Reads as base-cost-reads
 
 abbrev options : Options
 options = record { adjust = 0; «cheaper_than_move» = ofBits binary32 0x3dcc_cccd; «cheaper_than_load» = ofBits binary32 0x3e80_0000; indirect = ofBits binary32 0x3f80_0000 }

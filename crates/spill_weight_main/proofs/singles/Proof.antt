@@ -1,5 +1,4 @@
 -- `spill_weight_main::singles` meets its contract: each weight computed. Assumes nothing.
-use mathlib.Core.Path.{_∙_}
 use borrow.Author.Needs.{needs}
 use borrow.Author.Tests.{eq-eqb}
 use lib.Ieee.{ofBits, toBits, add, mul, div, lt, ofInt}
@@ -8,8 +7,6 @@ use Rattle.spill_weight.specs.Costs.{weightFrom}
 use Rattle.spill_weight_main.specs.Terms.{addTerm, bitsFrom}
 use Rattle.spill_weight_main.proofs.singles.Statement.{statement}
 use Rattle.spill_weight_main.proofs.singles.Tie as tie
-use Rattle.check.proofs.expect.Reads as expect-reads
-use Rattle.spill_weight_main.proofs.one_term.Reads as one-term-reads
 
 one-term-requires : tie.Need-one-term-requires
 one-term-requires c κs = search needs

@@ -1,12 +1,9 @@
 -- `spill_weight_main::sum_terms` meets its contract. Assumes nothing.
 use Prim.Native.Nat.{_-_}
 use native.Mathlib.Omega.{arith}
-use borrow.Author.Needs.{needs}
 use Rattle.spill_weight_main.proofs.Terms.{Summing, start, next, done}
 use Rattle.spill_weight_main.proofs.sum_terms.Statement.{statement}
 use Rattle.spill_weight_main.proofs.sum_terms.Tie as tie
-use Rattle.spill_weight_main.proofs.add_term.Reads as add-term-reads
-use Rattle.spill_weight_main.proofs.cost_at.Reads as cost-at-reads
 
 abbrev Inv-loop : tie.InvT-loop
 Inv-loop n sum₀ i₀ sum i = Summing n sum i
