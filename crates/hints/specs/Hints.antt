@@ -1,9 +1,13 @@
 -- Rows of hints, and the search by key. Assumes nothing.
-use Prim.Native.Nat.{ℕ, suc, _+_, _*_}
+use mathlib.Core.Path.{_≡_}
+use Prim.Native.Nat.{ℕ, suc, _+_, _<_}
+use native.Mathlib.Nat.{add-zero}
+use native.Mathlib.Omega.{arith}
 use mathlib.Core.Bool.{Bool, true, false, _&&_, _||_}
 use mathlib.Core.List.{List, [], _∷_}
-use lib.Dec.{leb, ltb, eqb}
+use lib.Dec.{ltb, eqb}
 use lib.ListN.{getD}
+use Rattle.rows.specs.RowsAt.{Reads}
 use Rattle.definition.specs.declared.Value.{Value}
 use Rattle.definition.specs.declared.Hint.{Hint}
 use Rattle.definition.specs.Types.{val, inst}
@@ -22,3 +26,10 @@ unfoldable pub firstFrom : Value → ℕ → List Hint → ℕ
 unfolding keyBelow
 firstFrom v k [] = 0
 firstFrom v k (h ∷ hs) = elim (keyBelow v k h) [ true ↦ suc (firstFrom v k hs) | false ↦ 0 ]
+
+-- a row is its three words
+pub hint-reads : Reads 3 hintAt
+unfolding hintAt
+hint-reads W W′ i k h =
+    let a : getD W i 0 ≡ getD W′ k 0 = rw (← add-zero i, ← add-zero k) (h 0 (omega arith)) in
+    rw (a, h 1 (omega arith), h 2 (omega arith))

@@ -1,12 +1,12 @@
 -- The loop of `live_insts`. Assumes nothing.
-use mathlib.Core.Path.{_≡_, refl, sym, ap, _∙_}
-use mathlib.Core.List.{List, [], _∷_, map}
+use mathlib.Core.Path.{_≡_, sym, ap, _∙_}
+use mathlib.Core.List.{List, map}
 use Prim.Native.Nat.{ℕ, _+_, _-_, _*_, _≤_, _<_}
 use native.Mathlib.Omega.{arith}
 use Rattle.rows.specs.RowsAt.{rowsAt, rows-at-start, rows-at-more, rows-at-done}
 use Rattle.definition.specs.declared.Inst.{Inst}
 use Rattle.definition.specs.Types.{inst}
-use Rattle.definition.specs.LiveRange.{nextInst, touched, liveInsts}
+use Rattle.definition.specs.LiveRange.{nextInst, touched}
 use Rattle.live_insts.specs.declared.LiveRangeSegment.{LiveRangeSegment}
 use Rattle.live_insts.specs.Ranges.{bare, rangeAt, newInsts, rangeInsts}
 

@@ -1,12 +1,10 @@
 -- `live_insts` depends on points only; how large it gets. Assumes nothing.
-use mathlib.Core.Path.{_≡_, refl, sym, ap, _∙_}
+use mathlib.Core.Path.{_≡_, refl, ap}
 use mathlib.Core.List.{List, [], _∷_, map}
-use Prim.Native.Nat.{ℕ, _+_, _-_, _*_, _≤_, _<_, max}
-use native.Mathlib.Nat.{suc-mul}
+use Prim.Native.Nat.{ℕ, _+_, _-_, _*_, _≤_}
 use native.Mathlib.Omega.{arith}
-use lib.ListN.{length}
 use Rattle.definition.specs.Types.{Segment}
-use Rattle.definition.specs.LiveRange.{instOf, nextInst, touched, liveInsts}
+use Rattle.definition.specs.LiveRange.{nextInst, touched, liveInsts}
 use Rattle.live_insts.specs.declared.LiveRangeSegment.{LiveRangeSegment}
 use Rattle.live_insts.specs.Ranges.{rangeOf, bare, newInsts, rangeInsts}
 

@@ -1,11 +1,12 @@
 -- The points of segments, and the instructions that they touch. Assumes nothing.
-use Prim.Native.Nat.{ℕ, _+_, _-_, _*_, _/_, max}
+use Prim.Native.Nat.{ℕ, _+_, _-_, max}
 use mathlib.Core.Bool.{false}
-use mathlib.Core.List.{List, [], _∷_, map}
+use mathlib.Core.List.{List, [], map}
+use native.Mathlib.Omega.{arith}
 use lib.ListN.{getD}
-use Rattle.definition.specs.declared.UseFlags.{UseFlags}
+use Rattle.rows.specs.RowsAt.{Reads}
 use Rattle.definition.specs.Types.{Segment, val, point}
-use Rattle.definition.specs.LiveRange.{instOf, nextInst, touched, liveInsts}
+use Rattle.definition.specs.LiveRange.{instOf, nextInst, liveInsts}
 use Rattle.live_insts.specs.declared.LiveRangeSegment.{LiveRangeSegment}
 
 abbrev pub rangeOf : Segment → LiveRangeSegment
@@ -33,3 +34,8 @@ newInsts n r = nextInst (r .to) - max n (instOf (r .«from»))
 unfoldable pub rangeInsts : List LiveRangeSegment → ℕ
 unfolding liveInsts
 rangeInsts rs = liveInsts (map bare rs)
+
+-- of a row it reads two words
+pub range-reads : Reads 7 rangeAt
+unfolding rangeAt
+range-reads W W′ i k h = rw (h 1 (omega arith), h 2 (omega arith))

@@ -1,13 +1,13 @@
 -- Parts of flat tables: a run of words put at a place (`splice`), and a table that holds words and then zeros (`pad`).
 -- `_++_` is written nested to the right throughout, as `simp append-assoc` leaves it.
 -- Assumes nothing.
-use mathlib.Core.Path.{_≡_, refl, sym, ap, _∙_}
-use mathlib.Core.List.{List, [], _∷_, _++_, append-nil, append-assoc}
-use Prim.Native.Nat.{ℕ, zero, suc, _+_, _-_, _*_, _≤_, _<_}
-use native.Mathlib.Nat.{suc-add, zero-add, add-zero, add-suc, sub-zero, suc-sub-suc, zero-sub, le-of-suc-le-suc, not-suc-le-zero}
+use mathlib.Core.Path.{_≡_, sym, ap, _∙_}
+use mathlib.Core.List.{List, [], _∷_, _++_, append-assoc}
+use Prim.Native.Nat.{ℕ, zero, suc, _+_, _-_, _≤_, _<_}
+use native.Mathlib.Nat.{suc-add, zero-add, sub-zero, suc-sub-suc, zero-sub}
 use native.Mathlib.Omega.{arith}
-use lib.ListN.{length, getD, set, take, drop, replicate, length-append, length-take, length-drop, length-replicate, take-append-drop, length-set}
-use lib.Seq.{sets, sets-eq, paste, take-at, drop-at, drop-append-add, take-append-seam, drop-append-seam, length-take-le, drop-drop, drop-nil, slice, drop-append-le, take-append-le, slice-cons, length-slice, take-suc, drop-cons, take-add, getD-drop}
+use lib.ListN.{length, getD, set, take, drop, replicate, length-append, length-take, length-drop, length-replicate, length-set}
+use lib.Seq.{sets, sets-eq, paste, take-at, drop-at, drop-append-add, length-take-le, drop-drop, slice}
 
 module _ {ℓ} {A : Type ℓ} where
   -- d with the words vs at index i on

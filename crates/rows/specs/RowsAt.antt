@@ -1,10 +1,10 @@
 -- The rows of a read-only table: `row W i` reads the row whose first word is word i of W; the table has n rows of s words, the first at word `at`.
 -- Every job table and every lent list is read so: `rowsAt row (wordsOf (now t)) at s n`. The laws hold for any decoder and any stride.
 -- Assumes nothing.
-use mathlib.Core.Path.{_≡_, refl, sym, ap, _∙_}
+use mathlib.Core.Path.{_≡_, refl, ap, _∙_}
 use mathlib.Core.List.{List, [], _∷_, _++_, map}
 use Prim.Native.Nat.{ℕ, zero, suc, _+_, _-_, _*_, _≤_, _<_}
-use native.Mathlib.Nat.{zero-add, zero-mul, one-mul, add-mul}
+use native.Mathlib.Nat.{zero-add, zero-mul, one-mul, add-mul, suc-mul, mul-le-mul-right}
 use native.Mathlib.Omega.{arith}
 use lib.ListN.{length, getD, take, drop}
 use lib.Seq.{take-at, drop-at}
@@ -94,6 +94,23 @@ module _ {ℓ} {A : Type ℓ} where
   unfolding rowsAt
   rows-at-ext row row′ W W′ at to s n h =
       tab-ext (λ k. row W (at + k * s)) (λ k. row′ W′ (to + k * s)) 0 0 n (λ k l. let e : 0 + k ≡ k = zero-add k in rw e (h k l))
+
+  -- a decoder that reads nothing but the s words of its row
+  abbrev pub Reads : ℕ → (List ℕ → ℕ → A) → Type ℓ
+  Reads s row = (W W′ : List ℕ) (i k : ℕ) → ((j : ℕ) → j < s → getD W (i + j) 0 ≡ getD W′ (k + j) 0) → row W i ≡ row W′ k
+
+  -- equal words have equal rows: a table elsewhere, or after stores outside of it
+  pub rows-at-words : (row : List ℕ → ℕ → A) (W W′ : List ℕ) (at to s n : ℕ) → Reads s row → ((j : ℕ) → j < n * s → getD W (at + j) 0 ≡ getD W′ (to + j) 0)
+      → rowsAt row W at s n ≡ rowsAt row W′ to s n
+  rows-at-words row W W′ at to s n r h =
+      rows-at-ext row row W W′ at to s n
+      (λ k l.
+      r W W′ (at + k * s) (to + k * s)
+      (λ j m.
+      let b : k * s + j < n * s = omega (arith, suc-mul k s, mul-le-mul-right s l) in
+      let e : at + k * s + j ≡ at + (k * s + j) = omega arith in
+      let f : to + k * s + j ≡ to + (k * s + j) = omega arith in
+      rw (e, f) (h (k * s + j) b)))
 
 -- a decoder that reads on from another
 pub map-rows-at {ℓ} : {A B : Type ℓ} (f : A → B) (row : List ℕ → ℕ → A) (W : List ℕ) (at s n : ℕ)

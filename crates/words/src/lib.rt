@@ -1,7 +1,7 @@
 // Little-endian u32 words in lent byte slices: reading, and storing a word or a row. An index counts words.
 ghost use mathlib.Core.Path.{_≡_};
-ghost use mathlib.Core.List.{List, [], _∷_};
-ghost use Prim.Native.Nat.{ℕ, _+_, _≤_, _<_};
+ghost use mathlib.Core.List.{[], _∷_};
+ghost use Prim.Native.Nat.{_+_, _≤_, _<_};
 ghost use lib.ListN.{set, getD};
 ghost use Rattle.rows.specs.Parts.{splice};
 ghost use Rattle.words.specs.Words.{wordCount, wordsOf};

@@ -1,4 +1,3 @@
-use native.Mathlib.Omega.{arith}
 use Rattle.hints.specs.Hints.{hintAt}
 use borrow.Author.Needs.{needs}
 use Rattle.hints.proofs.hint_at.Statement.{statement}

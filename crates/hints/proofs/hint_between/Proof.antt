@@ -1,4 +1,3 @@
-use native.Mathlib.Omega.{arith}
 use Rattle.hints.proofs.Steps.{found-none, found-other, found-same}
 use borrow.Author.Needs.{needs}
 use Rattle.hints.proofs.hint_between.Statement.{statement}

@@ -1,4 +1,3 @@
-use native.Mathlib.Omega.{arith}
 use Rattle.hints.proofs.Steps.{key-incoming, key-outgoing}
 use borrow.Author.Needs.{needs}
 use Rattle.hints.proofs.key.Statement.{statement}

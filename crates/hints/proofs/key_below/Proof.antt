@@ -1,4 +1,3 @@
-use native.Mathlib.Omega.{arith}
 use Rattle.hints.proofs.Steps.{below-value, above-value, same-value}
 use borrow.Author.Needs.{needs}
 use Rattle.hints.proofs.key_below.Statement.{statement}

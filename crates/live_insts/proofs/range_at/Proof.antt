@@ -1,4 +1,3 @@
-use native.Mathlib.Omega.{arith}
 use Rattle.live_insts.specs.Ranges.{rangeAt}
 use borrow.Author.Needs.{needs}
 use Rattle.live_insts.proofs.range_at.Statement.{statement}

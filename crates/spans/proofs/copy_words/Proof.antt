@@ -1,4 +1,3 @@
-use mathlib.Core.Path.{_≡_}
 use native.Mathlib.Omega.{arith}
 use Prim.Native.Nat.{_-_}
 use Rattle.spans.proofs.Loops.{Copying, copy-first, copy-next, copy-last}

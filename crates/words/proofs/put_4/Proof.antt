@@ -1,4 +1,3 @@
-use native.Mathlib.Omega.{arith}
 use denote.Ref.{now}
 use Rattle.words.proofs.Stores.{stored-4}
 use borrow.Author.Needs.{needs}
