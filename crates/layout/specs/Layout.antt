@@ -1,22 +1,15 @@
--- The job that a slice of words stands for, by its layout. Assumes nothing.
+-- Where the tables of a job stand, its options and its segments. Assumes nothing.
 use Prim.Native.Nat.{ℕ, _+_, _-_, _*_, _/_, _%_, _≤_}
 use mathlib.Core.Bool.{Bool, true, false}
 use mathlib.Core.List.{List}
 use lib.Dec.{eqb, ltb}
 use lib.ListN.{getD}
 use lib.Ieee.{binary32, ofBits}
-use Rattle.rows.specs.Tab.{tab}
 use Rattle.rows.specs.RowsAt.{rowsAt}
 use Rattle.definition.specs.declared.Use.{Use}
 use Rattle.definition.specs.declared.UseFlags.{UseFlags}
 use Rattle.definition.specs.declared.Options.{Options}
-use Rattle.definition.specs.Types.{Job, Segment, val, point}
-use Rattle.reginfo.specs.Rows.{classRow, bankRow, memoryRow, classesAt}
-use Rattle.function.specs.Blocks.{blocksAt}
-use Rattle.coalescing.specs.Rows.{valuesAt, vgroupsAt}
-use Rattle.operands.specs.Rows.{operandsAt}
-use Rattle.hints.specs.Hints.{hintAt}
-use Rattle.uses.specs.Rows.{useRow, rawRow}
+use Rattle.definition.specs.Types.{Segment, val, point}
 use Rattle.layout.specs.declared.Table.{Table}
 use Rattle.layout.specs.declared.Layout.{Layout}
 use Rattle.layout.specs.declared.SegRow.{SegRow}
@@ -70,30 +63,6 @@ segmentOf row W lay i = record {
   flags = segAt W lay i .flags;
   uses = usesIn row W lay (segAt W lay i .first) (nextUse W lay i);
 }
-
--- the job, by a decoder of use rows
-unfoldable pub jobBy : (List ℕ → ℕ → Use) → List ℕ → Layout → Job
-unfolding optionsRow segmentOf
-jobBy row W lay = record {
-  options = optionsRow W (lay .opts);
-  banks = rowsAt bankRow W (lay .banks .at) 1 (lay .banks .n);
-  classes = classesAt W (lay .classes .at) (lay .classes .n);
-  memory = rowsAt memoryRow W (lay .regs .at) 1 (lay .regs .n);
-  blocks = blocksAt W (lay .blocks .at) (lay .blocks .n);
-  values = valuesAt W (lay .values .at) (lay .values .n);
-  vgroups = vgroupsAt W (lay .vgroups .at) (lay .vgroups .n);
-  operands = operandsAt W (lay .operands .at) (lay .operands .n);
-  hints = rowsAt hintAt W (lay .hints .at) 3 (lay .hints .n);
-  segments = tab (segmentOf row W lay) 0 (lay .segments .n);
-}
-
--- the job as its words stand
-unfoldable pub rawJob : List ℕ → Layout → Job
-rawJob W lay = jobBy rawRow W lay
-
--- the same with the fields of its uses modulo their UseKind types, which is what code reads: the same job where the fields fit
-unfoldable pub jobOf : List ℕ → Layout → Job
-jobOf W lay = jobBy useRow W lay
 
 -- every table lies within the first N words
 pub record Fits (N : ℕ) (lay : Layout) : Type 0 where
