@@ -1,5 +1,4 @@
-use Rattle.layout.specs.Layout.{segAt}
-use Rattle.set_part.specs.Part.{partRow}
+use Rattle.set_part.proofs.Read.{row-read}
 use borrow.Author.Needs.{needs}
 use Rattle.set_part.proofs.part_seg.Statement.{statement}
 use Rattle.set_part.proofs.part_seg.Tie as tie
@@ -49,8 +48,10 @@ use-bound-requires-2 c κs = search needs
 
 -- src/lib.rt:86:1
 returns : tie.Need-returns
-unfolding partRow segAt
-returns c = cc
+returns c =
+    let a = c .before .before .before .before .before .before .before .before .before .before .before .args in
+    row-read _ (a .lay) (a .sp) (a .i) _ _ _ _ _ _ (c .before .before .before .before .before .before .before .before .before .seg-at .ensures)
+    (c .before .before .before .before .from-in .ensures) (c .before .before .before .to-in .ensures) (c .before .before .flags-in .ensures) (c .before .use-bound .ensures) (c .use-bound2 .ensures)
 
 pub part-seg-spec : {M : Type 1} → statement M
 part-seg-spec =

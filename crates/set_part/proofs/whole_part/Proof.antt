@@ -1,5 +1,4 @@
-use Rattle.layout.specs.Layout.{segAt}
-use Rattle.set_part.specs.Part.{wholePart}
+use Rattle.set_part.proofs.Read.{whole-read}
 use borrow.Author.Needs.{needs}
 use Rattle.set_part.proofs.whole_part.Statement.{statement}
 use Rattle.set_part.proofs.whole_part.Tie as tie
@@ -58,8 +57,9 @@ cast-t16 c = search needs
 
 -- src/lib.rt:107:1
 returns : tie.Need-returns
-unfolding wholePart segAt
-returns c = cc
+returns c =
+    let a = c .before .before .before .before .before .before .before .before .before .args in
+    whole-read _ (a .lay) (a .a) (a .b) _ _ _ (c .before .before .before .before .before .before .before .seg-at .ensures) (c .before .before .before .before .seg-at2 .ensures) (c .next-use .ensures)
 
 pub whole-part-spec : {M : Type 1} → statement M
 whole-part-spec =
