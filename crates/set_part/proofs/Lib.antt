@@ -1,3 +1,5 @@
 pub mod Bounds
 pub mod Read
 pub mod Uses
+pub mod Alike
+pub mod Whole

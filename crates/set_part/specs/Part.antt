@@ -38,6 +38,11 @@ pub record PartOk (W : List ℕ) (lay : Layout) (sp : SetPart) : Type 0 where
   pub rise : (i : ℕ) → sp .seg ≤ i → i ≤ sp .last → useBound W lay sp i ≤ useBound W lay sp (i + 1)
   pub fits : sp .end ≤ lay .uses .n
 
+-- "the counts do not fall", and none passes the number of uses
+pub record CountsRise (W : List ℕ) (lay : Layout) : Type 0 where
+  pub rise : (i : ℕ) → i < lay .segments .n → segAt W lay i .first ≤ nextUse W lay i
+  pub within : (i : ℕ) → i < lay .segments .n → nextUse W lay i ≤ lay .uses .n
+
 -- Use number n of the job: a conflict if its mark, word `marks + n` of K, is not 0.
 unfoldable pub markedUse : List ℕ → ℕ → List ℕ → Layout → ℕ → Use
 unfolding useRow
