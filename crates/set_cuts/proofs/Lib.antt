@@ -1,3 +1,5 @@
 pub mod Past
 pub mod Rows
 pub mod Read
+pub mod Lists
+pub mod Sides
