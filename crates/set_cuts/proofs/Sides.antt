@@ -28,6 +28,10 @@ use Rattle.set_cuts.proofs.Rows.{endedAt, begunAt, left-row, left-row-l
 use Rattle.set_cuts.proofs.Lists.{left-skip, right-skip, left-split, left-none, right-split, right-all, mid-in, left-seg, right-seg}
 use Rattle.set_cuts.proofs.Read.{row-behind}
 
+append-nil : {A : Type 0} (l : List A) → l ++ [] ≡ l
+append-nil [] = refl
+append-nil (x ∷ l) = ap (λ r. x ∷ r) (append-nil l)
+
 -- a mark does not change a use's instruction
 pub marked-pos : (K : List ℕ) (marks : ℕ) (W : List ℕ) (lay : Layout) (j : ℕ) → markedUse K marks W lay j .pos ≡ useRow W (lay .uses .at + j * 6) .pos
 unfolding markedUse
@@ -48,6 +52,22 @@ module _ (K : List ℕ) (marks : ℕ) (W : List ℕ) (lay : Layout) where
   seg-from : (sp : SetPart) (i : ℕ) → seg sp i .«from» .0 ≡ partRow W lay sp i .«from» .0
   unfolding segBy
   seg-from sp i = refl
+
+  -- a part up to segment k
+  left-new : (sp : SetPart) (k : ℕ) → sp .seg ≤ k → k ≤ sp .last → (t : LiveRangePoint) (f : UseFlags) (e : ℕ)
+      → partSegs K marks W lay (leftPart sp k t f e) ≡ tab (seg sp) (sp .seg) (k - sp .seg) ++ (segBy (markedUse K marks W lay) (endedAt (partRow W lay sp k) t f e) ∷ [])
+  unfolding partSegs leftPart
+  left-new sp k lo hi t f e =
+      let q = leftPart sp k t f e in
+      let n : k + 1 - sp .seg ≡ (k - sp .seg) + 1 = omega arith in
+      let here : sp .seg + (k - sp .seg) ≡ k = omega arith in
+      ap (λ (m : ℕ). tab (seg q) (sp .seg) m) n
+      ∙ tab-snoc (seg q) (sp .seg) (k - sp .seg)
+      ∙ ap (λ (l : List Segment). l ++ (seg q (sp .seg + (k - sp .seg)) ∷ []))
+      (tab-ext (seg q) (seg sp) (sp .seg) (sp .seg) (k - sp .seg)
+      (λ i l. ap (λ (r : PartSeg). segBy (markedUse K marks W lay) r) (left-row W lay sp k lo hi t f e (sp .seg + i) (omega arith) (omega arith))))
+      ∙ ap (λ (i : ℕ). tab (seg sp) (sp .seg) (k - sp .seg) ++ (seg q i ∷ [])) here
+      ∙ ap (λ (r : PartSeg). tab (seg sp) (sp .seg) (k - sp .seg) ++ (segBy (markedUse K marks W lay) r ∷ [])) (left-row-last W lay sp k lo hi t f e)
 
   module _ (hs : List Hint) (p : Inst) (sp : SetPart) (ok : PartOk W lay sp) (k : ℕ) (at : Past W lay sp (4 * p .0) k) where
     abbrev row : PartSeg
@@ -91,20 +111,7 @@ module _ (K : List ℕ) (marks : ℕ) (W : List ℕ) (lay : Layout) where
         ∙ right-skip hs p (seg sp) (k - sp .seg) (sp .seg) (suc (sp .last - k)) ended
         ∙ ap (λ (n : ℕ). rightCut hs p (tab (seg sp) n (suc (sp .last - k)))) here
 
-    -- ---- a part up to segment k, or from it on, whose row k is known
-
-    left-new : (t : LiveRangePoint) (f : UseFlags) (e : ℕ) → partSegs K marks W lay (leftPart sp k t f e) ≡ front ++ (segBy (markedUse K marks W lay) (endedAt row t f e) ∷ [])
-    unfolding partSegs leftPart
-    left-new t f e =
-        let q = leftPart sp k t f e in
-        let n : k + 1 - sp .seg ≡ (k - sp .seg) + 1 = omega (arith, at .behind) in
-        ap (λ (m : ℕ). tab (seg q) (sp .seg) m) n
-        ∙ tab-snoc (seg q) (sp .seg) (k - sp .seg)
-        ∙ ap (λ (l : List Segment). l ++ (seg q (sp .seg + (k - sp .seg)) ∷ []))
-        (tab-ext (seg q) (seg sp) (sp .seg) (sp .seg) (k - sp .seg)
-        (λ i l. ap (λ (r : PartSeg). segBy (markedUse K marks W lay) r) (left-row W lay sp k (at .behind) (at .within) t f e (sp .seg + i) (omega arith) (omega (arith, here)))))
-        ∙ ap (λ (i : ℕ). front ++ (seg q i ∷ [])) here
-        ∙ ap (λ (r : PartSeg). front ++ (segBy (markedUse K marks W lay) r ∷ [])) (left-row-last W lay sp k (at .behind) (at .within) t f e)
+    -- ---- a part from segment k on
 
     right-new : (q : LiveRangePoint) (f : UseFlags) (n : ℕ) → partSegs K marks W lay (rightPart sp k q f n) ≡ segBy (markedUse K marks W lay) (begunAt row q f n) ∷ back
     unfolding partSegs rightPart
@@ -129,7 +136,7 @@ module _ (K : List ℕ) (marks : ℕ) (W : List ℕ) (lay : Layout) where
           left-list
           ∙ ap (λ (l : List Segment). front ++ l) (left-split hs p (seg sp k) back past begins)
           ∙ ap (λ (s : Segment). front ++ (s ∷ [])) (left-seg W lay p (markedUse K marks W lay) (marked-pos K marks W lay) row rise hs)
-          ∙ sym (left-new (point (4 * p .0)) (leftFlags hs p (row .value) (row .«from») (row .flags)) (midUse W lay p row))
+          ∙ sym (left-new sp k (at .behind) (at .within) (point (4 * p .0)) (leftFlags hs p (row .value) (row .«from») (row .flags)) (midUse W lay p row))
 
       right-across : rightCut hs p (partSegs K marks W lay sp) ≡ partSegs K marks W lay (cutAcross hs W lay p sp k row .right)
       unfolding cutAcross
@@ -148,3 +155,50 @@ module _ (K : List ℕ) (marks : ℕ) (W : List ℕ) (lay : Layout) where
       right-between : rightCut hs p (partSegs K marks W lay sp) ≡ partSegs K marks W lay (cutBetween sp k (partRow W lay sp (k - 1)) row .right)
       unfolding cutBetween
       right-between = right-list ∙ right-all hs p (seg sp k) back past behind ∙ sym (right-new (row .«from») (row .flags) (row .first))
+
+      left-between : leftCut hs p (partSegs K marks W lay sp) ≡ partSegs K marks W lay (cutBetween sp k (partRow W lay sp (k - 1)) row .left)
+      unfolding cutBetween
+      left-between =
+          let o = partRow W lay sp (k - 1) in
+          let n : k - sp .seg ≡ (k - 1 - sp .seg) + 1 = omega arith in
+          let i : sp .seg + (k - 1 - sp .seg) ≡ k - 1 = omega arith in
+          left-list
+          ∙ ap (λ (l : List Segment). front ++ l) (left-none hs p (seg sp k) back past behind)
+          ∙ append-nil front
+          ∙ ap (λ (m : ℕ). tab (seg sp) (sp .seg) m) n
+          ∙ tab-snoc (seg sp) (sp .seg) (k - 1 - sp .seg)
+          ∙ ap (λ (j : ℕ). tab (seg sp) (sp .seg) (k - 1 - sp .seg) ++ (seg sp j ∷ [])) i
+          ∙ sym (left-new sp (k - 1) (omega arith) (omega (arith, at .within)) (o .to) (o .flags) (o .end))
+
+    -- ---- both ways
+
+    module _ (open′ : sp .«from» .0 < 4 * p .0) where
+      not-first : 4 * p .0 ≤ row .«from» .0 → sp .seg + 1 ≤ k
+      not-first h = row-behind W lay sp (4 * p .0) k row refl (at .behind) open′ h
+
+      left-at : leftCut hs p (partSegs K marks W lay sp) ≡ partSegs K marks W lay (cutAt hs W lay p sp k .left)
+      unfolding cutAt
+      left-at = go (ltb (row .«from» .0) (4 * p .0)) refl
+        where
+          go : (t : Bool) → ltb (row .«from» .0) (4 * p .0) ≡ t → leftCut hs p (partSegs K marks W lay sp) ≡ partSegs K marks W lay (cutAt hs W lay p sp k .left)
+          go true e = rw e (left-across (ltb-true (row .«from» .0) (4 * p .0) e))
+          go false e = let h = ltb-false (row .«from» .0) (4 * p .0) e in rw e (left-between h (not-first h))
+
+      right-at : rightCut hs p (partSegs K marks W lay sp) ≡ partSegs K marks W lay (cutAt hs W lay p sp k .right)
+      unfolding cutAt
+      right-at = go (ltb (row .«from» .0) (4 * p .0)) refl
+        where
+          go : (t : Bool) → ltb (row .«from» .0) (4 * p .0) ≡ t → rightCut hs p (partSegs K marks W lay sp) ≡ partSegs K marks W lay (cutAt hs W lay p sp k .right)
+          go true e = rw e (right-across (ltb-true (row .«from» .0) (4 * p .0) e))
+          go false e = let h = ltb-false (row .«from» .0) (4 * p .0) e in rw e (right-between h (not-first h))
+
+-- ---- the laws of a cut. A part that begins before the cut and ends behind it has both sides.
+
+module _ (hs : List Hint) (W : List ℕ) (lay : Layout) (p : Inst) (sp : SetPart) (ok : PartOk W lay sp) (open′ : sp .«from» .0 < 4 * p .0) (end′ : 4 * p .0 < sp .to .0) where
+  pub cut-left : (K : List ℕ) (marks : ℕ) → leftCut hs p (partSegs K marks W lay sp) ≡ partSegs K marks W lay (cutPart hs W lay p sp .left)
+  unfolding cutPart
+  cut-left K marks = left-at K marks W lay hs p sp ok (firstPast W lay sp (4 * p .0)) (past-first W lay sp (4 * p .0) (ok .order) end′) open′
+
+  pub cut-right : (K : List ℕ) (marks : ℕ) → rightCut hs p (partSegs K marks W lay sp) ≡ partSegs K marks W lay (cutPart hs W lay p sp .right)
+  unfolding cutPart
+  cut-right K marks = right-at K marks W lay hs p sp ok (firstPast W lay sp (4 * p .0)) (past-first W lay sp (4 * p .0) (ok .order) end′) open′
