@@ -3,3 +3,4 @@ pub mod Rows
 pub mod Read
 pub mod Lists
 pub mod Sides
+pub mod Kept

@@ -1,7 +1,7 @@
 -- The two sides of a cut part are the cut's two lists of segments. Assumes nothing.
 use mathlib.Core.Path.{_≡_, refl, sym, ap, _∙_}
 use mathlib.Core.Bool.{Bool, true, false, cond}
-use mathlib.Core.List.{List, [], _∷_, _++_}
+use mathlib.Core.List.{List, [], _∷_, _++_, append-nil}
 use Prim.Native.Nat.{ℕ, zero, suc, _+_, _-_, _*_, _≤_, _<_}
 use native.Mathlib.Omega.{arith}
 use lib.Dec.{leb, ltb, eqb}
@@ -27,10 +27,6 @@ use Rattle.set_cuts.proofs.Past.{Past, past-first}
 use Rattle.set_cuts.proofs.Rows.{endedAt, begunAt, left-row, left-row-last, left-ok, right-row, right-row-first, right-ok}
 use Rattle.set_cuts.proofs.Lists.{left-skip, right-skip, left-split, left-none, right-split, right-all, mid-in, left-seg, right-seg}
 use Rattle.set_cuts.proofs.Read.{row-behind}
-
-append-nil : {A : Type 0} (l : List A) → l ++ [] ≡ l
-append-nil [] = refl
-append-nil (x ∷ l) = ap (λ r. x ∷ r) (append-nil l)
 
 -- a mark does not change a use's instruction
 pub marked-pos : (K : List ℕ) (marks : ℕ) (W : List ℕ) (lay : Layout) (j : ℕ) → markedUse K marks W lay j .pos ≡ useRow W (lay .uses .at + j * 6) .pos
