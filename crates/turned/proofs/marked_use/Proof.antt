@@ -1,3 +1,4 @@
+use Rattle.turned.proofs.Read.{plain-read, turned-read}
 use borrow.Author.Needs.{needs}
 use Rattle.turned.proofs.marked_use.Statement.{statement}
 use Rattle.turned.proofs.marked_use.Tie as tie
@@ -28,11 +29,11 @@ word-at-requires c κs = search needs
 
 -- src/lib.rt:47:9
 returns : tie.Need-returns
-returns c = search needs
+returns c = plain-read _ _ _ _ _ _ _ (c .before .before .use-at .ensures) (c .before .word-at .ensures) (c .if1 .taken)
 
 -- src/lib.rt:40:1
 returns-2 : tie.Need-returns-2
-returns-2 c = search needs
+returns-2 c = turned-read _ _ _ _ _ _ _ (c .before .before .before .use-at .ensures) (c .before .before .word-at .ensures) (c .before .if1 .left)
 
 pub marked-use-spec : {M : Type 1} → statement M
 marked-use-spec =
