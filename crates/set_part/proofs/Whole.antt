@@ -90,11 +90,14 @@ module _ (W : List ℕ) (lay : Layout) where
     whole-row : (i : ℕ) → a ≤ i → i < b → partRow W lay (wholePart W lay a b) i ≡ ownRow i
     unfolding partRow wholePart
     whole-row i p q =
-        rw (own-bound i p q, own-next i p q,
-        cond-same (eqb i a) (segAt W lay a .«from») (segAt W lay i .«from») (λ e. ap (λ (j : ℕ). segAt W lay j .«from») (sym (eqb-true i a e))),
-        cond-same (eqb i (b - 1)) (segAt W lay (b - 1) .to) (segAt W lay i .to) (λ e. ap (λ (j : ℕ). segAt W lay j .to) (sym (eqb-true i (b - 1) e))),
-        cond-same (eqb i (b - 1)) (segAt W lay (b - 1) .flags) (segAt W lay i .flags) (λ e. ap (λ (j : ℕ). segAt W lay j .flags) (sym (eqb-true i (b - 1) e))),
-        cond-same (eqb i a) (segAt W lay a .flags) (segAt W lay i .flags) (λ e. ap (λ (j : ℕ). segAt W lay j .flags) (sym (eqb-true i a e))))
+        rw (
+          own-bound i p q,
+          own-next i p q,
+          cond-same (eqb i a) (segAt W lay a .«from») (segAt W lay i .«from») (λ e. ap (λ (j : ℕ). segAt W lay j .«from») (sym (eqb-true i a e))),
+          cond-same (eqb i (b - 1)) (segAt W lay (b - 1) .to) (segAt W lay i .to) (λ e. ap (λ (j : ℕ). segAt W lay j .to) (sym (eqb-true i (b - 1) e))),
+          cond-same (eqb i (b - 1)) (segAt W lay (b - 1) .flags) (segAt W lay i .flags) (λ e. ap (λ (j : ℕ). segAt W lay j .flags) (sym (eqb-true i (b - 1) e))),
+          cond-same (eqb i a) (segAt W lay a .flags) (segAt W lay i .flags) (λ e. ap (λ (j : ℕ). segAt W lay j .flags) (sym (eqb-true i a e))),
+        )
 
     -- its segments are the job's, where none of its uses is marked
     pub whole-segs : (K : List ℕ) (marks : ℕ) → CountsRise W lay → ((j : ℕ) → segAt W lay a .first ≤ j → j < nextUse W lay (b - 1) → getD K (marks + j) 0 ≡ 0)

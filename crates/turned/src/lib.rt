@@ -133,7 +133,14 @@ fn holder_of(job: &[u8], lay: Layout, sp: SetPart, c: usize) -> usize
 }
 
 // What is kept of the use at place n of a part.
-pub fn turned_at(job: &[u8], lay: Layout, work: &[u8], marks: usize, sp: SetPart, n: usize) -> TurnedRow
+pub fn turned_at(
+    job: &[u8],
+    lay: Layout,
+    work: &[u8],
+    marks: usize,
+    sp: SetPart,
+    n: usize,
+) -> TurnedRow
     requires { ⌜ Fits (wordCount (now job)) lay × PartOk (wordsOf (now job)) lay sp × (sp .first + n < sp .end) × (marks + lay .uses .n ≤ wordCount (now work)) ⌝ }
     ensures { λ r. ⌜ r ≡ turnedRow (wordsOf (now (work .entry))) marks (wordsOf (now (job .entry))) lay sp n ⌝ }
 {
