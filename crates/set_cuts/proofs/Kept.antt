@@ -1,11 +1,11 @@
 -- Both sides of a cut are well formed, and their uses meet. Assumes nothing.
 use mathlib.Core.Path.{_≡_, refl, sym, ap, _∙_}
-use mathlib.Core.Bool.{Bool, true, false, cond}
+use mathlib.Core.Bool.{Bool, true, false}
 use mathlib.Core.List.{List}
 use Prim.Native.Nat.{ℕ, _+_, _-_, _*_, _≤_, _<_}
 use native.Mathlib.Omega.{arith}
 use lib.Dec.{ltb}
-use borrow.Author.Tests.{ltb-true, ltb-false}
+use borrow.Author.Tests.{ltb-false}
 use Rattle.definition.specs.declared.Inst.{Inst}
 use Rattle.definition.specs.declared.LiveRangePoint.{LiveRangePoint}
 use Rattle.definition.specs.declared.UseFlags.{UseFlags}

@@ -1,14 +1,13 @@
 -- Each way through the functions of a cut. Assumes nothing.
 use mathlib.Core.Path.{_≡_, refl, sym, ap, _∙_}
-use mathlib.Core.Bool.{Bool, true, false, cond}
+use mathlib.Core.Bool.{Bool, true, false}
 use mathlib.Core.List.{List}
 use Prim.Native.Nat.{ℕ, _+_, _-_, _*_, _≤_, _<_}
 use native.Mathlib.Omega.{arith}
 use lib.Dec.{ltb, eqb}
 use lib.ListN.{length}
-use borrow.Author.Tests.{lt-ltb, le-ltb, eq-eqb}
+use borrow.Author.Tests.{lt-ltb, le-ltb}
 use Rattle.definition.specs.declared.Inst.{Inst}
-use Rattle.definition.specs.declared.LiveRangePoint.{LiveRangePoint}
 use Rattle.definition.specs.declared.UseFlags.{UseFlags}
 use Rattle.definition.specs.declared.Hint.{Hint}
 use Rattle.definition.specs.Types.{point}
@@ -18,12 +17,12 @@ use Rattle.cuts.specs.Flags.{leftFlags, rightFlags}
 use Rattle.layout.specs.declared.Layout.{Layout}
 use Rattle.set_part.specs.declared.SetPart.{SetPart}
 use Rattle.set_part.specs.declared.PartSeg.{PartSeg}
-use Rattle.set_part.specs.Part.{partRow, useBound, PartOk}
+use Rattle.set_part.specs.Part.{partRow, PartOk}
 use Rattle.set_part.proofs.Bounds.{bound-le-end}
 use Rattle.set_part.proofs.Alike.{row-first, row-end}
 use Rattle.set_cuts.specs.declared.Parts.{Parts}
 use Rattle.set_cuts.specs.Cut.{leftPart, rightPart, midUse, firstPast, cutAcross, cutBetween, cutAt, cutPart}
-use Rattle.set_cuts.proofs.Past.{Past, past-first}
+use Rattle.set_cuts.proofs.Past.{past-first}
 
 pub across-read : (hs : List Hint) (W : List ℕ) (lay : Layout) (p : Inst) (sp : SetPart) (k : ℕ) (row : PartSeg) (n : ℕ) (f g : UseFlags) (l r : SetPart)
     → n ≡ length (usesBefore p (usesAt W (lay .uses .at + row .first * 6) (row .end - row .first))) → f ≡ leftFlags hs p (row .value) (row .«from») (row .flags)

@@ -1,19 +1,18 @@
 -- The rows of the two sides of a cut, and that both sides are well formed. Assumes nothing.
-use mathlib.Core.Path.{_≡_, refl, sym, ap, _∙_}
-use mathlib.Core.Bool.{Bool, true, false, cond}
+use mathlib.Core.Path.{_≡_, refl}
+use mathlib.Core.Bool.{Bool, true, false}
 use mathlib.Core.List.{List}
-use Prim.Native.Nat.{ℕ, zero, suc, _+_, _-_, _*_, _≤_, _<_}
+use Prim.Native.Nat.{ℕ, _+_, _-_, _≤_, _<_}
 use native.Mathlib.Omega.{arith}
-use lib.Dec.{eqb, ltb}
-use borrow.Author.Tests.{eq-eqb, ne-eqb, eqb-true, eqb-false, lt-ltb, le-ltb}
+use lib.Dec.{eqb}
+use borrow.Author.Tests.{eq-eqb, ne-eqb, eqb-true, eqb-false, le-ltb}
 use Rattle.definition.specs.declared.LiveRangePoint.{LiveRangePoint}
 use Rattle.definition.specs.declared.UseFlags.{UseFlags}
 use Rattle.layout.specs.declared.Layout.{Layout}
-use Rattle.layout.specs.Layout.{segAt}
 use Rattle.set_part.specs.declared.SetPart.{SetPart}
 use Rattle.set_part.specs.declared.PartSeg.{PartSeg}
 use Rattle.set_part.specs.Part.{useBound, partRow, PartOk}
-use Rattle.set_part.proofs.Bounds.{bound-first, bound-inner, bound-end, bound-le-end}
+use Rattle.set_part.proofs.Bounds.{bound-first, bound-end}
 use Rattle.set_cuts.specs.Cut.{leftPart, rightPart}
 
 -- a row with another end, or another beginning

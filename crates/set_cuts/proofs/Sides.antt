@@ -1,31 +1,30 @@
 -- The two sides of a cut part are the cut's two lists of segments. Assumes nothing.
 use mathlib.Core.Path.{_≡_, refl, sym, ap, _∙_}
-use mathlib.Core.Bool.{Bool, true, false, cond}
+use mathlib.Core.Bool.{Bool, true, false}
 use mathlib.Core.List.{List, [], _∷_, _++_, append-nil}
-use Prim.Native.Nat.{ℕ, zero, suc, _+_, _-_, _*_, _≤_, _<_}
+use Prim.Native.Nat.{ℕ, suc, _+_, _-_, _*_, _≤_, _<_}
 use native.Mathlib.Omega.{arith}
-use lib.Dec.{leb, ltb, eqb}
+use lib.Dec.{ltb, eqb}
 use lib.ListN.{getD}
-use borrow.Author.Tests.{ltb-true, ltb-false, eqb-true, eqb-false}
+use borrow.Author.Tests.{ltb-true, ltb-false}
 use Rattle.rows.specs.Tab.{tab, tab-ext, tab-snoc}
 use Rattle.definition.specs.declared.Inst.{Inst}
 use Rattle.definition.specs.declared.LiveRangePoint.{LiveRangePoint}
 use Rattle.definition.specs.declared.UseFlags.{UseFlags}
 use Rattle.definition.specs.declared.Hint.{Hint}
 use Rattle.definition.specs.Types.{Segment, point}
-use Rattle.definition.specs.Cuts.{leftOf, rightOf, leftCut, rightCut}
+use Rattle.definition.specs.Cuts.{leftCut, rightCut}
 use Rattle.uses.specs.Rows.{useRow}
 use Rattle.cuts.specs.Flags.{leftFlags, rightFlags}
 use Rattle.layout.specs.declared.Layout.{Layout}
 use Rattle.set_part.specs.declared.SetPart.{SetPart}
 use Rattle.set_part.specs.declared.PartSeg.{PartSeg}
-use Rattle.set_part.specs.Part.{useBound, partRow, markedUse, segBy, partSegs, PartOk}
-use Rattle.set_part.proofs.Bounds.{bound-le-end}
+use Rattle.set_part.specs.Part.{partRow, markedUse, segBy, partSegs, PartOk}
 use Rattle.set_part.proofs.Alike.{row-first, row-end}
 use Rattle.set_cuts.specs.Cut.{leftPart, rightPart, midUse, firstPast, cutAcross, cutBetween, cutAt, cutPart}
 use Rattle.set_cuts.proofs.Past.{Past, past-first}
-use Rattle.set_cuts.proofs.Rows.{endedAt, begunAt, left-row, left-row-last, left-ok, right-row, right-row-first, right-ok}
-use Rattle.set_cuts.proofs.Lists.{left-skip, right-skip, left-split, left-none, right-split, right-all, mid-in, left-seg, right-seg}
+use Rattle.set_cuts.proofs.Rows.{endedAt, begunAt, left-row, left-row-last, right-row, right-row-first}
+use Rattle.set_cuts.proofs.Lists.{left-skip, right-skip, left-split, left-none, right-split, right-all, left-seg, right-seg}
 use Rattle.set_cuts.proofs.Read.{row-behind}
 
 -- a mark does not change a use's instruction

@@ -7,7 +7,7 @@ use set_part::PartSeg;
 use set_part::SetPart;
 ghost use mathlib.Core.Path.{_≡_};
 ghost use mathlib.Core.Bool.{true};
-ghost use Prim.Native.Nat.{ℕ, _+_, _*_, _≤_, _<_};
+ghost use Prim.Native.Nat.{_+_, _*_, _≤_, _<_};
 ghost use Rattle.rows.specs.RowsAt.{rowsAt};
 ghost use Rattle.words.specs.Words.{wordCount, wordsOf};
 ghost use Rattle.definition.specs.Entry.{chained, notAfter};

@@ -1,12 +1,11 @@
 -- Parts whose uses are the same. Assumes nothing.
-use mathlib.Core.Path.{_≡_, refl, sym, ap, _∙_}
-use mathlib.Core.List.{List, [], _∷_, _++_}
-use Prim.Native.Nat.{ℕ, zero, suc, _+_, _-_, _*_, _≤_, _<_}
+use mathlib.Core.Path.{_≡_, refl, ap}
+use mathlib.Core.List.{List}
+use Prim.Native.Nat.{ℕ, _+_, _-_, _≤_, _<_}
 use native.Mathlib.Omega.{arith}
 use lib.ListN.{getD}
 use Rattle.rows.specs.Tab.{tab, tab-ext}
 use Rattle.definition.specs.declared.Use.{Use}
-use Rattle.definition.specs.Types.{Segment}
 use Rattle.layout.specs.declared.Layout.{Layout}
 use Rattle.set_part.specs.declared.SetPart.{SetPart}
 use Rattle.set_part.specs.declared.PartSeg.{PartSeg}

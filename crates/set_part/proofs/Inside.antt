@@ -1,12 +1,12 @@
 -- Where the segments fit (`SegsFit`: the entry rules 6 and 7, which turns and cuts keep), each use of a part lies between its ends.
 -- So a cut behind one use of a part and before a class use of it has two sides. Assumes nothing.
-use mathlib.Core.Path.{_≡_, refl, sym, ap, _∙_}
+use mathlib.Core.Path.{_≡_, refl}
 use mathlib.Core.Bool.{Bool, true, false}
 use mathlib.Core.List.{List, [], _∷_, _++_}
 use Prim.Native.Nat.{ℕ, zero, suc, _+_, _-_, _*_, _≤_, _<_}
 use native.Mathlib.Omega.{arith}
-use lib.Dec.{ltb, eqb}
-use lib.ListN.{length, getD, length-append, List·getD-append}
+use lib.Dec.{ltb}
+use lib.ListN.{length, length-append, List·getD-append}
 use borrow.Author.Tests.{eq-eqb, ltb-true, ltb-false}
 use Rattle.rows.specs.Tab.{tab}
 use Rattle.rows.specs.Parts.{getD-past}

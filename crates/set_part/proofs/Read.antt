@@ -1,5 +1,5 @@
 -- What the code reads is the part's row, and the whole set's part. Assumes nothing.
-use mathlib.Core.Path.{_≡_, refl, sym, ap, _∙_}
+use mathlib.Core.Path.{_≡_}
 use mathlib.Core.Bool.{cond}
 use mathlib.Core.List.{List}
 use Prim.Native.Nat.{ℕ, _+_, _-_, _*_}
@@ -10,7 +10,6 @@ use Rattle.layout.specs.declared.Layout.{Layout}
 use Rattle.layout.specs.declared.SegRow.{SegRow}
 use Rattle.layout.specs.Layout.{segRow, segAt, nextUse}
 use Rattle.set_part.specs.declared.SetPart.{SetPart}
-use Rattle.set_part.specs.declared.PartSeg.{PartSeg}
 use Rattle.set_part.specs.Part.{useBound, partRow, wholePart}
 
 pub row-read : (W : List ℕ) (lay : Layout) (sp : SetPart) (i : ℕ) (row : SegRow) (q t : LiveRangePoint) (f : UseFlags) (a b : ℕ)

@@ -1,9 +1,8 @@
 -- The part that is a whole set has the job's own segments. Assumes nothing.
 use mathlib.Core.Path.{_≡_, refl, sym, ap, _∙_}
 use mathlib.Core.Bool.{Bool, true, false, cond}
-use mathlib.Core.List.{List, [], _∷_, _++_}
-use Prim.Native.Nat.{ℕ, zero, suc, _+_, _-_, _*_, _≤_, _<_}
-use native.Mathlib.Nat.{zero-add}
+use mathlib.Core.List.{List}
+use Prim.Native.Nat.{ℕ, _+_, _-_, _*_, _≤_, _<_}
 use native.Mathlib.Omega.{arith}
 use lib.Dec.{eqb, ltb}
 use lib.ListN.{getD}
@@ -11,15 +10,12 @@ use borrow.Author.Tests.{lt-ltb, eqb-true, eqb-false}
 use Rattle.rows.specs.Tab.{tab, tab-ext}
 use Rattle.rows.specs.RowsAt.{rowsAt}
 use Rattle.definition.specs.declared.Use.{Use}
-use Rattle.definition.specs.Types.{Segment}
 use Rattle.uses.specs.Rows.{useRow}
 use Rattle.layout.specs.declared.Layout.{Layout}
 use Rattle.layout.specs.Layout.{segRow, segAt, nextUse, usesIn, segmentOf}
-use Rattle.set_part.specs.declared.SetPart.{SetPart}
 use Rattle.set_part.specs.declared.PartSeg.{PartSeg}
 use Rattle.set_part.specs.Part.{useBound, partRow, segBy, markedUse, partSegs, PartOk, CountsRise, wholePart}
-use Rattle.set_part.proofs.Bounds.{bound-first, bound-inner, bound-end, bound-le-end, first-le-bound, bounds-rise}
-use Rattle.set_part.proofs.Alike.{row-first, row-end}
+use Rattle.set_part.proofs.Bounds.{bound-first, bound-inner, bound-end, bound-le-end, first-le-bound}
 
 -- a choice between equals
 pub cond-same : {A : Type 0} (t : Bool) (x y : A) → (t ≡ true → x ≡ y) → cond t x y ≡ y

@@ -5,11 +5,11 @@ use definition::Value;
 use layout::Layout;
 ghost use mathlib.Core.Path.{_≡_};
 ghost use mathlib.Core.Bool.{cond};
-ghost use Prim.Native.Nat.{ℕ, _+_, _≤_, _<_};
+ghost use Prim.Native.Nat.{_+_, _≤_, _<_};
 ghost use lib.Dec.{eqb};
 ghost use Rattle.words.specs.Words.{wordCount, wordsOf};
 ghost use Rattle.layout.specs.Layout.{Fits};
-ghost use Rattle.set_part.specs.Part.{PartOk, useBound, partRow, wholePart};
+ghost use Rattle.set_part.specs.Part.{useBound, partRow, wholePart};
 
 // Segments `seg` to `last` of the job. The first begins at `from`, has `flags`, and its uses begin at use number `first`;
 // the last ends at `to`, its uses end before use number `end`, and it has `tail` as its flags if it is not the first too.

@@ -10,7 +10,7 @@ use borrow.Author.Tests.{lt-ltb, le-ltb, ltb-true, ltb-false}
 use Rattle.layout.specs.declared.Layout.{Layout}
 use Rattle.layout.specs.Layout.{segRow, segAt}
 use Rattle.set_part.specs.declared.SetPart.{SetPart}
-use Rattle.set_part.specs.Part.{useBound, PartOk}
+use Rattle.set_part.specs.Part.{useBound}
 use Rattle.set_part.proofs.Bounds.{bound-first, bound-inner, bound-end}
 use Rattle.turned.specs.Turned.{holderFrom, holder}
 

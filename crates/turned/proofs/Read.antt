@@ -1,6 +1,6 @@
 -- Each way through the functions of turned uses. Assumes nothing.
-use mathlib.Core.Path.{_≡_, refl, sym, ap, _∙_}
-use mathlib.Core.Bool.{Bool, true, false, cond}
+use mathlib.Core.Path.{_≡_, sym, ap, _∙_}
+use mathlib.Core.Bool.{false}
 use mathlib.Core.List.{List}
 use Prim.Native.Nat.{ℕ, _+_, _-_, _*_, _≤_, _<_}
 use native.Mathlib.Omega.{arith}
@@ -16,11 +16,11 @@ use Rattle.uses.specs.Rows.{useRow}
 use Rattle.layout.specs.declared.Layout.{Layout}
 use Rattle.set_part.specs.declared.SetPart.{SetPart}
 use Rattle.set_part.specs.declared.PartSeg.{PartSeg}
-use Rattle.set_part.specs.Part.{partRow, markedUse, useBound, PartOk}
+use Rattle.set_part.specs.Part.{partRow, markedUse, PartOk}
 use Rattle.set_part.proofs.Alike.{row-first}
 use Rattle.turned.specs.declared.Param.{Param}
 use Rattle.turned.specs.Turned.{given, paramHere, holder, turnedIn, turnedRow}
-use Rattle.turned.proofs.Holder.{Within, holder-holds}
+use Rattle.turned.proofs.Holder.{holder-holds}
 
 -- a use under its mark
 module _ (K : List ℕ) (marks : ℕ) (W : List ℕ) (lay : Layout) (n : ℕ) (u : Use) (w : ℕ) (eu : u ≡ useRow W (lay .uses .at + n * 6)) (ew : w ≡ getD K (marks + n) 0) where

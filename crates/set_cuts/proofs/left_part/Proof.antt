@@ -1,17 +1,12 @@
 use Rattle.set_cuts.specs.Cut.{leftPart}
 use borrow.Author.Tests.{eq-eqb, ne-eqb}
-use borrow.Author.Needs.{needs}
 use Rattle.set_cuts.proofs.left_part.Statement.{statement}
 use Rattle.set_cuts.proofs.left_part.Tie as tie
-use Rattle.set_cuts.proofs.left_part.Reads as reads
-use Rattle.set_cuts.proofs.left_part.Lts as lts
 
--- src/lib.rt:50:9
 returns : tie.Need-returns
 unfolding leftPart
 returns c = simp (eq-eqb _ _ (c .if1 .taken))
 
--- src/lib.rt:43:1
 returns-2 : tie.Need-returns-2
 unfolding leftPart
 returns-2 c = simp (ne-eqb _ _ (c .before .if1 .left))

@@ -1,19 +1,13 @@
 use borrow.Author.Tests.{eq-eqb, ne-eqb}
-use borrow.Author.Needs.{needs}
 use Rattle.set_part.proofs.flags_in.Statement.{statement}
 use Rattle.set_part.proofs.flags_in.Tie as tie
-use Rattle.set_part.proofs.flags_in.Reads as reads
-use Rattle.set_part.proofs.flags_in.Lts as lts
 
--- src/lib.rt:77:9
 returns : tie.Need-returns
 returns c = simp (eq-eqb _ _ (c .before .if1 .taken))
 
--- src/lib.rt:80:9
 returns-2 : tie.Need-returns-2
 returns-2 c = simp (eq-eqb _ _ (c .before .if2 .taken), ne-eqb _ _ (c .before .before .before .if1 .left))
 
--- src/lib.rt:73:1
 returns-3 : tie.Need-returns-3
 returns-3 c = simp (ne-eqb _ _ (c .if2 .left), ne-eqb _ _ (c .before .before .if1 .left))
 

@@ -6,9 +6,6 @@ use Prim.Native.Nat.{_-_, _≤_}
 use borrow.Author.Needs.{needs}
 use Rattle.turned.proofs.holder_of.Statement.{statement}
 use Rattle.turned.proofs.holder_of.Tie as tie
-use Rattle.turned.proofs.holder_of.Reads as reads
-use Rattle.turned.proofs.holder_of.Lts as lts
-use Rattle.words.proofs.word_at.Reads as word-at-reads
 
 abbrev Inv-loop : tie.InvT-loop
 Inv-loop job c at last i₀ i = WalkOn (wordsOf job) at c i₀ last i × (i₀ ≤ i) × (i ≤ last)
@@ -16,54 +13,18 @@ Inv-loop job c at last i₀ i = WalkOn (wordsOf job) at c i₀ last i × (i₀ �
 abbrev μ-loop : tie.MeasureT-loop
 μ-loop job c at last i₀ i = last - i
 
--- src/lib.rt:126:5
 loop-holds : tie.Need-loop-holds Inv-loop μ-loop
 loop-holds c = (walk-start _ _ _ _ _, omega arith, omega arith)
 
--- src/lib.rt:127:42
-add-word-at : tie.Need-add-word-at Inv-loop μ-loop
-add-word-at c = search needs
-
--- src/lib.rt:127:41
-mul-word-at : tie.Need-mul-word-at Inv-loop μ-loop
-mul-word-at c = search needs
-
--- src/lib.rt:127:36
-add-word-at-2 : tie.Need-add-word-at-2 Inv-loop μ-loop
-add-word-at-2 c = search needs
-
--- src/lib.rt:127:36
-add-word-at-3 : tie.Need-add-word-at-3 Inv-loop μ-loop
-add-word-at-3 c = search needs
-
--- src/lib.rt:127:16
-word-at-requires : tie.Need-word-at-requires Inv-loop μ-loop
-word-at-requires c κs = search needs
-
--- src/lib.rt:127:16
-cast-if1 : tie.Need-cast-if1 Inv-loop μ-loop
-cast-if1 c = search needs
-
--- src/lib.rt:128:13
 returns : tie.Need-returns Inv-loop μ-loop
 unfolding holder
 returns c = let l = c .before .before .before in
     (walk-stop _ _ _ _ _ _ _ (l .loop .inv .0) (c .before .before .loop-test .taken) (c .before .word-at .ensures) (c .if1 .taken), l .loop .inv .1, l .loop .inv .2)
 
--- src/lib.rt:130:9
-add-i : tie.Need-add-i Inv-loop μ-loop
-add-i c = search needs
-
--- src/lib.rt:126:5
-loop-less : tie.Need-loop-less Inv-loop μ-loop
-loop-less c = search needs
-
--- src/lib.rt:126:5
 loop-again : tie.Need-loop-again Inv-loop μ-loop
 loop-again c = let l = c .before .before .before in
     (walk-next _ _ _ _ _ _ _ (l .loop .inv .0) (c .before .before .loop-test .taken) (c .before .word-at .ensures) (c .if1 .left), omega arith, omega arith)
 
--- src/lib.rt:119:1
 returns-2 : tie.Need-returns-2 Inv-loop μ-loop
 unfolding holder
 returns-2 c = let l = c .before .loop .inv in
@@ -76,14 +37,14 @@ holder-of-spec =
     Inv-loop
     μ-loop
     loop-holds
-    add-word-at
-    mul-word-at
-    add-word-at-2
-    add-word-at-3
-    word-at-requires
-    cast-if1
+    (λ c. search needs)
+    (λ c. search needs)
+    (λ c. search needs)
+    (λ c. search needs)
+    (λ c κs. search needs)
+    (λ c. search needs)
     returns
-    add-i
-    loop-less
+    (λ c. search needs)
+    (λ c. search needs)
     loop-again
     returns-2)
