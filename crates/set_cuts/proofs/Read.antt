@@ -1,6 +1,6 @@
 -- Each way through the functions of a cut. Assumes nothing.
 use mathlib.Core.Path.{_≡_, refl, sym, ap, _∙_}
-use mathlib.Core.Bool.{Bool, true, false}
+use mathlib.Core.Bool.{Bool, true, false, cond}
 use mathlib.Core.List.{List}
 use Prim.Native.Nat.{ℕ, _+_, _-_, _*_, _≤_, _<_}
 use native.Mathlib.Omega.{arith}
@@ -8,6 +8,7 @@ use lib.Dec.{ltb, eqb}
 use lib.ListN.{length}
 use borrow.Author.Tests.{lt-ltb, le-ltb}
 use Rattle.definition.specs.declared.Inst.{Inst}
+use Rattle.definition.specs.declared.LiveRangePoint.{LiveRangePoint}
 use Rattle.definition.specs.declared.UseFlags.{UseFlags}
 use Rattle.definition.specs.declared.Hint.{Hint}
 use Rattle.definition.specs.Types.{point}
@@ -23,6 +24,11 @@ use Rattle.set_part.proofs.Alike.{row-first, row-end}
 use Rattle.set_cuts.specs.declared.Parts.{Parts}
 use Rattle.set_cuts.specs.Cut.{leftPart, rightPart, midUse, firstPast, cutAcross, cutBetween, cutAt, cutPart}
 use Rattle.set_cuts.proofs.Past.{past-first}
+
+pub left-read : (sp : SetPart) (k : ℕ) (t : LiveRangePoint) (f : UseFlags) (e : ℕ) (g : UseFlags) → g ≡ cond (eqb k (sp .seg)) f (sp .flags)
+    → record { seg = sp .seg; «from» = sp .«from»; flags = g; first = sp .first; last = k; to = t; tail = f; end = e } ≡ leftPart sp k t f e
+unfolding leftPart
+left-read sp k t f e g h = rw h
 
 pub across-read : (hs : List Hint) (W : List ℕ) (lay : Layout) (p : Inst) (sp : SetPart) (k : ℕ) (row : PartSeg) (n : ℕ) (f g : UseFlags) (l r : SetPart)
     → n ≡ length (usesBefore p (usesAt W (lay .uses .at + row .first * 6) (row .end - row .first))) → f ≡ leftFlags hs p (row .value) (row .«from») (row .flags)

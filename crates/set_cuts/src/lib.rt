@@ -6,8 +6,9 @@ use layout::Layout;
 use set_part::PartSeg;
 use set_part::SetPart;
 ghost use mathlib.Core.Path.{_≡_};
-ghost use mathlib.Core.Bool.{true};
+ghost use mathlib.Core.Bool.{true, cond};
 ghost use Prim.Native.Nat.{_+_, _*_, _≤_, _<_};
+ghost use lib.Dec.{eqb};
 ghost use Rattle.rows.specs.RowsAt.{rowsAt};
 ghost use Rattle.words.specs.Words.{wordCount, wordsOf};
 ghost use Rattle.definition.specs.Entry.{chained, notAfter};
@@ -39,34 +40,29 @@ fn first_past(job: &[u8], lay: Layout, sp: SetPart, q: u32) -> usize
     i
 }
 
-// The part up to segment k, which ends at `to`, has `flags`, and whose uses end before number `end`.
-fn left_part(sp: SetPart, k: usize, to: LiveRangePoint, flags: UseFlags, end: usize) -> SetPart
-    ensures { λ r. ⌜ r ≡ leftPart sp k to flags end ⌝ }
+// The first segment's flags in a part up to segment k, which has f.
+fn first_flags(sp: SetPart, k: usize, f: UseFlags) -> UseFlags
+    ensures { λ r. ⌜ r ≡ cond (eqb k (sp .seg)) f (sp .flags) ⌝ }
+{
+    if k == sp.seg {
+        return f;
+    }
+    sp.flags
+}
+
+// The part up to segment k, which ends at `to`, has `tail` as its flags, and whose uses end before number `end`.
+fn left_part(sp: SetPart, k: usize, to: LiveRangePoint, tail: UseFlags, end: usize) -> SetPart
+    ensures { λ r. ⌜ r ≡ leftPart sp k to tail end ⌝ }
 {
     let from = sp.from;
-    let first = sp.first;
-    let seg = sp.seg;
-    if k == seg {
-        return SetPart {
-            seg,
-            from,
-            flags,
-            first,
-            last: k,
-            to,
-            tail: flags,
-            end,
-        };
-    }
-    let old = sp.flags;
     SetPart {
-        seg,
+        seg: sp.seg,
         from,
-        flags: old,
-        first,
+        flags: first_flags(sp, k, tail),
+        first: sp.first,
         last: k,
         to,
-        tail: flags,
+        tail,
         end,
     }
 }

@@ -1,17 +1,19 @@
 -- What is kept of a use that is turned. Assumes nothing.
 use mathlib.Core.Path.{_≡_, refl, sym, ap, _∙_}
-use mathlib.Core.Bool.{cond}
+use mathlib.Core.Bool.{Bool, true, false, cond}
 use mathlib.Core.Option.{Option, none, some}
 use mathlib.Core.List.{List, _∷_}
 use Prim.Native.Nat.{ℕ, zero, suc, _+_, _-_, _≤_, _<_}
 use native.Mathlib.Nat.{add-zero}
 use native.Mathlib.Omega.{arith}
+use lib.Dec.{eqb}
 use lib.ListN.{length, getD}
 use borrow.Author.Tests.{lt-ltb, le-ltb}
 use Rattle.rows.specs.Tab.{tab, getD-tab}
 use Rattle.definition.specs.declared.Inst.{Inst}
 use Rattle.definition.specs.declared.Use.{Use}
 use Rattle.definition.specs.Types.{Segment, Turned}
+use Rattle.definition.specs.Uses.{paramOf}
 use Rattle.definition.specs.Admit.{noUse}
 use Rattle.definition.specs.Build.{paramAt, turnedOf, turnedAt}
 use Rattle.layout.specs.declared.Layout.{Layout}
@@ -20,7 +22,7 @@ use Rattle.set_part.specs.declared.PartSeg.{PartSeg}
 use Rattle.set_part.specs.Part.{useBound, partRow, markedUse, segBy, partSegs, PartOk}
 use Rattle.set_part.proofs.Bounds.{bound-first, bounds-rise}
 use Rattle.set_part.proofs.Alike.{row-first, row-end}
-use Rattle.turned.specs.Turned.{given, paramHere, holder, turnedIn, turnedRow, rowTurned}
+use Rattle.turned.specs.Turned.{isParam, paramD, paramHere, holder, turnedIn, turnedRow, rowTurned}
 use Rattle.turned.proofs.Holder.{Within, holder-holds}
 use Rattle.turned.proofs.Marks.{seg-uses}
 
@@ -40,9 +42,15 @@ unfolding paramAt paramHere
 param-first f p a zero h = absurd (omega arith)
 param-first f p a (suc k) h = refl
 
-given-is : (o : Option ℕ) → cond (given o .has) (some (given o .index)) none ≡ o
-given-is none = refl
-given-is (some q) = refl
+-- the two fields that stand for it
+fields-are : (p : Inst) (u : Use) → cond (isParam (paramHere p u)) (some (paramD (paramOf (u .kind)))) none ≡ paramHere p u
+unfolding paramHere
+fields-are p u = go (eqb (u .pos .0) (p .0)) (paramOf (u .kind))
+  where
+    go : (t : Bool) (o : Option ℕ) → cond (isParam (cond t o none)) (some (paramD o)) none ≡ cond t o none
+    go true none = refl
+    go true (some q) = refl
+    go false o = refl
 
 -- of use number c, by a function that gives the uses, in the segment r
 abbrev keptOf : (ℕ → Use) → PartSeg → ℕ → Turned
@@ -104,4 +112,4 @@ kept-part K marks W lay sp n ok h =
     let f = markedUse K marks W lay in
     let r = partRow W lay sp (holder W lay sp c) in
     kept-at W lay sp ok f c (holder W lay sp c) n (holder-holds W lay sp c h (ok .order) (omega arith)) (ap (λ (k : ℕ). k + n) (bound-first W lay sp))
-    ∙ ap (λ (o : Option ℕ). record { value = r .value; use′ = f c; param = o }) (sym (given-is (paramHere (f c .pos) (f (r .first)))))
+    ∙ ap (λ (o : Option ℕ). record { value = r .value; use′ = f c; param = o }) (sym (fields-are (f c .pos) (f (r .first))))

@@ -1,6 +1,6 @@
 -- Each way through the functions of turned uses. Assumes nothing.
 use mathlib.Core.Path.{_≡_, sym, ap, _∙_}
-use mathlib.Core.Bool.{false}
+use mathlib.Core.Bool.{Bool, false}
 use mathlib.Core.List.{List}
 use Prim.Native.Nat.{ℕ, _+_, _-_, _*_, _≤_, _<_}
 use native.Mathlib.Omega.{arith}
@@ -9,7 +9,6 @@ use lib.ListN.{getD}
 use borrow.Author.Tests.{eq-eqb, ne-eqb}
 use Rattle.definition.specs.declared.Inst.{Inst}
 use Rattle.definition.specs.declared.Use.{Use}
-use Rattle.definition.specs.declared.UseKind.{UseKind}
 use Rattle.definition.specs.Uses.{paramOf}
 use Rattle.definition.specs.Build.{turnedUse}
 use Rattle.uses.specs.Rows.{useRow}
@@ -18,8 +17,7 @@ use Rattle.set_part.specs.declared.SetPart.{SetPart}
 use Rattle.set_part.specs.declared.PartSeg.{PartSeg}
 use Rattle.set_part.specs.Part.{partRow, markedUse, PartOk}
 use Rattle.set_part.proofs.Alike.{row-first}
-use Rattle.turned.specs.declared.Param.{Param}
-use Rattle.turned.specs.Turned.{given, paramHere, holder, turnedIn, turnedRow}
+use Rattle.turned.specs.Turned.{isParam, paramD, paramHere, holder, turnedIn, turnedRow}
 use Rattle.turned.proofs.Holder.{holder-holds}
 
 -- a use under its mark
@@ -32,25 +30,22 @@ module _ (K : List ℕ) (marks : ℕ) (W : List ℕ) (lay : Layout) (n : ℕ) (u
   unfolding markedUse
   turned-read z = let q : eqb (getD K (marks + n) 0) 0 ≡ false = ne-eqb (getD K (marks + n) 0) 0 (λ e. z (ew ∙ e)) in rw q (ap turnedUse eu)
 
--- the parameter by the kind that a match found
-pub kind-read : (x : Param) (k j : UseKind) → k ≡ j → x ≡ given (paramOf j) → x ≡ given (paramOf k)
-kind-read x k j e h = h ∙ ap (λ (i : UseKind). given (paramOf i)) (sym e)
-
+-- whether a use is a BlockparamIn at p
 module _ (p : Inst) (u : Use) where
-  pub elsewhere-read : (u .pos .0 ≡ p .0 → ⊥) → record { has = false; index = 0 } ≡ given (paramHere p u)
+  pub elsewhere-read : (u .pos .0 ≡ p .0 → ⊥) → false ≡ isParam (paramHere p u)
   unfolding paramHere
   elsewhere-read h = rw (ne-eqb (u .pos .0) (p .0) h)
 
-  pub here-read : (x : Param) → u .pos .0 ≡ p .0 → x ≡ given (paramOf (u .kind)) → x ≡ given (paramHere p u)
+  pub here-read : (x : Bool) → u .pos .0 ≡ p .0 → x ≡ isParam (paramOf (u .kind)) → x ≡ isParam (paramHere p u)
   unfolding paramHere
   here-read x e h = rw (eq-eqb (u .pos .0) (p .0) e) h
 
 -- the row of a turned use
-pub row-kept : (K : List ℕ) (marks : ℕ) (W : List ℕ) (lay : Layout) (sp : SetPart) (n k : ℕ) (r : PartSeg) (u head : Use) (x : Param)
+pub row-kept : (K : List ℕ) (marks : ℕ) (W : List ℕ) (lay : Layout) (sp : SetPart) (n k : ℕ) (r : PartSeg) (u head : Use) (x : Bool) (y : ℕ)
     → k ≡ holder W lay sp (sp .first + n) → r ≡ partRow W lay sp k → u ≡ markedUse K marks W lay (sp .first + n) → head ≡ markedUse K marks W lay (r .first)
-    → x ≡ given (paramHere (u .pos) head) → record { value = r .value; number = sp .first + n; «has_param» = x .has; param = x .index } ≡ turnedRow K marks W lay sp n
+    → x ≡ isParam (paramHere (u .pos) head) → y ≡ paramD (paramOf (head .kind)) → record { value = r .value; number = sp .first + n; «has_param» = x; param = y } ≡ turnedRow K marks W lay sp n
 unfolding turnedRow turnedIn
-row-kept K marks W lay sp n k r u head x ek er eu eh ex = rw (ex, eu, eh, er, ek)
+row-kept K marks W lay sp n k r u head x y ek er eu eh ex ey = rw (ex, ey, eu, eh, er, ek)
 
 -- the first use of the segment that holds use number c is a use of the job
 pub head-within : (W : List ℕ) (lay : Layout) (sp : SetPart) (c k : ℕ) (r : PartSeg) → PartOk W lay sp → sp .first ≤ c → c < sp .end → k ≡ holder W lay sp c → r ≡ partRow W lay sp k

@@ -1,6 +1,6 @@
 -- What is kept of a use that is turned, read off a working part. Assumes nothing.
 use Prim.Native.Nat.{ℕ, zero, suc, _+_, _-_, _*_}
-use mathlib.Core.Bool.{true, false, cond}
+use mathlib.Core.Bool.{Bool, true, false, cond}
 use mathlib.Core.Option.{Option, none, some}
 use mathlib.Core.List.{List}
 use lib.Dec.{eqb, ltb}
@@ -13,13 +13,16 @@ use Rattle.layout.specs.Layout.{segRow}
 use Rattle.set_part.specs.declared.SetPart.{SetPart}
 use Rattle.set_part.specs.declared.PartSeg.{PartSeg}
 use Rattle.set_part.specs.Part.{partRow, markedUse}
-use Rattle.turned.specs.declared.Param.{Param}
 use Rattle.turned.specs.declared.TurnedRow.{TurnedRow}
 
--- a parameter that may be there
-abbrev pub given : Option ℕ → Param
-given none = record { has = false; index = 0 }
-given (some q) = record { has = true; index = q }
+-- whether there is a parameter, and which; 0 where there is none
+abbrev pub isParam : Option ℕ → Bool
+isParam none = false
+isParam (some q) = true
+
+abbrev pub paramD : Option ℕ → ℕ
+paramD none = 0
+paramD (some q) = q
 
 -- "if the list .. began with a BlockparamIn at p": the block parameter of u, if u stands at p
 unfoldable pub paramHere : Inst → Use → Option ℕ
@@ -36,14 +39,14 @@ unfoldable pub holder : List ℕ → Layout → SetPart → ℕ → ℕ
 unfolding holderFrom
 holder W lay sp c = holderFrom W (lay .segments .at) c (sp .seg) (sp .last - sp .seg)
 
--- of use number c in the segment r
+-- of use number c in the segment r; `param` is that of the segment's first use wherever it stands
 unfoldable pub turnedIn : List ℕ → ℕ → List ℕ → Layout → PartSeg → ℕ → TurnedRow
 unfolding markedUse paramHere
 turnedIn K marks W lay r c = record {
   value = r .value;
   number = c;
-  «has_param» = given (paramHere (markedUse K marks W lay c .pos) (markedUse K marks W lay (r .first))) .has;
-  param = given (paramHere (markedUse K marks W lay c .pos) (markedUse K marks W lay (r .first))) .index;
+  «has_param» = isParam (paramHere (markedUse K marks W lay c .pos) (markedUse K marks W lay (r .first)));
+  param = paramD (paramOf (markedUse K marks W lay (r .first) .kind));
 }
 
 -- of the use at place n of a part

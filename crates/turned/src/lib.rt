@@ -12,15 +12,9 @@ ghost use Rattle.words.specs.Words.{wordCount, wordsOf};
 ghost use Rattle.definition.specs.Uses.{paramOf};
 ghost use Rattle.layout.specs.Layout.{Fits};
 ghost use Rattle.set_part.specs.Part.{PartOk, markedUse};
-ghost use Rattle.turned.specs.Turned.{given, paramHere, holder, turnedRow};
+ghost use Rattle.turned.specs.Turned.{isParam, paramD, paramHere, holder, turnedRow};
 
-// A block parameter, if `has`.
-pub struct Param {
-    pub has: bool,
-    pub index: u32,
-}
-
-// What is kept of a turned use: its value, its number, and the block parameter that its list begins with at its instruction.
+// What is kept of a turned use: its value, its number, and the block parameter, if `has_param`, that its list begins with at its instruction.
 pub struct TurnedRow {
     pub value: Value,
     pub number: usize,
@@ -53,66 +47,51 @@ pub fn marked_use(job: &[u8], lay: Layout, work: &[u8], marks: usize, n: usize) 
     }
 }
 
-// The block parameter of a BlockparamIn.
-fn param_of(kind: UseKind) -> Param
-    ensures { λ r. ⌜ r ≡ given (paramOf kind) ⌝ }
+// Whether a use of the kind is a BlockparamIn.
+fn is_param(kind: UseKind) -> bool
+    ensures { λ r. ⌜ r ≡ isParam (paramOf kind) ⌝ }
 {
     match kind {
-        UseKind::FixedDef { .. } => Param {
-            has: false,
-            index: 0,
-        },
-        UseKind::FixedUse { .. } => Param {
-            has: false,
-            index: 0,
-        },
-        UseKind::TiedUse { .. } => Param {
-            has: false,
-            index: 0,
-        },
-        UseKind::ConstraintConflict => Param {
-            has: false,
-            index: 0,
-        },
-        UseKind::ClassUse { .. } => Param {
-            has: false,
-            index: 0,
-        },
-        UseKind::ClassDef { .. } => Param {
-            has: false,
-            index: 0,
-        },
-        UseKind::GroupClassUse { .. } => Param {
-            has: false,
-            index: 0,
-        },
-        UseKind::GroupClassDef { .. } => Param {
-            has: false,
-            index: 0,
-        },
-        UseKind::BlockparamIn { blockparam_idx } => Param {
-            has: true,
-            index: blockparam_idx,
-        },
-        UseKind::BlockparamOut => Param {
-            has: false,
-            index: 0,
-        },
+        UseKind::FixedDef { .. } => false,
+        UseKind::FixedUse { .. } => false,
+        UseKind::TiedUse { .. } => false,
+        UseKind::ConstraintConflict => false,
+        UseKind::ClassUse { .. } => false,
+        UseKind::ClassDef { .. } => false,
+        UseKind::GroupClassUse { .. } => false,
+        UseKind::GroupClassDef { .. } => false,
+        UseKind::BlockparamIn { .. } => true,
+        UseKind::BlockparamOut => false,
     }
 }
 
-// The block parameter of u, if u stands at p.
-fn param_at(u: Use, p: Inst) -> Param
-    ensures { λ r. ⌜ r ≡ given (paramHere p u) ⌝ }
+// The block parameter of a BlockparamIn, 0 for other kinds.
+fn param_index(kind: UseKind) -> u32
+    ensures { λ r. ⌜ r ≡ paramD (paramOf kind) ⌝ }
+{
+    match kind {
+        UseKind::FixedDef { .. } => 0,
+        UseKind::FixedUse { .. } => 0,
+        UseKind::TiedUse { .. } => 0,
+        UseKind::ConstraintConflict => 0,
+        UseKind::ClassUse { .. } => 0,
+        UseKind::ClassDef { .. } => 0,
+        UseKind::GroupClassUse { .. } => 0,
+        UseKind::GroupClassDef { .. } => 0,
+        UseKind::BlockparamIn { blockparam_idx } => blockparam_idx,
+        UseKind::BlockparamOut => 0,
+    }
+}
+
+// Whether u is a BlockparamIn at p.
+fn is_param_at(u: Use, p: Inst) -> bool
+    ensures { λ r. ⌜ r ≡ isParam (paramHere p u) ⌝ }
 {
     if u.pos.0 != p.0 {
-        return Param {
-            has: false,
-            index: 0,
-        };
+        return false;
     }
     let kind = u.kind;
-    param_of(kind)
+    is_param(kind)
 }
 
 // The segment of a part that use number c belongs to.
@@ -150,11 +129,11 @@ pub fn turned_at(
     let u = marked_use(job, lay, work, marks, c);
     let p = u.pos;
     let head = marked_use(job, lay, work, marks, row.first);
-    let param = param_at(head, p);
+    let kind = head.kind;
     TurnedRow {
         value,
         number: c,
-        has_param: param.has,
-        param: param.index,
+        has_param: is_param_at(head, p),
+        param: param_index(kind),
     }
 }
