@@ -1,4 +1,4 @@
-// A working part cut at an instruction into the part before it and the part behind it (builder.rs, live_range.rs `split_at`).
+// A working part cut at an instruction into the part before it and the part behind it (live_range.rs `split_segments_at`).
 use definition::Inst;
 use definition::LiveRangePoint;
 use definition::UseFlags;

@@ -5,9 +5,9 @@ use mathlib.Core.List.{List}
 use Prim.Native.Nat.{ℕ, _+_, _-_, _*_, _≤_, _<_}
 use native.Mathlib.Omega.{arith}
 use lib.Dec.{eqb, ltb}
-use lib.ListN.{getD}
+use lib.ListN.{getD, take, drop}
 use borrow.Author.Tests.{lt-ltb, eqb-true, eqb-false}
-use Rattle.rows.specs.Tab.{tab, tab-ext}
+use Rattle.rows.specs.Tab.{tab, tab-ext, tab-drop}
 use Rattle.rows.specs.RowsAt.{rowsAt}
 use Rattle.definition.specs.declared.Use.{Use}
 use Rattle.uses.specs.Rows.{useRow}
@@ -115,3 +115,8 @@ module _ (W : List ℕ) (lay : Layout) where
             clear j
             (omega (arith, first-le-bound W lay (wholePart W lay a b) ok i p (omega arith), own-bound i p q))
             (omega (arith, bound-le-end W lay (wholePart W lay a b) ok (i + 1) (omega arith) (omega arith), own-next i p q)))
+
+    -- as a part of the job's list
+    pub whole-sublist : (K : List ℕ) (marks : ℕ) → CountsRise W lay → ((j : ℕ) → segAt W lay a .first ≤ j → j < nextUse W lay (b - 1) → getD K (marks + j) 0 ≡ 0)
+        → partSegs K marks W lay (wholePart W lay a b) ≡ take (b - a) (drop a (tab (λ i. segmentOf useRow W lay i) 0 (lay .segments .n)))
+    whole-sublist K marks cr clear = whole-segs K marks cr clear ∙ tab-drop (λ i. segmentOf useRow W lay i) a (b - a) (lay .segments .n) (omega arith)
