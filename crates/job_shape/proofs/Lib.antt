@@ -1,0 +1,5 @@
+pub mod Laws
+pub mod Header
+pub mod Columns
+pub mod Rising
+pub mod Formed
