@@ -1,5 +1,6 @@
 pub mod Laws
 pub mod Header
+pub mod Every
 pub mod Columns
 pub mod Rising
 pub mod Formed

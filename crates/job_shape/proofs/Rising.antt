@@ -10,12 +10,11 @@ use borrow.Author.Tests.{le-leb, lt-leb}
 use Rattle.rows.specs.RowsAt.{rowsAt, rows-at-start, rows-at-more, rows-at-done, getD-rows-at}
 use Rattle.layout.specs.declared.Layout.{Layout}
 use Rattle.job_shape.specs.Shape.{wordIn, rises, useCounts}
-use Rattle.job_shape.proofs.Columns.{rest}
 
 module _ (W : List ℕ) (lay : Layout) where
   -- the use counts from segment i on
   abbrev pub from : ℕ → List ℕ
-  from i = rest W (lay .segments .at) (lay .segments .n) 5 4 i
+  from i = rowsAt (wordIn 4) W (lay .segments .at + i * 5) 5 (lay .segments .n - i)
 
   pub rise-first : rises 0 (useCounts W lay) (lay .uses .n) ≡ rises 0 (from 0) (lay .uses .n)
   unfolding useCounts

@@ -3,13 +3,13 @@ use mathlib.Core.Path.{_≡_, sym, _∙_}
 use Prim.Native.Nat.{_-_}
 use Rattle.words.specs.Words.{wordsOf}
 use Rattle.job_shape.specs.Shape.{table, allBelow}
-use Rattle.job_shape.proofs.Columns.{row-within, rest, below, below-first, below-next, below-not, below-last}
+use Rattle.job_shape.proofs.Columns.{row-within, belowFrom, below-first, below-next, below-not, below-last}
 use borrow.Author.Needs.{needs}
 use Rattle.job_shape.proofs.all_below.Statement.{statement}
 use Rattle.job_shape.proofs.all_below.Tie as tie
 
 abbrev Inv-loop : tie.InvT-loop
-Inv-loop job stride col bound at n i₀ i = allBelow (wordsOf job) (table at n) stride col bound ≡ below bound (rest (wordsOf job) at n stride col i)
+Inv-loop job stride col bound at n i₀ i = allBelow (wordsOf job) (table at n) stride col bound ≡ belowFrom (wordsOf job) at n stride col bound i
 
 abbrev μ-loop : tie.MeasureT-loop
 μ-loop job stride col bound at n i₀ i = n - i

@@ -8,31 +8,31 @@ count-requires : tie.Need-count-requires
 count-requires c κs = search needs
 
 table-behind-requires : tie.Need-table-behind-requires
-table-behind-requires c κs = ready 0 1 (c .before .before .pre) refl refl (placed-first _ (c .count .ensures .1))
+table-behind-requires c κs = ready _ _ (c .before .before .pre) refl refl (placed-first _ (c .count .ensures .1))
 
 table-behind-requires-2 : tie.Need-table-behind-requires-2
-table-behind-requires-2 c κs = ready 1 4 (c .before .before .before .pre) refl refl (c .table-behind .ensures .1)
+table-behind-requires-2 c κs = ready _ _ (c .before .before .before .pre) refl refl (c .table-behind .ensures .1)
 
 table-behind-requires-3 : tie.Need-table-behind-requires-3
-table-behind-requires-3 c κs = ready 2 1 (c .before .before .before .before .pre) refl refl (c .table-behind2 .ensures .1)
+table-behind-requires-3 c κs = ready _ _ (c .before .before .before .before .pre) refl refl (c .table-behind2 .ensures .1)
 
 table-behind-requires-4 : tie.Need-table-behind-requires-4
-table-behind-requires-4 c κs = ready 3 2 (c .before .before .before .before .before .pre) refl refl (c .table-behind3 .ensures .1)
+table-behind-requires-4 c κs = ready _ _ (c .before .before .before .before .before .pre) refl refl (c .table-behind3 .ensures .1)
 
 table-behind-requires-5 : tie.Need-table-behind-requires-5
-table-behind-requires-5 c κs = ready 4 3 (c .before .before .before .before .before .before .pre) refl refl (c .table-behind4 .ensures .1)
+table-behind-requires-5 c κs = ready _ _ (c .before .before .before .before .before .before .pre) refl refl (c .table-behind4 .ensures .1)
 
 table-behind-requires-6 : tie.Need-table-behind-requires-6
-table-behind-requires-6 c κs = ready 5 9 (c .before .before .before .before .before .before .before .pre) refl refl (c .table-behind5 .ensures .1)
+table-behind-requires-6 c κs = ready _ _ (c .before .before .before .before .before .before .before .pre) refl refl (c .table-behind5 .ensures .1)
 
 table-behind-requires-7 : tie.Need-table-behind-requires-7
-table-behind-requires-7 c κs = ready 6 4 (c .before .before .before .before .before .before .before .before .pre) refl refl (c .table-behind6 .ensures .1)
+table-behind-requires-7 c κs = ready _ _ (c .before .before .before .before .before .before .before .before .pre) refl refl (c .table-behind6 .ensures .1)
 
 table-behind-requires-8 : tie.Need-table-behind-requires-8
-table-behind-requires-8 c κs = ready 7 3 (c .before .before .before .before .before .before .before .before .before .pre) refl refl (c .table-behind7 .ensures .1)
+table-behind-requires-8 c κs = ready _ _ (c .before .before .before .before .before .before .before .before .before .pre) refl refl (c .table-behind7 .ensures .1)
 
 table-behind-requires-9 : tie.Need-table-behind-requires-9
-table-behind-requires-9 c κs = ready 8 5 (c .before .before .before .before .before .before .before .before .before .before .pre) refl refl (c .table-behind8 .ensures .1)
+table-behind-requires-9 c κs = ready _ _ (c .before .before .before .before .before .before .before .before .before .before .pre) refl refl (c .table-behind8 .ensures .1)
 
 returns : tie.Need-returns
 returns c = (
