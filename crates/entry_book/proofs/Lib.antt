@@ -1,0 +1,5 @@
+pub mod Tests
+pub mod Limits
+pub mod Sizes
+pub mod Classes
+pub mod Book
