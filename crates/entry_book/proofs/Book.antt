@@ -2,10 +2,10 @@
 use Prim.Native.Nat.{ℕ, _+_, _*_, _≤_, _<_}
 use native.Mathlib.Omega.{arith}
 use native.Mathlib.Nat.{add-zero}
-use mathlib.Core.Path.{_≡_, refl, sym, ap, _∙_}
-use mathlib.Core.Bool.{Bool, true, false, not, _&&_}
+use mathlib.Core.Path.{_≡_, sym, ap, _∙_}
+use mathlib.Core.Bool.{Bool, true}
 use mathlib.Core.List.{List, _∷_}
-use lib.Dec.{leb, ltb}
+use lib.Dec.{ltb}
 use lib.ListN.{length, getD}
 use lib.Ieee.{binary32, ofBits}
 use borrow.Author.Tests.{leb-true}
@@ -26,19 +26,12 @@ use Rattle.job.specs.Job.{jobBy, rawJob}
 use Rattle.job_shape.specs.Shape.{wordIn, allBelow}
 use Rattle.job_shape.proofs.Every.{every-row, every-same}
 use Rattle.job_shape.proofs.Columns.{below-row}
-use Rattle.job_shape.proofs.Formed.{passed, failed, last}
 use Rattle.entry_book.specs.Book.{scaleTests, Booked}
 
 -- ---- a word that `is_small` was asked of
 
-pub small-passed : {r : Bool} {x y : ℕ} → not r ≡ false → r ≡ small (ofBits binary32 x) → x ≡ y → small (ofBits binary32 y) ≡ true
-small-passed {r} h e d = ap (λ (k : ℕ). small (ofBits binary32 k)) (sym d) ∙ passed h e
-
-pub small-failed : {r : Bool} {x y : ℕ} → not r ≡ true → r ≡ small (ofBits binary32 x) → x ≡ y → small (ofBits binary32 y) ≡ false
-small-failed {r} h e d = ap (λ (k : ℕ). small (ofBits binary32 k)) (sym d) ∙ failed h e
-
-pub small-last : {r : Bool} {x y : ℕ} → r ≡ small (ofBits binary32 x) → x ≡ y → r ≡ small (ofBits binary32 y) && true
-small-last {r} e d = last (e ∙ ap (λ (k : ℕ). small (ofBits binary32 k)) d)
+pub small-is : {r : Bool} {x y : ℕ} → r ≡ small (ofBits binary32 x) → x ≡ y → r ≡ small (ofBits binary32 y)
+small-is e d = e ∙ ap (λ (k : ℕ). small (ofBits binary32 k)) d
 
 -- ---- the whole test
 

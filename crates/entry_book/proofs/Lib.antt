@@ -1,4 +1,3 @@
-pub mod Tests
 pub mod Limits
 pub mod Sizes
 pub mod Classes

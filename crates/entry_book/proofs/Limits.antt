@@ -17,7 +17,7 @@ use Rattle.job.specs.Job.{jobBy, rawJob}
 use Rattle.job_shape.specs.Shape.{countsOk}
 use Rattle.job_shape.proofs.Laws.{Counted, raw-counted}
 use Rattle.entry_book.specs.Limits.{functionCounts, otherCounts, Limited}
-use Rattle.entry_book.proofs.Tests.{and-true, and-false, conj-append}
+use Rattle.job_shape.proofs.Tests.{and-true, and-false, conj-append}
 
 -- ---- the tests by their numbers: i instructions, k the adjust
 

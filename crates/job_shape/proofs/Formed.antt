@@ -1,34 +1,18 @@
 -- What the tests of a slice make of its answer. Assumes nothing.
-use Prim.Native.Nat.{ℕ, _+_, _*_, _≤_, _<_}
+use Prim.Native.Nat.{ℕ, _*_, _≤_, _<_}
 use native.Mathlib.Omega.{arith}
-use mathlib.Core.Path.{_≡_, refl, sym, ap, subst, _∙_}
-use mathlib.Core.Bool.{Bool, true, false, not, _&&_, false≢true}
+use mathlib.Core.Path.{_≡_, sym, ap, subst, _∙_}
+use mathlib.Core.Bool.{Bool, false, false≢true}
 use mathlib.Core.List.{List}
 use lib.ListN.{length}
-use borrow.Author.Tests.{le-leb, lt-leb, eq-eqb, ne-eqb, not-true, not-false}
+use borrow.Author.Tests.{le-leb, lt-leb, eq-eqb, ne-eqb}
 use Rattle.words.specs.Words.{wordCount, wordsOf}
 use Rattle.definition.specs.Entry.{conj}
 use Rattle.layout.specs.declared.Layout.{Layout}
 use Rattle.layout.specs.Layout.{Fits}
 use Rattle.job_shape.specs.Shape.{layoutOf, endOf, tablesOk, shapeOk, Shaped, Formed}
 use Rattle.job_shape.proofs.Laws.{layout-fits, shaped}
-
--- ---- a test that a callee made
-
-pub passed : {r b : Bool} → not r ≡ false → r ≡ b → b ≡ true
-passed {r} h e = sym e ∙ not-false r h
-
-pub failed : {r b : Bool} → not r ≡ true → r ≡ b → b ≡ false
-failed {r} h e = sym e ∙ not-true r h
-
-pub last : {r b : Bool} → r ≡ b → r ≡ b && true
-last {r} {b} e = e ∙ alone b
-  where
-    alone : (b : Bool) → b ≡ b && true
-    alone true = refl
-    alone false = refl
-
--- ---- the answers
+use Rattle.job_shape.proofs.Tests.{and-true}
 
 pub too-short : (s : List ℕ) (lay : Layout) → length s < 56 → Formed s (record { ok = false; lay = lay })
 unfolding shapeOk conj
@@ -60,7 +44,7 @@ module _ (s : List ℕ) (lay : Layout) (h : 56 ≤ length s) (e : lay ≡ layout
   exact t d q =
       let f : length s ≡ 4 * endOf (layoutOf (wordsOf s)) = d ∙ ap (λ (l : Layout). endOf l * 4) e ∙ omega arith in
       let g : t ≡ tablesOk (wordsOf s) (layoutOf (wordsOf s)) = q ∙ ap (λ (l : Layout). tablesOk (wordsOf s) l) e in
-      let i : t ≡ shapeOk s = simp (le-leb 14 (wordCount s) header, eq-eqb _ _ f) (last g) in
+      let i : t ≡ shapeOk s = simp (le-leb 14 (wordCount s) header, eq-eqb _ _ f) (g ∙ sym (and-true _)) in
       record {
         is = i;
         found = λ x. e;

@@ -2,7 +2,7 @@
 use Prim.Native.Nat.{ℕ, zero, suc, _+_, _-_, _*_, _≤_, _<_}
 use native.Mathlib.Omega.{arith}
 use mathlib.Core.Path.{_≡_, refl, sym}
-use mathlib.Core.Bool.{true, false}
+use mathlib.Core.Bool.{true, false, _&&_}
 use mathlib.Core.List.{List}
 use lib.Dec.{leb, eqb}
 use lib.ListN.{length, getD}
@@ -13,11 +13,11 @@ use Rattle.words.specs.Words.{wordCount, wordsOf}
 use Rattle.definition.specs.declared.Use.{Use}
 use Rattle.definition.specs.declared.Refusal.the-variants.{NotARecord}
 use Rattle.definition.specs.Types.{Segment, Job, Room, refused}
-use Rattle.definition.specs.Entry.{answer}
+use Rattle.definition.specs.Entry.{conj, answer}
 use Rattle.definition.proofs.Entries.{and-both, conj-all}
 use Rattle.definition.specs.Place.{total}
 use Rattle.reginfo.specs.Rows.{bankRow, memoryRow, classRow, classesAt}
-use Rattle.function.specs.Blocks.{blockRow, blocksAt}
+use Rattle.function.specs.Blocks.{blockRow}
 use Rattle.coalescing.specs.Rows.{valueRow, valuesAt, vgroupRow, vgroupsAt}
 use Rattle.operands.specs.Rows.{operandRow, operandsAt}
 use Rattle.hints.specs.Hints.{hintAt}
@@ -25,8 +25,23 @@ use Rattle.uses.specs.Rows.{useRow, rawRow}
 use Rattle.layout.specs.declared.Layout.{Layout}
 use Rattle.layout.specs.Layout.{Fits, segRow, segAt, nextUse, usesIn, segmentOf}
 use Rattle.job.specs.Job.{jobBy, rawJob, jobOf}
-use Rattle.job_shape.specs.Shape.{layoutOf, endOf, useCounts, rises, countsOk, tableTests, tablesOk, shapeTests, shapeOk, Shaped}
+use Rattle.job_shape.specs.Shape.{layoutOf, endOf, useCounts, rises, choiceTests, choicesOk, countsOk, tableTests, tablesOk, shapeTests, shapeOk, Shaped}
 use Rattle.job_shape.specs.Answer.{binaryJob, answerIf, binaryAnswer}
+
+-- ---- the tests, by their lists
+
+pub choices-are : (W : List ℕ) (lay : Layout) → conj (choiceTests W lay) ≡ choicesOk W lay
+unfolding choicesOk
+choices-are W lay = refl
+
+pub counts-are : (W : List ℕ) (lay : Layout)
+    → eqb (getD (useCounts W lay) 0 (lay .uses .n)) 0 && rises 0 (useCounts W lay) (lay .uses .n) ≡ countsOk W lay
+unfolding countsOk
+counts-are W lay = refl
+
+pub tables-are : (W : List ℕ) (lay : Layout) → conj (tableTests W lay) ≡ tablesOk W lay
+unfolding tablesOk
+tables-are W lay = refl
 
 -- ---- what test 1 gives
 

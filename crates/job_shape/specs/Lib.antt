@@ -1,2 +1,3 @@
 pub mod Shape
 pub mod Answer
+pub mod Cases

@@ -67,17 +67,19 @@ unfolding every
 allBelow W t stride col bound = every (λ x. ltb x bound) (rowsAt (wordIn col) W (t .at) stride (t .n))
 
 -- "a choice off its list, a kind above 9, flags above 15": spillslots, memory, remat, incoming, flags, kind
-unfoldable pub choicesOk : List ℕ → Layout → Bool
-unfolding conj allBelow
-choicesOk W lay =
-    conj
-    (allBelow W (lay .classes) 4 3 2
+abbrev pub choiceTests : List ℕ → Layout → List Bool
+choiceTests W lay =
+    allBelow W (lay .classes) 4 3 2
     ∷ allBelow W (lay .regs) 1 0 2
     ∷ allBelow W (lay .values) 3 2 4
     ∷ allBelow W (lay .hints) 3 2 2
     ∷ allBelow W (lay .segments) 5 3 16
     ∷ allBelow W (lay .uses) 6 0 10
-    ∷ [])
+    ∷ []
+
+unfoldable pub choicesOk : List ℕ → Layout → Bool
+unfolding conj allBelow
+choicesOk W lay = conj (choiceTests W lay)
 
 -- "how many uses come before it", for each segment
 unfoldable pub useCounts : List ℕ → Layout → List ℕ

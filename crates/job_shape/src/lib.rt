@@ -2,13 +2,12 @@
 use layout::Layout;
 use layout::Table;
 ghost use mathlib.Core.Path.{_≡_};
-ghost use mathlib.Core.Bool.{true};
-ghost use Prim.Native.Nat.{ℕ, _+_, _*_, _≤_, _<_};
+ghost use Prim.Native.Nat.{_+_, _*_, _≤_, _<_};
 ghost use lib.Dec.{eqb};
 ghost use lib.ListN.{getD};
 ghost use Rattle.words.specs.Words.{wordCount, wordsOf};
 ghost use Rattle.layout.specs.Layout.{Fits};
-ghost use Rattle.job_shape.specs.Shape.{Placed, behind, layoutOf, allBelow, choicesOk, rises, useCounts, countsOk, tablesOk, Formed};
+ghost use Rattle.job_shape.specs.Shape.{Placed, behind, layoutOf, allBelow, choicesOk, rises, useCounts, tablesOk, Formed};
 
 // The answer to test 1: whether it is passed, and then the layout.
 pub struct Shape {

@@ -1,6 +1,5 @@
 use mathlib.Core.Path.{_∙_}
-use Rattle.job_shape.proofs.Formed.{passed, failed}
-use Rattle.entry_book.proofs.Tests.{pass, stop}
+use Rattle.job_shape.proofs.Tests.{passed, failed, pass, stop}
 use Rattle.entry_book.proofs.Book.{book-tests}
 use borrow.Author.Needs.{needs}
 use Rattle.entry_book.proofs.book_ok.Statement.{statement}

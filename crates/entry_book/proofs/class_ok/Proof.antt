@@ -1,7 +1,6 @@
 use mathlib.Core.Path.{refl, _∙_}
 use borrow.Author.Tests.{lt-leb, le-leb, lt-ltb, le-ltb}
-use Rattle.job_shape.proofs.Formed.{passed, failed}
-use Rattle.entry_book.proofs.Tests.{pass, stop, end, first-of, second-of}
+use Rattle.job_shape.proofs.Tests.{passed, failed, pass, stop, end, first-of, second-of}
 use Rattle.entry_book.proofs.Classes.{class-tests}
 use borrow.Author.Needs.{needs}
 use Rattle.entry_book.proofs.class_ok.Statement.{statement}

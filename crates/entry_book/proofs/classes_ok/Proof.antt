@@ -4,7 +4,7 @@ use Rattle.words.specs.Words.{wordsOf}
 use Rattle.definition.specs.Entry.{every, classOk}
 use Rattle.reginfo.specs.Rows.{classRow, classesAt}
 use Rattle.job_shape.proofs.Every.{rowsFrom, every-next, every-not, every-last}
-use Rattle.job_shape.proofs.Formed.{passed, failed}
+use Rattle.job_shape.proofs.Tests.{passed, failed}
 use Rattle.entry_book.proofs.Classes.{classes-first}
 use borrow.Author.Needs.{needs}
 use Rattle.entry_book.proofs.classes_ok.Statement.{statement}

@@ -1,7 +1,6 @@
 use mathlib.Core.Path.{refl}
 use borrow.Author.Tests.{lt-leb, le-leb}
-use Rattle.entry_book.proofs.Tests.{pass, stop, end}
-use borrow.Author.Needs.{needs}
+use Rattle.job_shape.proofs.Tests.{pass, stop, end}
 use Rattle.entry_book.proofs.function_counts_ok.Statement.{statement}
 use Rattle.entry_book.proofs.function_counts_ok.Tie as tie
 

@@ -1,6 +1,6 @@
 use mathlib.Core.Path.{sym}
 use borrow.Author.Tests.{lt-leb, le-leb}
-use Rattle.job_shape.proofs.Formed.{passed, failed}
+use Rattle.job_shape.proofs.Tests.{passed, failed}
 use Rattle.entry_book.proofs.Limits.{limits-not, limits-insts, few-blocks}
 use borrow.Author.Needs.{needs}
 use Rattle.entry_book.proofs.limits_ok.Statement.{statement}

@@ -3,7 +3,7 @@ use Prim.Native.Nat.{_-_}
 use Rattle.words.specs.Words.{wordsOf}
 use Rattle.definition.specs.Entry.{sized}
 use Rattle.reginfo.specs.Rows.{classesAt}
-use Rattle.job_shape.proofs.Formed.{passed, failed}
+use Rattle.job_shape.proofs.Tests.{passed, failed}
 use Rattle.entry_book.proofs.Sizes.{classesFrom, sized-first, sized-next, sized-not, sized-last}
 use borrow.Author.Needs.{needs}
 use Rattle.entry_book.proofs.sizes_agree.Statement.{statement}
