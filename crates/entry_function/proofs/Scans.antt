@@ -16,6 +16,7 @@ pub record Each {A : Type 0} (f : A → Bool) (g : ℕ → A) (n i : ℕ) : Type
 
 -- the same of each with the next
 pub record Chain {A : Type 0} (f : A → A → Bool) (g : ℕ → A) (n i : ℕ) : Type 0 where
+  pub within : i ≤ n
   pub is : chained f (tab g 0 n) ≡ chained f (tab g i (n - i))
 
 module _ {A : Type 0} where
@@ -44,7 +45,7 @@ module _ {A : Type 0} where
   each-done {f} {g} {n} {i} c h = sym (c .is ∙ each-none f g n i h)
 
   pub chain-start : (f : A → A → Bool) (g : ℕ → A) (n : ℕ) → Chain f g n 0
-  chain-start f g n = record { is = ap (λ (k : ℕ). chained f (tab g 0 k)) (sym (sub-zero n)) }
+  chain-start f g n = record { within = omega arith; is = ap (λ (k : ℕ). chained f (tab g 0 k)) (sym (sub-zero n)) }
 
   chain-more : (f : A → A → Bool) (g : ℕ → A) (n i : ℕ) → i + 1 < n → chained f (tab g i (n - i)) ≡ f (g i) (g (i + 1)) && chained f (tab g (i + 1) (n - (i + 1)))
   unfolding chained
@@ -55,7 +56,7 @@ module _ {A : Type 0} where
 
   pub chain-next : {f : A → A → Bool} {g : ℕ → A} {n i : ℕ} (t : Bool) → Chain f g n i → i + 1 < n → t ≡ f (g i) (g (i + 1)) → not t ≡ false → Chain f g n (i + 1)
   chain-next {f} {g} {n} {i} t c h e q =
-      record { is = c .is ∙ chain-more f g n i h ∙ ap (λ (b : Bool). b && chained f (tab g (i + 1) (n - (i + 1)))) (sym e ∙ not-false t q) }
+      record { within = omega arith; is = c .is ∙ chain-more f g n i h ∙ ap (λ (b : Bool). b && chained f (tab g (i + 1) (n - (i + 1)))) (sym e ∙ not-false t q) }
 
   pub chain-stop : {f : A → A → Bool} {g : ℕ → A} {n i : ℕ} (t : Bool) → Chain f g n i → i + 1 < n → t ≡ f (g i) (g (i + 1)) → not t ≡ true → false ≡ chained f (tab g 0 n)
   chain-stop {f} {g} {n} {i} t c h e q =
@@ -76,11 +77,11 @@ pub and-both : (p q : Bool) → p && q ≡ true → (p ≡ true) × (q ≡ true)
 and-both true q e = (refl, e)
 and-both false q e = let z : _≡_ {A = ℕ} 0 1 = cc in absurd (omega arith)
 
-pub and-false : (p q a b : Bool) → a ≡ p → b ≡ q → not a ≡ true → false ≡ p && q
-and-false p q a b e f h = rw (← e, not-true a h)
+pub and-false : (p q a : Bool) → a ≡ p → not a ≡ true → false ≡ p && q
+and-false p q a e h = rw (← e, not-true a h)
 
-pub and-next : (p q a b : Bool) → a ≡ p → b ≡ q → not a ≡ false → b ≡ p && q
-and-next p q a b e f h = rw (← e, not-false a h) f
+pub and-next : (p q a b : Bool) → a ≡ p → not a ≡ false → b ≡ q → b ≡ p && q
+and-next p q a b e h f = rw (← e, not-false a h) f
 
 -- a test that all pass is passed by each
 pub each-at : {A : Type 0} (f : A → Bool) (g : ℕ → A) (i n k : ℕ) → every f (tab g i n) ≡ true → k < n → f (g (i + k)) ≡ true
