@@ -22,6 +22,13 @@ every-at f [] k d e h = absurd (omega arith)
 every-at f (x ∷ xs) zero d e h = and-both (f x) (every f xs) e .0
 every-at f (x ∷ xs) (suc k) d e h = every-at f xs k d (and-both (f x) (every f xs) e .1) (omega arith)
 
+-- an operand is within the tables
+pub record OperandFits (job : Job) (o : Operand) : Type 0 where
+  pub inst : o .inst .0 < insts job
+  pub slot : o .slot < 65536
+  pub vgroup : o .vgroup .0 < length (job .vgroups)
+  pub class : o .class .0 < length (job .classes)
+
 module _ (job : Job) (p : functionOk job ≡ true) where
   pub passed-apart : apart samePlace (job .operands) ≡ true
   unfolding functionOk
@@ -35,14 +42,7 @@ module _ (job : Job) (p : functionOk job ≡ true) where
   unfolding functionOk
   passed-vgroups = conj-at (functionTests job) 2 p (omega arith)
 
-  -- an operand is within the tables
-  pub record OperandFits (o : Operand) : Type 0 where
-    pub inst : o .inst .0 < insts job
-    pub slot : o .slot < 65536
-    pub vgroup : o .vgroup .0 < length (job .vgroups)
-    pub class : o .class .0 < length (job .classes)
-
-  pub operand-fits : (k : ℕ) → k < length (job .operands) → OperandFits (opAt (job .operands) k)
+  pub operand-fits : (k : ℕ) → k < length (job .operands) → OperandFits job (opAt (job .operands) k)
   unfolding operandOk
   operand-fits k h =
       let o = opAt (job .operands) k in
