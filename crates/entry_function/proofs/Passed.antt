@@ -1,18 +1,16 @@
 -- What a job that passed test 4 has. Assumes nothing.
 use Prim.Native.Nat.{ℕ, zero, suc, _≤_, _<_}
 use native.Mathlib.Omega.{arith}
-use mathlib.Core.Path.{_≡_, refl, sym, ap, _∙_}
-use mathlib.Core.Bool.{Bool, true, false}
+use mathlib.Core.Path.{_≡_}
+use mathlib.Core.Bool.{Bool, true}
 use mathlib.Core.List.{List, [], _∷_}
-use lib.Dec.{leb, ltb, eqb}
 use lib.ListN.{length, getD}
-use borrow.Author.Tests.{leb-true, ltb-true, eqb-true}
+use borrow.Author.Tests.{leb-true, ltb-true}
 use Rattle.definition.specs.declared.ValueGroup.{ValueGroup}
-use Rattle.definition.specs.declared.RegClass.{RegClass}
 use Rattle.definition.specs.declared.Value.{Value}
 use Rattle.definition.specs.declared.Operand.{Operand}
 use Rattle.definition.specs.Types.{Job}
-use Rattle.definition.specs.Entry.{conj, every, vgroupOk, vgroupTests, membersOf, operandOk, operandTests, insts, apart, samePlace, functionOk, functionTests}
+use Rattle.definition.specs.Entry.{every, vgroupOk, vgroupTests, membersOf, operandOk, operandTests, insts, apart, samePlace, functionOk, functionTests}
 use Rattle.operands.specs.Rows.{noOperand, opAt}
 use Rattle.entry_function.proofs.Scans.{and-both, conj-at}
 

@@ -1,10 +1,9 @@
 -- The tables of the job that words stand for, and what test 2 says of their counts. Assumes nothing.
-use Prim.Native.Nat.{ℕ, _+_, _*_, _≤_, _<_}
+use Prim.Native.Nat.{ℕ, _+_, _*_, _<_}
 use native.Mathlib.Omega.{arith}
 use mathlib.Core.Path.{_≡_, refl, sym, ap, _∙_}
-use mathlib.Core.Bool.{Bool, true, false}
+use mathlib.Core.Bool.{Bool, true}
 use mathlib.Core.List.{List, []}
-use lib.Dec.{leb}
 use lib.ListN.{length, getD}
 use borrow.Author.Tests.{leb-true}
 use Rattle.rows.specs.Tab.{tab, length-tab}
@@ -18,7 +17,7 @@ use Rattle.definition.specs.RegInfo.{noClass, classAt}
 use Rattle.definition.specs.Entry.{insts, limitTests, limitsOk, membersOf}
 use Rattle.reginfo.specs.Rows.{classRow, classesAt, bankRow, memoryRow}
 use Rattle.function.specs.Blocks.{blockRow, blocksAt}
-use Rattle.coalescing.specs.Rows.{valueRow, valuesAt, vgroupRow, vgroupsAt}
+use Rattle.coalescing.specs.Rows.{valuesAt, vgroupRow, vgroupsAt}
 use Rattle.operands.specs.Rows.{operandsAt}
 use Rattle.operands.proofs.Rows as operand-rows
 use Rattle.coalescing.proofs.Values.{values-long}

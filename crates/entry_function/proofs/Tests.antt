@@ -3,18 +3,17 @@ use Prim.Native.Nat.{ℕ, _+_, _*_, _≤_, _<_}
 use native.Mathlib.Omega.{arith}
 use mathlib.Core.Path.{_≡_, refl, sym, ap, ap₂, _∙_}
 use mathlib.Core.Bool.{Bool, true, false, not, _&&_}
-use mathlib.Core.List.{List, [], _∷_}
-use lib.Dec.{leb, ltb, eqb}
+use mathlib.Core.List.{List}
+use lib.Dec.{eqb}
 use lib.ListN.{length, getD}
 use borrow.Author.Tests.{lt-ltb, le-ltb, le-leb, lt-leb, not-true, not-false}
-use Rattle.rows.specs.Tab.{tab}
 use Rattle.rows.specs.RowsAt.{rowsAt, getD-rows-at, length-rows-at}
 use Rattle.definition.specs.declared.ValueSet.{ValueSet}
 use Rattle.definition.specs.declared.Value.{Value}
 use Rattle.definition.specs.declared.Operand.{Operand}
 use Rattle.definition.specs.Types.{Job, val}
-use Rattle.definition.specs.RegInfo.{setOf, classAt}
-use Rattle.definition.specs.Entry.{conj, every, insts, blockOk, leads, vgroupOk, membersOf, operandOk, apart, samePlace, functionOk}
+use Rattle.definition.specs.RegInfo.{setOf}
+use Rattle.definition.specs.Entry.{conj, every, insts, blockOk, leads, vgroupOk, operandOk, apart, samePlace, functionOk}
 use Rattle.function.specs.Blocks.{blocksAt}
 use Rattle.coalescing.specs.Rows.{valueRow, valuesAt, memberRow, vgroupRow, vgroupsAt}
 use Rattle.coalescing.proofs.Members.{group-long}

@@ -1,19 +1,17 @@
 -- One law for each way through the test of a use's kind. Assumes nothing.
 use Prim.Native.Nat.{ℕ, _+_, _*_, _≤_, _<_}
 use native.Mathlib.Omega.{arith}
-use mathlib.Core.Path.{_≡_, refl, sym, ap, ap₂, _∙_}
-use mathlib.Core.Bool.{Bool, true, false, not, _&&_}
+use mathlib.Core.Path.{_≡_, refl, sym, ap, _∙_}
+use mathlib.Core.Bool.{Bool, true, false, _&&_}
 use mathlib.Core.List.{List}
 use lib.Dec.{ltb, eqb}
 use lib.ListN.{length, getD}
 use borrow.Author.Tests.{lt-ltb, le-ltb, eq-eqb, ne-eqb}
 use Rattle.definition.specs.declared.Inst.{Inst}
 use Rattle.definition.specs.declared.Value.{Value}
-use Rattle.definition.specs.declared.ValueGroup.{ValueGroup}
 use Rattle.definition.specs.declared.Operand.{Operand}
-use Rattle.definition.specs.declared.Use.{Use}
-use Rattle.definition.specs.Types.{Job, inst, val, cls}
-use Rattle.definition.specs.Entry.{membersOf, functionOk, groupUseOk, kindOk}
+use Rattle.definition.specs.Types.{inst, val, cls}
+use Rattle.definition.specs.Entry.{functionOk, groupUseOk, kindOk}
 use Rattle.coalescing.specs.Rows.{vgroupRow}
 use Rattle.operands.specs.declared.Chains.{Chains}
 use Rattle.operands.specs.declared.FoundOperand.{FoundOperand}
@@ -26,10 +24,9 @@ use Rattle.uses.specs.Rows.{rawKind, rawRow}
 use Rattle.layout.specs.declared.Table.{Table}
 use Rattle.layout.specs.declared.Layout.{Layout}
 use Rattle.job.specs.Job.{rawJob}
-use Rattle.entry_function.specs.Counts.{Indexes}
 use Rattle.entry_function.proofs.Tables.{raw-operands, operands-count, vgroups-count, classes-count, regs-count, members-row}
 use Rattle.entry_function.proofs.Tests.{operands-of}
-use Rattle.entry_function.proofs.Passed.{OperandFits, operand-fits, members-few, passed-apart}
+use Rattle.entry_function.proofs.Passed.{operand-fits, members-few, passed-apart}
 use Rattle.entry_kinds.specs.Tests.{classUseOk, tiedUseOk, Ready}
 
 -- ---- slots, classes, indices

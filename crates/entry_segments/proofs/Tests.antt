@@ -1,17 +1,14 @@
 -- One law for each way through test 6. Assumes nothing.
 use Prim.Native.Nat.{ℕ, _+_, _*_, _%_, _≤_, _<_}
-use native.Mathlib.Omega.{arith}
-use mathlib.Core.Path.{_≡_, refl, sym, ap, ap₂, _∙_}
+use mathlib.Core.Path.{_≡_, refl, sym, ap, _∙_}
 use mathlib.Core.Bool.{Bool, true, false, not, _&&_, _||_}
 use mathlib.Core.List.{List}
 use lib.Dec.{leb, ltb, eqb}
-use lib.ListN.{length, getD}
 use borrow.Author.Tests.{lt-ltb, le-ltb, eq-eqb, ne-eqb}
 use Rattle.rows.specs.Tab.{tab}
-use Rattle.definition.specs.declared.Value.{Value}
 use Rattle.definition.specs.declared.ValueSet.{ValueSet}
 use Rattle.definition.specs.declared.LiveRangePoint.{LiveRangePoint}
-use Rattle.definition.specs.Types.{Job, Segment}
+use Rattle.definition.specs.Types.{Job}
 use Rattle.definition.specs.RegInfo.{setOf}
 use Rattle.definition.specs.Entry.{conj, every, chained, insts, segmentOk, behind, segmentsOk}
 use Rattle.coalescing.specs.Rows.{valuesAt}

@@ -1,21 +1,19 @@
 -- The uses of all segments are those of the use table, so that test 2 bounds it. Assumes nothing.
 use Prim.Native.Nat.{ℕ, zero, suc, _+_, _-_, _*_, _≤_, _<_}
 use native.Mathlib.Omega.{arith}
-use mathlib.Core.Path.{_≡_, refl, sym, ap, _∙_}
-use mathlib.Core.Bool.{Bool, true, false}
-use mathlib.Core.List.{List, [], _∷_}
-use lib.Dec.{leb, ltb}
-use lib.ListN.{length, getD}
+use mathlib.Core.Path.{_≡_, sym, ap, _∙_}
+use mathlib.Core.Bool.{true}
+use mathlib.Core.List.{List}
+use lib.ListN.{length}
 use borrow.Author.Tests.{leb-true, lt-ltb, le-ltb}
 use Rattle.rows.specs.Tab.{tab}
-use Rattle.rows.specs.RowsAt.{rowsAt, length-rows-at}
+use Rattle.rows.specs.RowsAt.{length-rows-at}
 use Rattle.definition.specs.Types.{Segment}
 use Rattle.definition.specs.Place.{total}
 use Rattle.definition.specs.Entry.{limitTests, limitsOk}
 use Rattle.uses.specs.Rows.{rawRow}
 use Rattle.layout.specs.declared.Table.{Table}
 use Rattle.layout.specs.declared.Layout.{Layout}
-use Rattle.layout.specs.declared.SegRow.{SegRow}
 use Rattle.layout.specs.Layout.{segRow, segAt, nextUse, usesIn, segmentOf}
 use Rattle.job.specs.Job.{rawJob}
 use Rattle.entry_function.proofs.Scans.{conj-at}

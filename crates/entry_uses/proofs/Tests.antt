@@ -4,8 +4,8 @@ use native.Mathlib.Omega.{arith}
 use mathlib.Core.Path.{_≡_, refl, sym, ap, ap₂, _∙_}
 use mathlib.Core.Bool.{Bool, true, false, not, _&&_}
 use mathlib.Core.List.{List, [], _∷_}
-use lib.Dec.{leb, ltb, eqb}
-use lib.ListN.{length, getD}
+use lib.Dec.{leb, eqb}
+use lib.ListN.{getD}
 use borrow.Author.Tests.{lt-ltb, le-ltb, le-leb, lt-leb, not-true, not-false}
 use Rattle.rows.specs.Tab.{tab}
 use Rattle.rows.specs.RowsAt.{rowsAt}
@@ -13,7 +13,7 @@ use Rattle.definition.specs.declared.LiveRangePoint.{LiveRangePoint}
 use Rattle.definition.specs.declared.UseKind.{UseKind}
 use Rattle.definition.specs.declared.UseKind.the-variants.{FixedDef, FixedUse, TiedUse, ConstraintConflict, ClassUse, ClassDef, GroupClassUse, GroupClassDef, BlockparamIn, BlockparamOut}
 use Rattle.definition.specs.declared.Use.{Use}
-use Rattle.definition.specs.Types.{Job, Segment, point, cls}
+use Rattle.definition.specs.Types.{Segment, point, cls}
 use Rattle.definition.specs.Uses.{endSlot, endPoint}
 use Rattle.definition.specs.Entry.{conj, every, chained, insts, kindOk, useOk, usesOk}
 use Rattle.uses.specs.Rows.{pickK, reg, rawKind, kindOf, rawRow, useRow}

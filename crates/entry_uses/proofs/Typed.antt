@@ -1,32 +1,30 @@
 -- A job that passed tests 4 and 7 has no field beyond its UseKind type, so that it is the same read either way. Assumes nothing.
-use Prim.Native.Nat.{ℕ, _+_, _-_, _*_, _≤_, _<_}
+use Prim.Native.Nat.{ℕ, _+_, _-_, _*_, _<_}
 use native.Mathlib.Omega.{arith}
 use native.Mathlib.Nat.{zero-add}
-use mathlib.Core.Path.{_≡_, refl, sym, ap, subst, _∙_}
+use mathlib.Core.Path.{_≡_, refl, sym, ap, _∙_}
 use mathlib.Core.Bool.{Bool, true, false, _&&_}
 use mathlib.Core.List.{List}
 use lib.Dec.{eqb, ltb}
-use lib.ListN.{length, getD}
+use lib.ListN.{length}
 use borrow.Author.Tests.{lt-ltb, ltb-true, eqb-true}
 use Rattle.rows.specs.Tab.{tab, tab-ext}
 use Rattle.rows.specs.RowsAt.{rowsAt, rows-at-ext}
 use Rattle.definition.specs.declared.Inst.{Inst}
 use Rattle.definition.specs.declared.Value.{Value}
 use Rattle.definition.specs.declared.RegClass.{RegClass}
-use Rattle.definition.specs.declared.Operand.{Operand}
 use Rattle.definition.specs.declared.Use.{Use}
 use Rattle.definition.specs.Types.{Job, Segment, cls}
 use Rattle.definition.specs.Entry.{every, membersOf, functionOk, groupUseOk, kindOk, useTests, useOk, usesOk}
 use Rattle.operands.specs.declared.FoundOperand.{FoundOperand}
 use Rattle.operands.specs.declared.FoundOperand.the-variants.{At, Nothing}
-use Rattle.operands.specs.Rows.{opAt, isAt, lastPlace, fitsFound}
+use Rattle.operands.specs.Rows.{opAt, lastPlace, fitsFound}
 use Rattle.operands.proofs.Twice.{never}
 use Rattle.operands.proofs.Only.{found-at, group-use-found}
 use Rattle.uses.specs.Rows.{rawKind, rawRow, useRow, fit, typedKind, typedRow}
 use Rattle.uses.proofs.Typed.{typed-row}
 use Rattle.layout.specs.declared.Table.{Table}
 use Rattle.layout.specs.declared.Layout.{Layout}
-use Rattle.layout.specs.declared.SegRow.{SegRow}
 use Rattle.layout.specs.Layout.{segAt, nextUse, usesIn, segmentOf}
 use Rattle.job.specs.Job.{jobBy, rawJob, jobOf}
 use Rattle.entry_function.proofs.Scans.{and-both, each-at, conj-at}

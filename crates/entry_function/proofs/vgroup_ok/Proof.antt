@@ -1,4 +1,3 @@
-use native.Mathlib.Omega.{arith}
 use Rattle.entry_function.proofs.Tests.{group-few, group-many, group-by}
 use borrow.Author.Needs.{needs}
 use Rattle.entry_function.proofs.vgroup_ok.Statement.{statement}

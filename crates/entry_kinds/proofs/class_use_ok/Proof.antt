@@ -1,5 +1,4 @@
 use Rattle.entry_kinds.proofs.Tests.{class-slot, class-by}
-use borrow.Author.Needs.{needs}
 use Rattle.entry_kinds.proofs.class_use_ok.Statement.{statement}
 use Rattle.entry_kinds.proofs.class_use_ok.Tie as tie
 

@@ -1,4 +1,3 @@
-use native.Mathlib.Omega.{arith}
 use Prim.Native.Nat.{_+_, _-_, _*_}
 use Rattle.rows.specs.RowsAt.{rowsAt}
 use Rattle.words.specs.Words.{wordsOf}
