@@ -14,7 +14,7 @@ use Rattle.definition.specs.declared.ClassData.{ClassData}
 use Rattle.definition.specs.declared.Value.{Value}
 use Rattle.definition.specs.Types.{Job}
 use Rattle.definition.specs.RegInfo.{noClass, classAt}
-use Rattle.definition.specs.Entry.{insts, limitTests, limitsOk, membersOf}
+use Rattle.definition.specs.Entry.{instsOf, insts, limitTests, limitsOk, membersOf}
 use Rattle.reginfo.specs.Rows.{classRow, classesAt, bankRow, memoryRow}
 use Rattle.function.specs.Blocks.{blockRow, blocksAt}
 use Rattle.coalescing.specs.Rows.{valuesAt, vgroupRow, vgroupsAt}
@@ -51,6 +51,11 @@ module _ (W : List ℕ) (lay : Layout) where
   pub raw-blocks : rawJob W lay .blocks ≡ blocksAt W (lay .blocks .at) (lay .blocks .n)
   unfolding rawJob jobBy
   raw-blocks = refl
+
+  -- the number of instructions, as `count_insts` of crate function gives it
+  pub raw-insts : insts (rawJob W lay) ≡ instsOf (blocksAt W (lay .blocks .at) (lay .blocks .n))
+  unfolding insts
+  raw-insts = ap instsOf raw-blocks
 
   pub raw-hints : rawJob W lay .hints ≡ rowsAt hintAt W (lay .hints .at) 3 (lay .hints .n)
   unfolding rawJob jobBy

@@ -10,7 +10,7 @@ ghost use Rattle.words.specs.Words.{wordCount, wordsOf};
 ghost use Rattle.definition.specs.Entry.{every, insts, leads, vgroupOk, operandOk, functionOk};
 ghost use Rattle.coalescing.specs.Rows.{valueRow, valuesAt, vgroupRow, vgroupsAt};
 ghost use Rattle.operands.specs.Rows.{operandRow, operandsAt};
-ghost use Rattle.operands.specs.Chains.{Chained, operandsOf};
+ghost use Rattle.operands.specs.Chains.{Chained, operandsOf, chainsOf};
 ghost use Rattle.layout.specs.Layout.{Fits};
 ghost use Rattle.job.specs.Job.{rawJob};
 ghost use Rattle.entry_function.specs.Counts.{known, Within, Indexes};
@@ -132,11 +132,12 @@ fn operands_ok(job: &[u8], lay: Layout, count: usize) -> bool
     true
 }
 
-// Test 4. Where it passes, the work slice has the index c of the operands.
+// Test 4. Where it passes, the work slice has the index c of the operands, and the rest of it is as it was.
 pub fn function_ok(job: &[u8], lay: Layout, work: &mut [u8], c: Chains) -> bool
     requires { ⌜ Fits (wordCount (now job)) lay × Within (wordsOf (now job)) lay × Indexes (wordCount (now work)) (wordsOf (now job)) lay c ⌝ }
     ensures { λ r. ⌜ r ≡ functionOk (rawJob (wordsOf (now (job .entry))) lay) ⌝ }
-    ensures { λ r. ⌜ (r ≡ true → Chained (wordsOf (now (work .exit))) c (operandsOf (wordsOf (now (job .entry))) c)) ⌝ }
+    ensures { λ r. ⌜ (r ≡ true → Chained (wordsOf (now (work .exit))) c (operandsOf (wordsOf (now (job .entry))) c)
+        × (wordsOf (now (work .exit)) ≡ chainsOf (wordsOf (now (work .entry))) c (operandsOf (wordsOf (now (job .entry))) c) (c .count))) ⌝ }
 {
     if !function::blocks_ok(job, lay.blocks.at, lay.blocks.n as u32) {
         return false;

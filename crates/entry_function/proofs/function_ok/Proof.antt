@@ -41,7 +41,7 @@ returns-5 c =
     let s = c .before .before .before .before .before .before .before .before .before .before .before .before .before .before .before .before .before in (
       function-5 _ _ _ _ (s .pre .2) _ (c .before .before .before .before .before .before .before .before .before .before .before .before .before .blocks-ok .ensures) (c .before .before .before .before .before .before .before .before .before .before .before .before .if1 .left) _ (c .before .before .before .before .before .before .before .before .before .before .before .leaders-ok .ensures) (c .before .before .before .before .before .before .before .before .before .before .if2 .left)
           _ (c .before .before .before .before .before .before .before .before .before .vgroups-ok .ensures) (c .before .before .before .before .before .before .before .before .if3 .left) _ (c .before .before .before .before .before .before .before .operands-ok .ensures) (c .before .before .before .before .before .before .if4 .left) _ (c .no-twice .ensures),
-      λ e. c .before .before .before .before .put-chains .ensures .1,
+      λ e. (c .before .before .before .before .put-chains .ensures .1, c .before .before .before .before .put-chains .ensures .0),
     )
 
 pub function-ok-spec : {M : Type 1} → statement M
