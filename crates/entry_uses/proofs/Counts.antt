@@ -35,6 +35,15 @@ module _ (W : List ℕ) (lay : Layout) where
   unfolding nextUse segAt segRow
   next-first i h = rw (lt-ltb _ _ h)
 
+  -- counts that begin at 0 and do not fall on the way to the number of uses do not pass it
+  below-all : ((i : ℕ) → i < lay .segments .n → firstOf i ≤ nextUse W lay i) → (i k : ℕ) → i + suc k ≡ lay .segments .n → nextUse W lay i ≤ lay .uses .n
+  below-all r i zero e = omega (arith, next-last i (omega arith))
+  below-all r i (suc k) e = omega (arith, next-first i (omega arith), r (i + 1) (omega arith), below-all r (i + 1) k (omega arith))
+
+  pub rising-of : (0 < lay .segments .n → firstOf 0 ≡ 0) → ((i : ℕ) → i < lay .segments .n → firstOf i ≤ nextUse W lay i) → Rising W lay
+  rising-of f r =
+      record { first = f; rise = r; within = λ i h. below-all r i (lay .segments .n - (i + 1)) (omega arith) }
+
   one-count : (i : ℕ) → length (segmentOf rawRow W lay i .uses) ≡ nextUse W lay i - firstOf i
   unfolding segmentOf usesIn
   one-count i = length-rows-at rawRow W (lay .uses .at + firstOf i * 6) 6 (nextUse W lay i - firstOf i)
