@@ -1,0 +1,4 @@
+pub mod Part
+pub mod Encoding
+pub mod Counting
+pub mod Reads
