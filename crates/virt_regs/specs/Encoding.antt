@@ -5,7 +5,7 @@ use mathlib.Core.Option.{Option, none, some}
 use mathlib.Core.List.{List, [], _∷_, _++_}
 use Prim.Native.Nat.{ℕ, _+_, _*_, _≤_, _<_}
 use lib.ListN.{length, getD}
-use lib.Ieee.{binary32, toBits}
+use lib.Ieee.{Float, binary32, toBits, ofBits}
 use Rattle.rows.specs.Tab.{tab}
 use Rattle.rows.specs.Parts.{pad}
 use Rattle.rows.specs.Rows.{rowsOf}
@@ -17,12 +17,12 @@ use Rattle.definition.specs.declared.Origin.the-variants.{Own, Conflict}
 use Rattle.definition.specs.Types.{Piece, Register, State, Room}
 use Rattle.definition.specs.Place.{piecesIn, usesIn, usesOf, segsOf}
 use Rattle.definition.specs.Lines.{useNumbers, flagsNumber, hintIn}
-use Rattle.definition.specs.Admit.{membersAt}
 use Rattle.virt_regs.specs.declared.OutLayout.{OutLayout}
 use Rattle.virt_regs.specs.declared.Counts.{Counts}
 use Rattle.virt_regs.specs.declared.RegisterRow.{RegisterRow}
 use Rattle.virt_regs.specs.declared.PieceRow.{PieceRow}
 use Rattle.virt_regs.specs.Part.{part}
+use Rattle.virt_regs.specs.Each.{Each}
 
 -- ---- where the tables begin, in words: registers at 0
 
@@ -143,7 +143,15 @@ groupRows gs = rowsOf eachGroup still tt gs
 abbrev pub countsOf : State → Counts
 countsOf st = record { regs = length (st .registers); segs = piecesIn st; uses = usesIn st; groups = length (st .groups) }
 
--- The words O hold the registers and groups of st, zeros behind each table's rows. A group has at most eight places, and its members are registers.
+-- a weight that its bits stand for: no NaN, not negative
+unfoldable pub Weighs : Float → Type 0
+Weighs w = (ofBits binary32 (toBits binary32 w) ≡ w) × (toBits binary32 w ≤ 2139095040)
+
+-- a group among n registers: at most eight places, whose members are registers
+unfoldable pub Placed : ℕ → List (Option VirtReg) → Type 0
+Placed n ms = (length ms ≤ 8) × ((i : ℕ) (r : VirtReg) → getD ms i none ≡ some r → r .0 < n)
+
+-- The words O hold the registers and groups of st, with zeros behind the rows of each table.
 pub record Holds (ol : OutLayout) (O : List ℕ) (st : State) : Type 0 where
   pub long : tablesEnd ol ≤ length O
   pub fit-registers : length (st .registers) ≤ ol .regs
@@ -154,5 +162,5 @@ pub record Holds (ol : OutLayout) (O : List ℕ) (st : State) : Type 0 where
   pub segments : part (segBase ol) (useBase ol) O ≡ pad (ol .segs * 7) (pieceRows 0 (allPieces (st .registers)))
   pub uses : part (useBase ol) (groupBase ol) O ≡ pad (ol .uses * 6) (useRows (usesOf (segsOf (allPieces (st .registers)))))
   pub groups : part (groupBase ol) (tablesEnd ol) O ≡ pad (ol .groups * 9) (groupRows (st .groups))
-  pub sizes : (g : VirtRegGroup) → length (membersAt st g) ≤ 8
-  pub members : (g : VirtRegGroup) (i : ℕ) (r : VirtReg) → getD (membersAt st g) i none ≡ some r → r .0 < length (st .registers)
+  pub weights : Each (λ r. Weighs (r .weight)) (st .registers)
+  pub members : Each (Placed (length (st .registers))) (st .groups)

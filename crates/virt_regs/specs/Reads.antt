@@ -6,7 +6,7 @@ use Prim.Native.Nat.{ℕ, suc, _+_, _-_, _*_, _≤_, _<_}
 use native.Mathlib.Nat.{zero-add}
 use native.Mathlib.Omega.{arith}
 use lib.ListN.{length, getD, take, drop, replicate, length-append, length-replicate, List·getD-append}
-use lib.Ieee.{binary32, toBits}
+use lib.Ieee.{binary32, toBits, ofBits}
 use lib.Seq.{split-at, length-take-le, take-at, getD-append-add}
 use Rattle.rows.specs.Tab.{tab, getD-tab}
 use Rattle.rows.specs.Parts.{pad, pad-getD, pad-none}
@@ -22,7 +22,8 @@ use Rattle.definition.specs.Admit.{registerAt, noRegister, membersAt, noUse}
 use Rattle.virt_regs.specs.declared.OutLayout.{OutLayout}
 use Rattle.virt_regs.specs.declared.PieceRow.{PieceRow}
 use Rattle.virt_regs.specs.Part.{part, part-get, part-cut, part-middle, part-zeros, length-part}
-use Rattle.virt_regs.specs.Encoding.{segBase, useBase, groupBase, tablesEnd, groupWord, placeWord, hintWord, pieceRow, useWords, groupWords, allPieces, behind, usedBy, still, eachRegister, eachPiece, eachUse, eachGroup, registerRows, pieceRows, useRows, groupRows, Holds}
+use Rattle.virt_regs.specs.Each.{each-none, each-get}
+use Rattle.virt_regs.specs.Encoding.{Weighs, Placed, segBase, useBase, groupBase, tablesEnd, groupWord, placeWord, hintWord, pieceRow, useWords, groupWords, allPieces, behind, usedBy, still, eachRegister, eachPiece, eachUse, eachGroup, registerRows, pieceRows, useRows, groupRows, Holds}
 use Rattle.virt_regs.specs.Counting.{all-append, count-pieces, count-uses, after-registers, after-pieces, length-registers, length-pieces, length-uses, length-groups}
 
 abbrev pub noPiece : Piece
@@ -149,6 +150,20 @@ module _ (ol : OutLayout) (O : List ℕ) (st : State) (h : Holds ol O st) where
   pub register-in : (v : VirtReg) → v .0 < length (st .registers) → v .0 * 8 + 8 ≤ length O
   register-in v l = omega (arith, h .long, h .fit-registers)
 
+  pub weighs-held : (v : VirtReg) → v .0 < length (st .registers)
+      → (ofBits binary32 (toBits binary32 (registerAt st v .weight)) ≡ registerAt st v .weight) × (toBits binary32 (registerAt st v .weight) ≤ 2139095040)
+  unfolding registerAt Weighs
+  weighs-held v l = each-get _ (st .registers) (v .0) noRegister (h .weights) l
+
+  -- a group has at most eight places, and a member is a register
+  pub size-le : (g : VirtRegGroup) → g .0 < length (st .groups) → length (membersAt st g) ≤ 8
+  unfolding membersAt Placed
+  size-le g l = each-get _ (st .groups) (g .0) [] (h .members) l .0
+
+  pub member-lt : (g : VirtRegGroup) (i : ℕ) (r : VirtReg) → g .0 < length (st .groups) → getD (membersAt st g) i none ≡ some r → r .0 < length (st .registers)
+  unfolding membersAt Placed
+  member-lt g i r l e = each-get _ (st .groups) (g .0) [] (h .members) l .1 i r e
+
   -- the pieces of register v are among all, in order
   pub piece-of : (v : VirtReg) (j : ℕ) → v .0 < length (st .registers) → j < length (registerAt st v .pieces)
       → pieceAt st (firstPiece st v + j) ≡ getD (registerAt st v .pieces) j noPiece
@@ -215,7 +230,7 @@ module _ (ol : OutLayout) (O : List ℕ) (st : State) (h : Holds ol O st) where
 -- ---- cleared words hold the state of no registers and no groups
 
 pub holds-none : (ol : OutLayout) (n : ℕ) (ms : List Mapped) → tablesEnd ol ≤ n → Holds ol (replicate n 0) (record { registers = []; groups = []; mapping = ms })
-unfolding rowsOf allPieces usesOf membersAt piecesIn usesIn total
+unfolding rowsOf allPieces usesOf piecesIn usesIn total
 holds-none ol n ms l =
     record {
       long = omega (arith, length-replicate {A = ℕ} n 0);
@@ -227,8 +242,8 @@ holds-none ol n ms l =
       segments = zeros (segBase ol) (useBase ol) (ol .segs * 7) (omega arith) (omega arith);
       uses = zeros (useBase ol) (groupBase ol) (ol .uses * 6) (omega arith) (omega arith);
       groups = zeros (groupBase ol) (tablesEnd ol) (ol .groups * 9) (omega arith) (omega arith);
-      sizes = λ g. omega arith;
-      members = λ g i r e. let z : _≡_ {A = ℕ} (placeWord none) (placeWord (some r)) = ap placeWord e in absurd (omega arith);
+      weights = each-none _;
+      members = each-none _;
     }
   where
     zeros : (a e k : ℕ) → e ≤ n → e - a ≡ k → part a e (replicate n 0) ≡ pad k []
@@ -237,7 +252,7 @@ holds-none ol n ms l =
 -- the mapping is no part of the tables
 pub holds-mapping : (ol : OutLayout) (O : List ℕ) (st : State) (ms : List Mapped) → Holds ol O st
     → Holds ol O (record { registers = st .registers; groups = st .groups; mapping = ms })
-unfolding membersAt piecesIn usesIn
+unfolding piecesIn usesIn
 holds-mapping ol O st ms h =
     record {
       long = h .long;
@@ -249,6 +264,6 @@ holds-mapping ol O st ms h =
       segments = h .segments;
       uses = h .uses;
       groups = h .groups;
-      sizes = h .sizes;
+      weights = h .weights;
       members = h .members;
     }
