@@ -11,7 +11,7 @@ use Rattle.definition.specs.declared.VirtReg.{VirtReg}
 use Rattle.definition.specs.declared.Use.{Use}
 use Rattle.definition.specs.Types.{Piece, Register, State}
 use Rattle.definition.specs.Place.{total, piecesIn, usesOfPieces, usesIn, usesOf, segsOf}
-use Rattle.virt_regs.specs.Encoding.{allPieces, behind, usedBy, still, eachRegister, eachPiece, eachUse, eachGroup, registerRows, pieceRows, useRows, groupRows}
+use Rattle.virt_regs.specs.Encoding.{allPieces, behind, usedBy, still, eachRegister, eachPiece, eachUse, eachGroup, registerRows, pieceRows, useRows, groupRows, Placed}
 
 pub all-append : (rs ss : List Register) → allPieces (rs ++ ss) ≡ allPieces rs ++ allPieces ss
 unfolding allPieces
@@ -71,3 +71,8 @@ length-uses us = length-rows eachUse still 6 (λ σ a. refl) tt us
 
 pub length-groups : (gs : List (List (Option VirtReg))) → length (groupRows gs) ≡ length gs * 9
 length-groups gs = length-rows eachGroup still 9 (λ σ a. refl) tt gs
+
+-- a group among more registers
+pub placed-more : (ms : List (Option VirtReg)) (n k : ℕ) → n ≤ k → Placed n ms → Placed k ms
+unfolding Placed
+placed-more ms n k h p = (p .0, λ i r e. let l = p .1 i r e in omega arith)
