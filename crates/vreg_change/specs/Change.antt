@@ -24,30 +24,12 @@ use Rattle.virt_regs.specs.declared.OutLayout.{OutLayout}
 use Rattle.virt_regs.specs.Part.{part, part-set-ahead, part-set-behind, part-set-in}
 use Rattle.virt_regs.specs.Each.{Each, each-append, each-one, each-get, each-set, each-weaker}
 use Rattle.virt_regs.specs.Encoding.{segBase, useBase, groupBase, tablesEnd, placeWord, groupWords, allPieces, behind, still, eachRegister, eachGroup, registerRows, pieceRows, useRows, groupRows, countsOf, Weighs, Placed, Holds}
+use Rattle.virt_regs.specs.Update.{update-split, length-update, each-update}
 use Rattle.virt_regs.specs.Counting.{count-pieces, count-uses, length-registers, length-groups, placed-more}
 use Rattle.virt_regs.specs.Reads.{size-held, member-held, size-le, member-lt}
 use Rattle.vreg_change.specs.Flat.{weighted, atPlace, atPlaces, memberIn, spreadIn, Spreadable}
 
 -- ---- one register changed
-
-pub update-split : (f : Register → Register) (v : ℕ) (rs : List Register) (d : Register) → v < length rs
-    → update f v rs ≡ take v rs ++ (f (getD rs v d) ∷ drop (suc v) rs)
-unfolding update
-update-split f v [] d h = absurd (omega arith)
-update-split f zero (r ∷ rs) d h = refl
-update-split f (suc v) (r ∷ rs) d h = ap (λ (l : List Register). r ∷ l) (update-split f v rs d (omega arith))
-
-pub length-update : (f : Register → Register) (v : ℕ) (rs : List Register) → length (update f v rs) ≡ length rs
-unfolding update
-length-update f v [] = refl
-length-update f zero (r ∷ rs) = refl
-length-update f (suc v) (r ∷ rs) = ap suc (length-update f v rs)
-
-pub each-update : (P : Register → Type 0) (f : Register → Register) → ((r : Register) → P r → P (f r)) → (v : ℕ) (rs : List Register) → Each P rs → Each P (update f v rs)
-unfolding update Each
-each-update P f p v [] e = tt
-each-update P f p zero (r ∷ rs) e = (p r (e .0), e .1)
-each-update P f p (suc v) (r ∷ rs) e = (e .0, each-update P f p v rs (e .1))
 
 pub all-weight : (c : RegClass) (w : Float) (v : ℕ) (rs : List Register) → allPieces (update (withWeight c w) v rs) ≡ allPieces rs
 unfolding update allPieces

@@ -1,1 +1,4 @@
 pub mod Raised
+pub mod GapParts
+pub mod Flat
+pub mod Opened
