@@ -2,3 +2,4 @@ pub mod Raised
 pub mod GapParts
 pub mod Flat
 pub mod Opened
+pub mod Merged
