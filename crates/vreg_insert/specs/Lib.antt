@@ -3,3 +3,4 @@ pub mod GapParts
 pub mod Flat
 pub mod Opened
 pub mod Merged
+pub mod Ask
