@@ -25,11 +25,8 @@ use Rattle.virt_regs.specs.Update.{update-split, length-update, each-update}
 use Rattle.virt_regs.specs.Counting.{all-append, uses-append, count-pieces, count-uses, count-uses-of, after-pieces, length-pieces, length-uses, placed-more}
 use Rattle.virt_regs.specs.Reads.{firstPiece, firstUse}
 use Rattle.vreg_put.specs.Written.{Written}
+use Rattle.vreg_find.specs.Ends.{insertedAt}
 use Rattle.vreg_insert.specs.Opened.{Opened}
-
--- the pieces new in front of piece k
-abbrev pub insertedAt : ℕ → List Piece → List Piece → List Piece
-insertedAt k new ps = take k ps ++ (new ++ drop k ps)
 
 -- ---- the register's pieces, and all of them
 
