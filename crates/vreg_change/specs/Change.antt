@@ -23,7 +23,7 @@ use Rattle.definition.specs.Admit.{membersAt, noRegister}
 use Rattle.virt_regs.specs.declared.OutLayout.{OutLayout}
 use Rattle.virt_regs.specs.Part.{part, part-set-ahead, part-set-behind, part-set-in}
 use Rattle.virt_regs.specs.Each.{Each, each-append, each-one, each-get, each-set, each-weaker}
-use Rattle.virt_regs.specs.Encoding.{segBase, useBase, groupBase, tablesEnd, placeWord, groupWords, allPieces, behind, still, eachRegister, eachGroup, registerRows, pieceRows, useRows, groupRows, countsOf, Weighs, Placed, Holds}
+use Rattle.virt_regs.specs.Encoding.{segBase, useBase, groupBase, tablesEnd, placeWord, groupWords, allPieces, behind, still, eachRegister, eachGroup, registerRows, pieceRows, useRows, groupRows, countsOf, Weighs, Placed, Typed, Holds}
 use Rattle.virt_regs.specs.Update.{update-split, length-update, each-update}
 use Rattle.virt_regs.specs.Counting.{count-pieces, count-uses, length-registers, length-groups, placed-more}
 use Rattle.virt_regs.specs.Reads.{size-held, member-held, size-le, member-lt}
@@ -88,6 +88,7 @@ holds-weighted ol O st v c w h l ww =
       segments = behind-all (segBase ol) (useBase ol) (omega arith) (omega arith) ∙ h .segments ∙ ap (λ (t : List Piece). pad (ol .segs * 7) (pieceRows 0 t)) (sym all);
       uses = behind-all (useBase ol) (groupBase ol) (omega arith) (omega arith) ∙ h .uses ∙ ap (λ (t : List Piece). pad (ol .uses * 6) (useRows (usesOf (segsOf t)))) (sym all);
       groups = behind-all (groupBase ol) (tablesEnd ol) (omega arith) (omega arith) ∙ h .groups;
+      typed = subst (λ (t : List Piece). Each Typed (usesOf (segsOf t))) (sym all) (h .typed);
       weights = each-update _ (withWeight c w) (λ r p. ww) v rs (h .weights);
       members = each-weaker _ _ (λ ms p. placed-more ms (length rs) (length (update (withWeight c w) v rs)) (omega arith) p) (st .groups) (h .members);
     }
@@ -268,6 +269,7 @@ module _ (ol : OutLayout) (O : List ℕ) (st : State) (h : Holds ol O st) where
             ∙ ap (λ (t : List ℕ). set t j x) (h .groups)
             ∙ pad-set (ol .groups * 9) (groupRows gs) j x (omega arith)
             ∙ ap (λ (t : List ℕ). pad (ol .groups * 9) t) rows;
+        typed = h .typed;
         weights = h .weights;
         members = each-set _ gs (g .0) ms′ (h .members) (placed-set ms (length (st .registers)) i r hi hr (each-get _ gs (g .0) [] (h .members) here));
       }
@@ -318,6 +320,7 @@ module _ (ol : OutLayout) (O : List ℕ) (st : State) (h : Holds ol O st) where
             ∙ ap (λ (t : List ℕ). set t j x) (pad-set (ol .groups * 9) (groupRows gs ++ Z) k n (omega arith))
             ∙ pad-set (ol .groups * 9) (set (groupRows gs ++ Z) k n) j x (omega arith)
             ∙ ap (λ (t : List ℕ). pad (ol .groups * 9) t) rows;
+        typed = h .typed;
         weights = h .weights;
         members = each-append _ gs (ms′ ∷ []) (h .members) (each-one _ ms′ (placed-set none′ (length (st .registers)) i r (omega arith) hr (placed-none n (length (st .registers)) hn)));
       }

@@ -19,8 +19,8 @@ use Rattle.definition.specs.Admit.{registerAt, noRegister}
 use Rattle.virt_regs.specs.declared.OutLayout.{OutLayout}
 use Rattle.virt_regs.specs.declared.Counts.{Counts}
 use Rattle.virt_regs.specs.Part.{part}
-use Rattle.virt_regs.specs.Each.{each-weaker}
-use Rattle.virt_regs.specs.Encoding.{segBase, useBase, groupBase, tablesEnd, allPieces, usedBy, still, eachPiece, eachUse, registerRows, pieceRows, useRows, countsOf, Holds}
+use Rattle.virt_regs.specs.Each.{Each, each-append, each-front, each-back, each-weaker}
+use Rattle.virt_regs.specs.Encoding.{segBase, useBase, groupBase, tablesEnd, allPieces, usedBy, still, eachPiece, eachUse, registerRows, pieceRows, useRows, countsOf, Typed, Holds}
 use Rattle.virt_regs.specs.Update.{update-split, length-update, each-update}
 use Rattle.virt_regs.specs.Counting.{all-append, uses-append, count-pieces, count-uses, count-uses-of, after-pieces, length-pieces, length-uses, placed-more}
 use Rattle.virt_regs.specs.Reads.{firstPiece, firstUse}
@@ -87,10 +87,10 @@ filled N X Y vs t′ at end n g lx ly lv h =
 
 pub holds-merged : (ol : OutLayout) (O O₁ O₂ : List ℕ) (st : State) (c : Counts) (v : VirtReg) (k np nu : ℕ) (hint : Bool) (p u : ℕ) (new : List Piece) → Holds ol O st → c ≡ countsOf st
     → v .0 < length (st .registers) → k ≤ length (registerAt st v .pieces) → Opened ol st c v k np nu hint p u O₁ → Written ol O₁ p u new (usesOf (segsOf new)) O₂
-    → np ≡ length new → nu ≡ usesOfPieces new → hint ≡ hintIn new → c .segs + np ≤ ol .segs → c .uses + nu ≤ ol .uses → p ≤ c .segs
+    → np ≡ length new → nu ≡ usesOfPieces new → hint ≡ hintIn new → c .segs + np ≤ ol .segs → c .uses + nu ≤ ol .uses → p ≤ c .segs → Each Typed (usesOf (segsOf new))
     → Holds ol O₂ (record { registers = update (withPieces (insertedAt k new (registerAt st v .pieces))) (v .0) (st .registers); groups = st .groups; mapping = st .mapping })
 unfolding firstUse
-holds-merged ol O O₁ O₂ st c v k np nu hint p u new h ec here hk op w en eu eh fp fu hp =
+holds-merged ol O O₁ O₂ st c v k np nu hint p u new h ec here hk op w en eu eh fp fu hp ty =
     let rs : List Register = st .registers in
     let ps : List Piece = registerAt st v .pieces in
     let qs : List Piece = insertedAt k new ps in
@@ -149,6 +149,9 @@ holds-merged ol O O₁ O₂ st c v k np nu hint p u new h ec here hk op w en eu 
           ∙ filled (ol .uses * 6) (useRows U₁) (useRows U₂) (useRows Un) (part (useBase ol) (groupBase ol) O₁) (u * 6) (c .uses * 6) (nu * 6) ug (omega arith) (omega arith) (omega arith) (omega arith)
           ∙ ap (λ (t : List ℕ). pad (ol .uses * 6) t) (sym urows ∙ ap (λ (t : List Use). useRows t) (sym each));
       groups = w .groups ∙ op .groups;
+      typed =
+          let o : Each Typed (U₁ ++ U₂) = subst (λ (us : List Use). Each Typed us) old (h .typed) in
+          subst (λ (us : List Use). Each Typed us) (sym each) (each-append _ U₁ (Un ++ U₂) (each-front _ U₁ U₂ o) (each-append _ Un U₂ ty (each-back _ U₁ U₂ o)));
       weights = each-update _ (withPieces qs) (λ r q. q) (v .0) rs (h .weights);
       members = each-weaker _ _ (λ ms q. placed-more ms (length rs) (length (st′ .registers)) (omega arith) q) (st .groups) (h .members);
     }
