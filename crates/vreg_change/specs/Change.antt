@@ -21,6 +21,7 @@ use Rattle.definition.specs.Types.{Piece, Register, State}
 use Rattle.definition.specs.Place.{piecesIn, usesIn, usesOf, segsOf, withWeight, update, spread}
 use Rattle.definition.specs.Admit.{membersAt, noRegister}
 use Rattle.virt_regs.specs.declared.OutLayout.{OutLayout}
+use Rattle.virt_regs.specs.declared.Counts.{Counts}
 use Rattle.virt_regs.specs.Part.{part, part-set-ahead, part-set-behind, part-set-in}
 use Rattle.virt_regs.specs.Each.{Each, each-append, each-one, each-get, each-set, each-weaker}
 use Rattle.virt_regs.specs.Encoding.{segBase, useBase, groupBase, tablesEnd, placeWord, groupWords, allPieces, behind, still, eachRegister, eachGroup, registerRows, pieceRows, useRows, groupRows, countsOf, Weighs, Placed, Typed, Holds}
@@ -324,3 +325,17 @@ module _ (ol : OutLayout) (O : List ℕ) (st : State) (h : Holds ol O st) where
         weights = h .weights;
         members = each-append _ gs (ms′ ∷ []) (h .members) (each-one _ ms′ (placed-set none′ (length (st .registers)) i r (omega arith) hr (placed-none n (length (st .registers)) hn)));
       }
+
+-- ---- counts
+
+pub counts-member : (st : State) (g : VirtRegGroup) (ms : List (Option VirtReg)) → countsOf (record { registers = st .registers; groups = set (st .groups) (g .0) ms; mapping = st .mapping }) ≡ countsOf st
+unfolding piecesIn usesIn
+counts-member st g ms = λ x. record { regs = length (st .registers); segs = piecesIn st; uses = usesIn st; groups = length-set (st .groups) (g .0) ms x }
+
+pub counts-group : (st : State) (c : Counts) (ms : List (Option VirtReg)) → c ≡ countsOf st
+    → record { regs = c .regs; segs = c .segs; uses = c .uses; groups = c .groups + 1 } ≡ countsOf (record { registers = st .registers; groups = st .groups ++ (ms ∷ []); mapping = st .mapping })
+unfolding piecesIn usesIn
+counts-group st c ms ec =
+    let n : length (st .groups ++ (ms ∷ [])) ≡ length (st .groups) + 1 = length-append (st .groups) (ms ∷ []) in
+    ap (λ (x : Counts). record { regs = x .regs; segs = x .segs; uses = x .uses; groups = x .groups + 1 }) ec
+    ∙ λ x. record { regs = length (st .registers); segs = piecesIn st; uses = usesIn st; groups = sym n x }

@@ -10,10 +10,11 @@ use lib.Seq.{slice, split-at, length-take-le, take-append-add, drop-append-add, 
 use Rattle.rows.specs.Parts.{pad, length-pad, pad-insert, splice}
 use Rattle.rows.specs.Moves.{Gap, gap-fill}
 use Rattle.rows.specs.Rows.{rowsOf, after, rows-append}
+use Rattle.definition.specs.declared.LiveRangePoint.{LiveRangePoint}
 use Rattle.definition.specs.declared.VirtReg.{VirtReg}
 use Rattle.definition.specs.declared.Use.{Use}
 use Rattle.definition.specs.Types.{Piece, Register, State}
-use Rattle.definition.specs.Place.{piecesIn, usesIn, usesOfPieces, usesOf, segsOf, withPieces, update}
+use Rattle.definition.specs.Place.{piecesIn, usesIn, usesOfPieces, usesOf, segsOf, withPieces, update, inserted}
 use Rattle.definition.specs.Lines.{hintIn}
 use Rattle.definition.specs.Admit.{registerAt, noRegister}
 use Rattle.virt_regs.specs.declared.OutLayout.{OutLayout}
@@ -25,7 +26,7 @@ use Rattle.virt_regs.specs.Update.{update-split, length-update, each-update}
 use Rattle.virt_regs.specs.Counting.{all-append, uses-append, count-pieces, count-uses, count-uses-of, after-pieces, length-pieces, length-uses, placed-more}
 use Rattle.virt_regs.specs.Reads.{firstPiece, firstUse}
 use Rattle.vreg_put.specs.Written.{Written}
-use Rattle.vreg_find.specs.Ends.{insertedAt}
+use Rattle.vreg_find.specs.Ends.{endsBy, insertedAt, ends-le, inserted-at}
 use Rattle.vreg_insert.specs.Opened.{Opened}
 
 -- ---- the register's pieces, and all of them
@@ -155,3 +156,38 @@ holds-merged ol O O₁ O₂ st c v k np nu hint p u new h ec here hk op w en eu 
       weights = each-update _ (withPieces qs) (λ r q. q) (v .0) rs (h .weights);
       members = each-weaker _ _ (λ ms q. placed-more ms (length rs) (length (st′ .registers)) (omega arith) q) (st .groups) (h .members);
     }
+
+-- the place is the definition's: behind the pieces that end by a
+pub merged-inserted : (ol : OutLayout) (O : List ℕ) (st : State) (v : VirtReg) (a : LiveRangePoint) (k : ℕ) (new : List Piece) → k ≡ endsBy a (registerAt st v .pieces)
+    → Holds ol O (record { registers = update (withPieces (insertedAt k new (registerAt st v .pieces))) (v .0) (st .registers); groups = st .groups; mapping = st .mapping })
+    → Holds ol O (record { registers = update (withPieces (inserted a new (registerAt st v .pieces))) (v .0) (st .registers); groups = st .groups; mapping = st .mapping })
+merged-inserted ol O st v a k new ek h =
+    let ps : List Piece = registerAt st v .pieces in
+    let e : insertedAt k new ps ≡ inserted a new ps = ap (λ (j : ℕ). insertedAt j new ps) ek ∙ sym (inserted-at a new ps) in
+    subst (λ (qs : List Piece). Holds ol O (record { registers = update (withPieces qs) (v .0) (st .registers); groups = st .groups; mapping = st .mapping })) e h
+
+pub counts-merged : (st : State) (c : Counts) (v : VirtReg) (a : LiveRangePoint) (new : List Piece) → c ≡ countsOf st → v .0 < length (st .registers)
+    → record { regs = c .regs; segs = c .segs + length new; uses = c .uses + usesOfPieces new; groups = c .groups }
+    ≡ countsOf (record { registers = update (withPieces (inserted a new (registerAt st v .pieces))) (v .0) (st .registers); groups = st .groups; mapping = st .mapping })
+counts-merged st c v a new ec here =
+    let rs : List Register = st .registers in
+    let ps : List Piece = registerAt st v .pieces in
+    let k : ℕ = endsBy a ps in
+    let p : ℕ = firstPiece st v + k in
+    let A : List Piece = allPieces rs in
+    let st′ : State = record { registers = update (withPieces (inserted a new ps)) (v .0) rs; groups = st .groups; mapping = st .mapping } in
+    let all : allPieces (st′ .registers) ≡ take p A ++ (new ++ drop p A) =
+    ap (λ (qs : List Piece). allPieces (update (withPieces qs) (v .0) rs)) (inserted-at a new ps) ∙ all-inserted st v k p new here (ends-le a ps) refl in
+    let each : usesOf (segsOf (allPieces (st′ .registers))) ≡ usesOf (segsOf (take p A)) ++ (usesOf (segsOf new) ++ usesOf (segsOf (drop p A))) =
+    ap (λ (t : List Piece). usesOf (segsOf t)) all ∙ uses-append (take p A) (new ++ drop p A) ∙ ap (λ (t : List Use). usesOf (segsOf (take p A)) ++ t) (uses-append new (drop p A)) in
+    let old : usesOf (segsOf A) ≡ usesOf (segsOf (take p A)) ++ usesOf (segsOf (drop p A)) = ap (λ (t : List Piece). usesOf (segsOf t)) (sym (take-append-drop p A)) ∙ uses-append (take p A) (drop p A) in
+    let np : piecesIn st′ ≡ piecesIn st + length new =
+    count-pieces st′ ∙ ap length all ∙ length-inserted p new A ∙ ap (λ (n : ℕ). n + length new) (sym (count-pieces st)) in
+    let lo : length (usesOf (segsOf A)) ≡ length (usesOf (segsOf (take p A))) + length (usesOf (segsOf (drop p A))) = ap length old ∙ length-append (usesOf (segsOf (take p A))) (usesOf (segsOf (drop p A))) in
+    let le : length (usesOf (segsOf (take p A)) ++ (usesOf (segsOf new) ++ usesOf (segsOf (drop p A)))) ≡ length (usesOf (segsOf A)) + usesOfPieces new =
+    length-append (usesOf (segsOf (take p A))) (usesOf (segsOf new) ++ usesOf (segsOf (drop p A)))
+    ∙ (let q = length-append (usesOf (segsOf new)) (usesOf (segsOf (drop p A))) in let b = count-uses-of new in omega arith) in
+    let nu : usesIn st′ ≡ usesIn st + usesOfPieces new = count-uses st′ ∙ ap length each ∙ le ∙ ap (λ (n : ℕ). n + usesOfPieces new) (sym (count-uses st)) in
+    let n : length (st′ .registers) ≡ length rs = length-update (withPieces (inserted a new ps)) (v .0) rs in
+    ap (λ (x : Counts). record { regs = x .regs; segs = x .segs + length new; uses = x .uses + usesOfPieces new; groups = x .groups }) ec
+    ∙ λ x. record { regs = sym n x; segs = sym np x; uses = sym nu x; groups = length (st .groups) }
