@@ -4,3 +4,5 @@ pub mod Encoding
 pub mod Counting
 pub mod Update
 pub mod Reads
+pub mod UseRows
+pub mod View
