@@ -1,9 +1,9 @@
 -- A part of a list of words, and words put into the list, seen from each part. Assumes nothing.
-use mathlib.Core.Path.{_≡_, refl, sym, ap, _∙_}
+use mathlib.Core.Path.{_≡_, sym, ap, _∙_}
 use mathlib.Core.List.{List, [], _∷_, _++_, append-assoc}
-use Prim.Native.Nat.{ℕ, _+_, _-_, _*_, _≤_, _<_}
+use Prim.Native.Nat.{ℕ, _+_, _-_, _≤_, _<_}
 use native.Mathlib.Omega.{arith}
-use lib.ListN.{length, getD, set, take, drop, replicate, length-append, length-take, length-drop, take-append-drop, length-set}
+use lib.ListN.{length, getD, set, take, drop, replicate, length-append, length-take, length-drop, take-append-drop}
 use lib.Seq.{drop-drop, take-append-le, drop-append-le, drop-append-add, take-append-add, length-take-le, take-at, drop-at, getD-drop, getD-take}
 use Rattle.rows.specs.Parts.{splice, length-splice, drop-replicate}
 use Rattle.rows.specs.Moves.{store-1}

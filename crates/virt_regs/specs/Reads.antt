@@ -1,6 +1,6 @@
 -- What words that hold a state say of its registers, pieces, uses and groups. Assumes nothing.
 use mathlib.Core.Path.{_≡_, refl, sym, ap, _∙_}
-use mathlib.Core.Option.{Option, none, some}
+use mathlib.Core.Option.{none, some}
 use mathlib.Core.List.{List, [], _∷_, _++_, append-assoc}
 use Prim.Native.Nat.{ℕ, suc, _+_, _-_, _*_, _≤_, _<_}
 use native.Mathlib.Nat.{zero-add}
@@ -8,7 +8,7 @@ use native.Mathlib.Omega.{arith}
 use lib.ListN.{length, getD, take, drop, replicate, length-append, length-replicate, List·getD-append}
 use lib.Ieee.{binary32, toBits, ofBits}
 use lib.Seq.{split-at, length-take-le, take-at, getD-append-add}
-use Rattle.rows.specs.Tab.{tab, getD-tab}
+use Rattle.rows.specs.Tab.{getD-tab}
 use Rattle.rows.specs.Parts.{pad, pad-getD, pad-none}
 use Rattle.rows.specs.Rows.{rowsOf, after, rows-append, row-get}
 use Rattle.definition.specs.declared.VirtReg.{VirtReg}
@@ -17,11 +17,11 @@ use Rattle.definition.specs.declared.Use.{Use}
 use Rattle.definition.specs.declared.Origin.the-variants.{Own}
 use Rattle.definition.specs.Types.{Piece, Register, Mapped, State, val, point}
 use Rattle.definition.specs.Place.{total, piecesIn, usesIn, usesOf, segsOf}
-use Rattle.definition.specs.Lines.{useNumbers, hintIn}
+use Rattle.definition.specs.Lines.{hintIn}
 use Rattle.definition.specs.Admit.{registerAt, noRegister, membersAt, noUse}
 use Rattle.virt_regs.specs.declared.OutLayout.{OutLayout}
 use Rattle.virt_regs.specs.declared.PieceRow.{PieceRow}
-use Rattle.virt_regs.specs.Part.{part, part-get, part-cut, part-middle, part-zeros, length-part}
+use Rattle.virt_regs.specs.Part.{part, part-get, part-cut, part-middle, part-zeros}
 use Rattle.virt_regs.specs.Each.{each-none, each-get}
 use Rattle.virt_regs.specs.Encoding.{Weighs, Placed, segBase, useBase, groupBase, tablesEnd, groupWord, placeWord, hintWord, pieceRow, useWords, groupWords, allPieces, behind, usedBy, still, eachRegister, eachPiece, eachUse, eachGroup, registerRows, pieceRows, useRows, groupRows, Holds}
 use Rattle.virt_regs.specs.Counting.{all-append, count-pieces, count-uses, after-registers, after-pieces, length-registers, length-pieces, length-uses, length-groups}

@@ -1,18 +1,21 @@
 -- A use read back from its row. Assumes nothing.
-use mathlib.Core.Path.{_≡_, refl, sym, ap, ap₂, _∙_}
+use mathlib.Core.Path.{_≡_, refl, ap, _∙_}
 use mathlib.Core.Bool.{Bool, true, false}
-use mathlib.Core.List.{List, [], _∷_}
-use Prim.Native.Nat.{ℕ, zero, suc, _+_, _*_, _%_, _≤_, _<_}
+use mathlib.Core.List.{List}
+use Prim.Native.Nat.{ℕ, zero, suc, _+_, _*_, _%_, _<_}
 use native.Mathlib.Nat.{mod-eq-of-lt}
 use native.Mathlib.Omega.{arith}
 use lib.Dec.{eqb}
-use lib.ListN.{length, getD}
+use lib.ListN.{getD}
+use Rattle.rows.specs.Tab.{tab}
+use Rattle.rows.specs.RowsAt.{rowsAt}
 use Rattle.definition.specs.declared.UseKind.{UseKind}
 use Rattle.definition.specs.declared.UseKind.the-variants.{FixedDef, FixedUse, TiedUse, ConstraintConflict, ClassUse, ClassDef, GroupClassUse, GroupClassDef, BlockparamIn, BlockparamOut}
 use Rattle.definition.specs.declared.Use.{Use}
 use Rattle.definition.specs.Types.{inst, cls}
 use Rattle.definition.specs.Lines.{numbersOf, useNumbers}
 use Rattle.uses.specs.Rows.{pickK, reg, kindOf, useRow}
+use Rattle.virt_regs.specs.Each.{Each}
 use Rattle.virt_regs.specs.Encoding.{useWords, TypedKind, Typed}
 
 slot : (a : ℕ) → a < 65536 → a % 65536 ≡ a
@@ -85,3 +88,11 @@ typed-kind k a b c d = go (eqb k 0) (eqb k 1) (eqb k 2) (eqb k 4) (eqb k 5) (eqb
 pub typed-row : (O : List ℕ) (i : ℕ) → Typed (useRow O i)
 unfolding useRow
 typed-row O i = typed-kind (getD O i 0) (getD O (i + 2) 0) (getD O (i + 3) 0) (getD O (i + 4) 0) (getD O (i + 5) 0)
+
+pub typed-rows : (O : List ℕ) (at s n : ℕ) → Each Typed (rowsAt useRow O at s n)
+unfolding rowsAt Each
+typed-rows O at s n = go 0 n
+  where
+    go : (i k : ℕ) → Each Typed (tab (λ j. useRow O (at + j * s)) i k)
+    go i zero = tt
+    go i (suc k) = (typed-row O (at + i * s), go (i + 1) k)

@@ -3,13 +3,13 @@ use mathlib.Core.Path.{_≡_, refl, sym, ap, _∙_}
 use mathlib.Core.Bool.{Bool, true, false, cond}
 use mathlib.Core.Option.{Option, none, some}
 use mathlib.Core.List.{List, [], _∷_, _++_}
-use Prim.Native.Nat.{ℕ, zero, suc, _+_, _-_, _*_, _/_, _%_, _≤_, _<_}
+use Prim.Native.Nat.{ℕ, zero, suc, _+_, _*_, _/_, _%_, _≤_, _<_}
 use native.Mathlib.Nat.{zero-add}
 use native.Mathlib.Numerals.{add-one}
 use native.Mathlib.Omega.{arith}
 use lib.Dec.{eqb}
 use lib.ListN.{length, getD, take, drop, length-append, List·getD-append}
-use lib.Ieee.{binary32, toBits, ofBits}
+use lib.Ieee.{binary32, ofBits}
 use lib.Seq.{split-at, ext-getD, getD-append-add}
 use Rattle.rows.specs.Tab.{tab, length-tab, getD-tab}
 use Rattle.rows.specs.RowsAt.{rowsAt, length-rows-at, getD-rows-at}

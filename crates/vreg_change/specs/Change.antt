@@ -13,7 +13,7 @@ use lib.Ieee.{Float, binary32, toBits}
 use lib.Seq.{split-at, set-split, length-take-le, getD-set-same, getD-set-other, ext-getD}
 use Rattle.rows.specs.Tab.{tab, length-tab, getD-tab}
 use Rattle.rows.specs.Parts.{pad, pad-set, set-past}
-use Rattle.rows.specs.Rows.{rowsOf, after, rows-append, row-put}
+use Rattle.rows.specs.Rows.{rowsOf, rows-append, row-put}
 use Rattle.definition.specs.declared.RegClass.{RegClass}
 use Rattle.definition.specs.declared.VirtReg.{VirtReg}
 use Rattle.definition.specs.declared.VirtRegGroup.{VirtRegGroup}

@@ -1,7 +1,7 @@
 -- What a change of class and weight stores, and what it asks of the words. Assumes nothing.
 use mathlib.Core.List.{List, [], _∷_}
 use Prim.Native.Nat.{ℕ, zero, suc, _+_, _*_, _≤_, _<_}
-use lib.ListN.{length, getD, set}
+use lib.ListN.{getD, set}
 use Rattle.rows.specs.Tab.{tab}
 use Rattle.definition.specs.declared.VirtRegGroup.{VirtRegGroup}
 use Rattle.virt_regs.specs.declared.OutLayout.{OutLayout}

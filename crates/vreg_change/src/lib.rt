@@ -6,7 +6,7 @@ use virt_regs::OutLayout;
 use virt_regs::group_size;
 use virt_regs::member_at;
 ghost use mathlib.Core.Path.{_≡_};
-ghost use Prim.Native.Nat.{ℕ, _+_, _*_, _^_, _≤_, _<_};
+ghost use Prim.Native.Nat.{_+_, _*_, _^_, _≤_, _<_};
 ghost use lib.ListN.{set};
 ghost use Rattle.words.specs.Words.{wordCount, wordsOf};
 ghost use Rattle.virt_regs.specs.Encoding.{groupBase, tablesEnd};

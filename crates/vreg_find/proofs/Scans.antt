@@ -1,8 +1,8 @@
 -- Turns of the scans over a register's pieces. Assumes nothing.
 use mathlib.Core.Path.{_≡_, refl, sym, ap, _∙_}
 use mathlib.Core.Bool.{Bool, true, false, _&&_, _||_}
-use mathlib.Core.List.{List, [], _∷_}
-use Prim.Native.Nat.{ℕ, zero, suc, _+_, _-_, _*_, _≤_, _<_}
+use mathlib.Core.List.{List, _∷_}
+use Prim.Native.Nat.{ℕ, suc, _+_, _*_, _≤_, _<_}
 use native.Mathlib.Omega.{arith}
 use borrow.Author.Tests.{le-leb, lt-leb, le-ltb, lt-ltb}
 use lib.Dec.{leb, ltb}
@@ -16,7 +16,6 @@ use Rattle.definition.specs.Admit.{registerAt}
 use Rattle.virt_regs.specs.declared.OutLayout.{OutLayout}
 use Rattle.virt_regs.specs.Encoding.{segBase, Holds}
 use Rattle.virt_regs.specs.Reads.{noPiece, first-held, count-held}
-use Rattle.vreg_find.specs.declared.Place.{Place}
 use Rattle.vreg_find.specs.declared.Place.the-variants.{Overlap, At}
 use Rattle.vreg_find.specs.Ends.{oneMore, endsBy, pickPlace, placeOf, Shows, overlaps-rest, shows-held}
 

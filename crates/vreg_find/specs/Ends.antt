@@ -2,7 +2,7 @@
 use mathlib.Core.Path.{_≡_, refl, sym, ap, _∙_}
 use mathlib.Core.Bool.{Bool, true, false, _&&_, _||_}
 use mathlib.Core.List.{List, [], _∷_, _++_, append-nil}
-use Prim.Native.Nat.{ℕ, zero, suc, _+_, _-_, _*_, _≤_, _<_}
+use Prim.Native.Nat.{ℕ, suc, _+_, _*_, _≤_, _<_}
 use native.Mathlib.Omega.{arith}
 use borrow.Author.Tests.{leb-true, le-ltb}
 use lib.Dec.{leb, ltb}
@@ -14,7 +14,7 @@ use Rattle.definition.specs.Place.{overlaps, inserted}
 use Rattle.definition.specs.Admit.{registerAt}
 use Rattle.virt_regs.specs.declared.OutLayout.{OutLayout}
 use Rattle.virt_regs.specs.Encoding.{segBase, eachPiece, Holds}
-use Rattle.virt_regs.specs.Reads.{noPiece, pieceAt, firstPiece, firstUse, piece-word, piece-of, pieces-in, first-held}
+use Rattle.virt_regs.specs.Reads.{noPiece, pieceAt, firstPiece, firstUse, piece-word, piece-of, pieces-in}
 use Rattle.vreg_find.specs.declared.Place.{Place}
 use Rattle.vreg_find.specs.declared.Place.the-variants.{Overlap, At}
 

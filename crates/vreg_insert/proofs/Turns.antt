@@ -1,14 +1,13 @@
 -- Turns of the loop that raises words, and what the stores come to. Assumes nothing.
 use mathlib.Core.Path.{_≡_, refl, sym, ap, _∙_, subst}
-use mathlib.Core.Bool.{Bool, true, false}
-use mathlib.Core.List.{List, [], _∷_, _++_}
+use mathlib.Core.Bool.{Bool}
+use mathlib.Core.List.{List}
 use Prim.Native.Nat.{ℕ, zero, suc, _+_, _-_, _*_, _^_, _≤_, _<_}
 use native.Mathlib.Nat.{suc-mul, zero-mul}
 use native.Mathlib.Omega.{arith}
-use lib.ListN.{length, getD, set, take}
+use lib.ListN.{length, getD, set}
 use lib.Seq.{getD-set-other, take-all}
 use Rattle.words.specs.Words.{wordCount, wordsOf}
-use Rattle.words.specs.Laws.{length-words}
 use Rattle.definition.specs.declared.VirtReg.{VirtReg}
 use Rattle.definition.specs.Types.{Piece, State}
 use Rattle.definition.specs.Place.{piecesIn, usesIn, usesOf, segsOf}

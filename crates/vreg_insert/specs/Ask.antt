@@ -1,20 +1,19 @@
 -- What opening gaps asks of the tables. Assumes nothing.
-use mathlib.Core.Path.{_≡_, refl, sym, ap, _∙_, subst}
+use mathlib.Core.Path.{_≡_, sym, ap, _∙_}
 use mathlib.Core.List.{List, _++_}
-use Prim.Native.Nat.{ℕ, _+_, _-_, _*_, _^_, _≤_, _<_}
+use Prim.Native.Nat.{ℕ, _+_, _*_, _^_, _≤_, _<_}
 use native.Mathlib.Omega.{arith}
 use lib.ListN.{length, getD, take, drop, length-append, take-append-drop}
 use Rattle.rows.specs.Moves.{Gap}
 use Rattle.definition.specs.declared.VirtReg.{VirtReg}
-use Rattle.definition.specs.declared.Use.{Use}
 use Rattle.definition.specs.Types.{Piece, State}
 use Rattle.definition.specs.Place.{piecesIn, usesIn, usesOf, segsOf}
 use Rattle.definition.specs.Admit.{registerAt}
 use Rattle.virt_regs.specs.declared.OutLayout.{OutLayout}
 use Rattle.virt_regs.specs.declared.Counts.{Counts}
 use Rattle.virt_regs.specs.Encoding.{segBase, useBase, tablesEnd, allPieces, countsOf, Holds}
-use Rattle.virt_regs.specs.Counting.{uses-append, count-pieces, count-uses}
-use Rattle.virt_regs.specs.Reads.{firstPiece, firstUse, pieces-in, first-held, count-held, piece-word}
+use Rattle.virt_regs.specs.Counting.{uses-append, count-uses}
+use Rattle.virt_regs.specs.Reads.{firstUse, pieces-in, first-held, count-held, piece-word}
 use Rattle.vreg_insert.specs.Flat.{Liftable}
 
 -- The tables hold some state with these counts, with room for np pieces and nu uses more; register v has piece k or ends there.

@@ -1,15 +1,15 @@
 -- The gaps filled: pieces merged into a register. Assumes nothing.
 use mathlib.Core.Path.{_≡_, refl, sym, ap, _∙_, subst}
 use mathlib.Core.Bool.{Bool, true, false, _||_}
-use mathlib.Core.List.{List, [], _∷_, _++_, append-assoc, append-nil}
-use Prim.Native.Nat.{ℕ, zero, suc, _+_, _-_, _*_, _^_, _≤_, _<_}
-use native.Mathlib.Nat.{zero-add, add-zero}
+use mathlib.Core.List.{List, [], _∷_, _++_, append-assoc}
+use Prim.Native.Nat.{ℕ, suc, _+_, _-_, _*_, _≤_, _<_}
+use native.Mathlib.Nat.{zero-add}
 use native.Mathlib.Omega.{arith}
-use lib.ListN.{length, getD, set, take, drop, length-append, length-drop, take-append-drop}
+use lib.ListN.{length, getD, take, drop, length-append, length-drop, take-append-drop}
 use lib.Seq.{slice, split-at, length-take-le, take-append-add, drop-append-add, take-append-le, drop-append-le}
 use Rattle.rows.specs.Parts.{pad, length-pad, pad-insert, splice}
 use Rattle.rows.specs.Moves.{Gap, gap-fill}
-use Rattle.rows.specs.Rows.{rowsOf, after, rows-append}
+use Rattle.rows.specs.Rows.{after, rows-append}
 use Rattle.definition.specs.declared.LiveRangePoint.{LiveRangePoint}
 use Rattle.definition.specs.declared.VirtReg.{VirtReg}
 use Rattle.definition.specs.declared.Use.{Use}
@@ -21,7 +21,7 @@ use Rattle.virt_regs.specs.declared.OutLayout.{OutLayout}
 use Rattle.virt_regs.specs.declared.Counts.{Counts}
 use Rattle.virt_regs.specs.Part.{part}
 use Rattle.virt_regs.specs.Each.{Each, each-append, each-front, each-back, each-weaker}
-use Rattle.virt_regs.specs.Encoding.{segBase, useBase, groupBase, tablesEnd, allPieces, usedBy, still, eachPiece, eachUse, registerRows, pieceRows, useRows, countsOf, Typed, Holds}
+use Rattle.virt_regs.specs.Encoding.{segBase, useBase, groupBase, allPieces, usedBy, still, eachPiece, eachUse, pieceRows, useRows, countsOf, Typed, Holds}
 use Rattle.virt_regs.specs.Update.{update-split, length-update, each-update}
 use Rattle.virt_regs.specs.Counting.{all-append, uses-append, count-pieces, count-uses, count-uses-of, after-pieces, length-pieces, length-uses, placed-more}
 use Rattle.virt_regs.specs.Reads.{firstPiece, firstUse}

@@ -2,30 +2,29 @@
 use mathlib.Core.Path.{_≡_, refl, sym, ap, _∙_, subst}
 use mathlib.Core.Bool.{Bool, true, false, _||_}
 use mathlib.Core.List.{List, [], _∷_, _++_, append-assoc, append-nil}
-use Prim.Native.Nat.{ℕ, zero, suc, _+_, _-_, _*_, _^_, _≤_, _<_}
-use native.Mathlib.Nat.{zero-add, add-zero}
+use Prim.Native.Nat.{ℕ, suc, _+_, _-_, _*_, _≤_, _<_}
+use native.Mathlib.Nat.{zero-add}
 use native.Mathlib.Omega.{arith}
-use lib.ListN.{length, getD, set, take, drop, length-append, length-set, length-drop, take-append-drop, List·getD-append}
-use lib.Seq.{split-at, length-take-le, take-at, drop-at, take-append-add, drop-append-add}
-use Rattle.rows.specs.Parts.{pad, pad-set, pad-getD, pad-insert, set-past, getD-past, splice}
-use Rattle.rows.specs.Moves.{Gap, gap-fill, length-gap}
+use lib.ListN.{length, getD, set, take, drop, length-append, length-set, length-drop, take-append-drop}
+use lib.Seq.{split-at, length-take-le}
+use Rattle.rows.specs.Parts.{pad, pad-set, pad-getD, set-past, getD-past}
+use Rattle.rows.specs.Moves.{Gap, length-gap}
 use Rattle.rows.specs.Rows.{rowsOf, after, rows-append}
 use Rattle.definition.specs.declared.VirtReg.{VirtReg}
-use Rattle.definition.specs.declared.Use.{Use}
 use Rattle.definition.specs.Types.{Piece, Register, State}
-use Rattle.definition.specs.Place.{piecesIn, usesIn, usesOfPieces, usesOf, segsOf, withPieces, update}
+use Rattle.definition.specs.Place.{piecesIn, usesIn, usesOf, segsOf, withPieces, update}
 use Rattle.definition.specs.Lines.{hintIn}
 use Rattle.definition.specs.Admit.{registerAt, noRegister}
 use Rattle.virt_regs.specs.declared.OutLayout.{OutLayout}
 use Rattle.virt_regs.specs.declared.Counts.{Counts}
-use Rattle.virt_regs.specs.Part.{part, part-get, part-set-in, part-set-ahead, length-part}
-use Rattle.virt_regs.specs.Encoding.{segBase, useBase, groupBase, tablesEnd, hintWord, allPieces, behind, usedBy, still, eachRegister, eachPiece, eachUse, registerRows, pieceRows, useRows, groupRows, countsOf, Holds}
-use Rattle.virt_regs.specs.Update.{update-split, length-update, each-update}
-use Rattle.virt_regs.specs.Counting.{all-append, uses-append, count-pieces, count-uses, count-uses-of, after-registers, after-pieces, length-registers, length-pieces, length-uses}
-use Rattle.virt_regs.specs.Reads.{firstPiece, firstUse, pieces-in, first-held, count-held, piece-word}
+use Rattle.virt_regs.specs.Part.{part, part-get, part-set-in, part-set-ahead}
+use Rattle.virt_regs.specs.Encoding.{segBase, useBase, groupBase, tablesEnd, hintWord, allPieces, behind, usedBy, eachRegister, eachPiece, registerRows, pieceRows, useRows, groupRows, countsOf, Holds}
+use Rattle.virt_regs.specs.Update.{update-split}
+use Rattle.virt_regs.specs.Counting.{all-append, count-pieces, count-uses, after-registers, after-pieces, length-registers}
+use Rattle.virt_regs.specs.Reads.{firstPiece, firstUse}
 use Rattle.vreg_insert.specs.Raised.{raised, length-raised, raised-table, part-raised-in, part-raised-ahead, part-raised-behind}
 use Rattle.vreg_insert.specs.GapParts.{part-gap-ahead, part-gap-behind, part-gap-in}
-use Rattle.vreg_insert.specs.Flat.{orWord, grown, lifted, Liftable}
+use Rattle.vreg_insert.specs.Flat.{orWord, grown, lifted}
 
 -- The tables of st with a gap of np pieces before piece p, which is piece k of register v, and one of nu uses before use u. Register v's row counts the new pieces, and has their hint.
 pub record Opened (ol : OutLayout) (st : State) (c : Counts) (v : VirtReg) (k np nu : ℕ) (hint : Bool) (p u : ℕ) (O′ : List ℕ) : Type 0 where

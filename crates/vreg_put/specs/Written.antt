@@ -1,6 +1,6 @@
 -- Pieces and uses written row by row, and a register added with them. Assumes nothing.
 use mathlib.Core.Path.{_≡_, refl, sym, ap, _∙_, subst}
-use mathlib.Core.List.{List, [], _∷_, _++_, append-assoc, append-nil}
+use mathlib.Core.List.{List, [], _∷_, _++_, append-nil}
 use Prim.Native.Nat.{ℕ, suc, _+_, _-_, _*_, _≤_, _<_}
 use native.Mathlib.Nat.{zero-add, add-zero}
 use native.Mathlib.Omega.{arith}
@@ -8,7 +8,6 @@ use lib.ListN.{length, take, drop, length-append, take-append-drop}
 use Rattle.rows.specs.Parts.{splice, splice-splice, length-splice, pad, pad-splice}
 use Rattle.rows.specs.Rows.{rowsOf, after, rows-append}
 use Rattle.definition.specs.declared.Use.{Use}
-use Rattle.definition.specs.declared.VirtReg.{VirtReg}
 use Rattle.definition.specs.Types.{Piece, Register, State}
 use Rattle.definition.specs.Place.{piecesIn, usesIn, usesOfPieces, usesOf, segsOf}
 use Rattle.virt_regs.specs.declared.OutLayout.{OutLayout}

@@ -1,5 +1,4 @@
 use Rattle.vreg_put.proofs.Puts.{fits-not, fits-rest}
-use borrow.Author.Needs.{needs}
 use Rattle.vreg_put.proofs.fits.Statement.{statement}
 use Rattle.vreg_put.proofs.fits.Tie as tie
 
