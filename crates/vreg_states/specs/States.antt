@@ -89,3 +89,44 @@ module _ (ol : OutLayout) (job : Job) (set′ : ValueSet) (hd : Held) (new : Lis
         groups = st .groups ++ (set (replicate (classAt job (hd .class) .size) none) (hg .index) (some (vreg k)) ∷ []);
         mapping = ms;
       })) n (holds-mapping ol O₃ _ ms h₂))
+
+  -- joined to group g: class and weight of its members, then the register, then its place
+  pub holds-join : (hg : HeldGroup) (g : VirtRegGroup) (b : ℕ) (O O₁ O₂ O₃ : List ℕ) → Holds ol O st → hasRoom (roomOf ol) st 1 0 new ≡ true
+      → g .0 < length (st .groups) → hg .index < length (membersAt st g) → b ≡ toBits binary32 (groupWeight job hd hg (membersAt st g) new st) → Weighs (groupWeight job hd hg (membersAt st g) new st)
+      → O₁ ≡ spreadIn ol (hd .class .0) b g O → Written ol O₁ (c .segs) (c .uses) new (usesOf (segsOf new)) O₂
+      → O₃ ≡ splice O₂ (c .regs * 8) (registerWords (registerRow (c .segs) (made set′ hd (groupWeight job hd hg (membersAt st g) new st) (some g) (hg .index) new)))
+      → Holds ol (set O₃ (groupBase ol + (g .0 * 9 + (hg .index + 1))) (c .regs + 1)) (joinState job set′ hd hg g new st)
+  unfolding joinState membersAt
+  holds-join hg g b O O₁ O₂ O₃ h room here hi eb ww e₁ w e =
+      let f = room-fits ol st c 1 0 new ec room in
+      let ms : List (Option VirtReg) = membersAt st g in
+      let wt : Float = groupWeight job hd hg ms new st in
+      let n : c .regs ≡ length (st .registers) = ap (λ (x : Counts). x .regs) ec in
+      let r : Register = made set′ hd wt (some g) (hg .index) new in
+      let st₁ : State = record { registers = spread (hd .class) wt ms (st .registers); groups = st .groups; mapping = st .mapping } in
+      let st₂ : State = record { registers = st₁ .registers ++ (r ∷ []); groups = st .groups; mapping = st .mapping } in
+      let h₁ : Holds ol O₁ st₁ = subst (λ (t : List ℕ). Holds ol t st₁) (sym e₁) (holds-spread ol O st h g here (hd .class) wt b eb ww) in
+      let ec₁ : c ≡ countsOf st₁ = ec ∙ sym (counts-spread (hd .class) wt ms st) in
+      let h₂ : Holds ol O₃ st₂ = holds-added ol O₁ O₂ O₃ st₁ c r h₁ ec₁ w e (omega (arith, f)) (f .1) (f .2) ww ty in
+      let ln : length (st₂ .registers) ≡ length (st .registers) + 1 = length-append (st₁ .registers) (r ∷ []) ∙ ap (λ (k : ℕ). k + 1) (length-spread (hd .class) wt ms (st .registers)) in
+      let O₄ : List ℕ = set O₃ (groupBase ol + (g .0 * 9 + (hg .index + 1))) (c .regs + 1) in
+      subst (λ (k : ℕ). Holds ol O₄ (record {
+        registers = st₂ .registers;
+        groups = set (st .groups) (g .0) (set ms (hg .index) (some (vreg k)));
+        mapping = st .mapping;
+      })) n (holds-member ol O₃ st₂ h₂ g (hg .index) (vreg (c .regs)) here hi (omega arith))
+
+-- merged into register v: the pieces are in their place, then class and weight of the members of group g
+pub holds-merge : (ol : OutLayout) (job : Job) (hd : Held) (hg : HeldGroup) (g : VirtRegGroup) (v : VirtReg) (new : List Piece) (st : State) (k b : ℕ) (O : List ℕ)
+    → k ≡ endsBy (firstFrom new) (registerAt st v .pieces)
+    → Holds ol O (record { registers = update (withPieces (insertedAt k new (registerAt st v .pieces))) (v .0) (st .registers); groups = st .groups; mapping = st .mapping })
+    → g .0 < length (st .groups)
+    → b ≡ toBits binary32 (groupWeight job hd hg (membersAt st g) (inserted (firstFrom new) new (registerAt st v .pieces)) st)
+    → Weighs (groupWeight job hd hg (membersAt st g) (inserted (firstFrom new) new (registerAt st v .pieces)) st)
+    → Holds ol (spreadIn ol (hd .class .0) b g O) (mergeState job hd hg g v new st)
+unfolding mergeState membersAt
+holds-merge ol job hd hg g v new st k b O ek h here eb ww =
+    let ps : List Piece = inserted (firstFrom new) new (registerAt st v .pieces) in
+    let st₁ : State = record { registers = update (withPieces ps) (v .0) (st .registers); groups = st .groups; mapping = st .mapping } in
+    let h₁ : Holds ol O st₁ = merged-inserted ol O st v (firstFrom new) k new ek h in
+    holds-spread ol O st₁ h₁ g here (hd .class) (groupWeight job hd hg (membersAt st g) ps st) b eb ww
