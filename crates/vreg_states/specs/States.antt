@@ -10,7 +10,6 @@ use lib.Dec.{leb}
 use lib.ListN.{length, set, replicate, length-append}
 use lib.Ieee.{Float, binary32, toBits}
 use Rattle.rows.specs.Parts.{splice}
-use Rattle.definition.specs.declared.RegClass.{RegClass}
 use Rattle.definition.specs.declared.ValueSet.{ValueSet}
 use Rattle.definition.specs.declared.VirtReg.{VirtReg}
 use Rattle.definition.specs.declared.VirtRegGroup.{VirtRegGroup}
@@ -24,10 +23,10 @@ use Rattle.virt_regs.specs.declared.Counts.{Counts}
 use Rattle.virt_regs.specs.Each.{Each}
 use Rattle.virt_regs.specs.Encoding.{groupBase, roomOf, registerRow, registerWords, countsOf, Weighs, Typed, Holds}
 use Rattle.virt_regs.specs.Reads.{holds-mapping}
-use Rattle.vreg_put.specs.Written.{Written, holds-added}
+use Rattle.vreg_put.specs.Written.{Written, holds-added, counts-added}
 use Rattle.vreg_change.specs.Flat.{spreadIn}
-use Rattle.vreg_change.specs.Change.{holds-spread, holds-member, holds-group, length-spread, counts-spread}
-use Rattle.vreg_insert.specs.Merged.{merged-inserted}
+use Rattle.vreg_change.specs.Change.{holds-spread, holds-member, holds-group, length-spread, counts-spread, counts-member, counts-group}
+use Rattle.vreg_insert.specs.Merged.{merged-inserted, counts-merged}
 use Rattle.vreg_find.specs.Ends.{endsBy, insertedAt}
 
 -- room by the definition's test
@@ -130,3 +129,46 @@ holds-merge ol job hd hg g v new st k b O ek h here eb ww =
     let st₁ : State = record { registers = update (withPieces ps) (v .0) (st .registers); groups = st .groups; mapping = st .mapping } in
     let h₁ : Holds ol O st₁ = merged-inserted ol O st v (firstFrom new) k new ek h in
     holds-spread ol O st₁ h₁ g here (hd .class) (groupWeight job hd hg (membersAt st g) ps st) b eb ww
+
+-- ---- the counts then
+
+abbrev pub countsWith : Counts → ℕ → ℕ → ℕ → ℕ → Counts
+countsWith c r np nu g = record { regs = c .regs + r; segs = c .segs + np; uses = c .uses + nu; groups = c .groups + g }
+
+module _ (job : Job) (hd : Held) (new : List Piece) (st : State) (c : Counts) (ec : c ≡ countsOf st) where
+  none-more : record { regs = c .regs + 1; segs = c .segs + length new; uses = c .uses + usesOfPieces new; groups = c .groups } ≡ countsWith c 1 (length new) (usesOfPieces new) 0
+  none-more = let e : c .groups ≡ c .groups + 0 = omega arith in ap (λ (g : ℕ). record { regs = c .regs + 1; segs = c .segs + length new; uses = c .uses + usesOfPieces new; groups = g }) e
+
+  pub counts-alone : (set′ : ValueSet) → countsWith c 1 (length new) (usesOfPieces new) 0 ≡ countsOf (aloneState job set′ hd new st)
+  unfolding aloneState
+  counts-alone set′ = sym none-more ∙ counts-added st c (made set′ hd (weightOf job (hd .class) (segsOf new)) none 0 new) ec
+
+  pub counts-lead : (set′ : ValueSet) (hg : HeldGroup) (ms : List Mapped) → countsWith c 1 (length new) (usesOfPieces new) 1 ≡ countsOf (leadState job set′ hd hg new st ms)
+  unfolding leadState piecesIn usesIn
+  counts-lead set′ hg ms =
+      let r : Register = made set′ hd (weightOf job (hd .class) (segsOf new)) (some (vrgroup (length (st .groups)))) (hg .index) new in
+      let st₁ : State = record { registers = st .registers ++ (r ∷ []); groups = st .groups; mapping = st .mapping } in
+      let c₁ : Counts = record { regs = c .regs + 1; segs = c .segs + length new; uses = c .uses + usesOfPieces new; groups = c .groups } in
+      counts-group st₁ c₁ (set (replicate (classAt job (hd .class) .size) none) (hg .index) (some (vreg (length (st .registers))))) (counts-added st c r ec)
+
+  pub counts-join : (set′ : ValueSet) (hg : HeldGroup) (g : VirtRegGroup) → countsWith c 1 (length new) (usesOfPieces new) 0 ≡ countsOf (joinState job set′ hd hg g new st)
+  unfolding joinState piecesIn usesIn
+  counts-join set′ hg g =
+      let ms : List (Option VirtReg) = membersAt st g in
+      let wt : Float = groupWeight job hd hg ms new st in
+      let r : Register = made set′ hd wt (some g) (hg .index) new in
+      let st₁ : State = record { registers = spread (hd .class) wt ms (st .registers); groups = st .groups; mapping = st .mapping } in
+      let st₂ : State = record { registers = st₁ .registers ++ (r ∷ []); groups = st .groups; mapping = st .mapping } in
+      sym none-more ∙ counts-added st₁ c r (ec ∙ sym (counts-spread (hd .class) wt ms st))
+      ∙ sym (counts-member st₂ g (set ms (hg .index) (some (vreg (length (st .registers))))))
+
+  pub counts-merge : (hg : HeldGroup) (g : VirtRegGroup) (v : VirtReg) → v .0 < length (st .registers) → countsWith c 0 (length new) (usesOfPieces new) 0 ≡ countsOf (mergeState job hd hg g v new st)
+  unfolding mergeState
+  counts-merge hg g v here =
+      let ps : List Piece = inserted (firstFrom new) new (registerAt st v .pieces) in
+      let st₁ : State = record { registers = update (withPieces ps) (v .0) (st .registers); groups = st .groups; mapping = st .mapping } in
+      let r : c .regs + 0 ≡ c .regs = omega arith in
+      let m : c .groups + 0 ≡ c .groups = omega arith in
+      (λ x. record { regs = r x; segs = c .segs + length new; uses = c .uses + usesOfPieces new; groups = m x })
+      ∙ counts-merged st c v (firstFrom new) new ec here
+      ∙ sym (counts-spread (hd .class) (groupWeight job hd hg (membersAt st g) ps st) (membersAt st g) st₁)
