@@ -140,7 +140,14 @@ fn no_operand() -> OperandGroup {
 }
 
 // What the operand at an instruction and slot says. An accepted job has an operand for each of its group uses.
-fn find_group(job: &[u8], lay: Layout, work: &[u8], wl: WorkLayout, p: Inst, slot: u32) -> OperandGroup
+fn find_group(
+    job: &[u8],
+    lay: Layout,
+    work: &[u8],
+    wl: WorkLayout,
+    p: Inst,
+    slot: u32,
+) -> OperandGroup
     requires { ⌜ Ready (wordCount (now job)) (wordCount (now work)) (wordsOf (now job)) (wordsOf (now work)) lay wl ⌝ }
     ensures { λ r. ⌜ (HasOperand (jobOf (wordsOf (now (job .entry))) lay) p slot → Said (wordsOf (now (job .entry))) (wordsOf (now (work .entry))) lay wl p slot r) ⌝ }
 {
@@ -184,7 +191,16 @@ fn hold_group(held: Held, n: Joined, i: u32, g: OperandGroup) -> Admission
 }
 
 // A group use with index i, whose operand says g; k is the common subclass of the class held and its own.
-fn admit_into(job: &[u8], lay: Layout, out: &[u8], ol: OutLayout, held: Held, k: RegClass, i: u32, g: OperandGroup) -> Admission
+fn admit_into(
+    job: &[u8],
+    lay: Layout,
+    out: &[u8],
+    ol: OutLayout,
+    held: Held,
+    k: RegClass,
+    i: u32,
+    g: OperandGroup,
+) -> Admission
     requires { ⌜ Fits (wordCount (now job)) lay × (tablesEnd ol ≤ wordCount (now out)) ⌝ }
     ensures { λ r. ⌜ ((st : State) → Holds ol (wordsOf (now (out .entry))) st → admissionOf r ≡ intoGroup (jobOf (wordsOf (now (job .entry))) lay) st (heldOf held) k i (groupOf (g .mapped)) (g .sets)) ⌝ }
 {
@@ -199,7 +215,19 @@ fn admit_into(job: &[u8], lay: Layout, out: &[u8], ol: OutLayout, held: Held, k:
 }
 
 // A group use needs its operand's group, index and value sets to fit besides.
-fn admit_group(job: &[u8], lay: Layout, out: &[u8], ol: OutLayout, work: &[u8], wl: WorkLayout, held: Held, p: Inst, slot: u32, c: RegClass, i: u32) -> Admission
+fn admit_group(
+    job: &[u8],
+    lay: Layout,
+    out: &[u8],
+    ol: OutLayout,
+    work: &[u8],
+    wl: WorkLayout,
+    held: Held,
+    p: Inst,
+    slot: u32,
+    c: RegClass,
+    i: u32,
+) -> Admission
     requires { ⌜ Ready (wordCount (now job)) (wordCount (now work)) (wordsOf (now job)) (wordsOf (now work)) lay wl × (tablesEnd ol ≤ wordCount (now out)) ⌝ }
     ensures { λ r. ⌜ ((st : State) → Stands ol (wordsOf (now (out .entry))) (wordsOf (now (job .entry))) (wordsOf (now (work .entry))) lay wl st → HasOperand (jobOf (wordsOf (now (job .entry))) lay) p slot → admissionOf r ≡ admitGroup (jobOf (wordsOf (now (job .entry))) lay) st (heldOf held) p slot c i) ⌝ }
 {
@@ -216,7 +244,16 @@ fn admit_group(job: &[u8], lay: Layout, out: &[u8], ol: OutLayout, work: &[u8], 
 }
 
 // Whether a use is admitted, and what is then held. Kinds other than class uses are always admitted.
-pub fn admit(job: &[u8], lay: Layout, out: &[u8], ol: OutLayout, work: &[u8], wl: WorkLayout, held: Held, u: Use) -> Admission
+pub fn admit(
+    job: &[u8],
+    lay: Layout,
+    out: &[u8],
+    ol: OutLayout,
+    work: &[u8],
+    wl: WorkLayout,
+    held: Held,
+    u: Use,
+) -> Admission
     requires { ⌜ Ready (wordCount (now job)) (wordCount (now work)) (wordsOf (now job)) (wordsOf (now work)) lay wl × (tablesEnd ol ≤ wordCount (now out)) ⌝ }
     ensures { λ r. ⌜ ((st : State) → Stands ol (wordsOf (now (out .entry))) (wordsOf (now (job .entry))) (wordsOf (now (work .entry))) lay wl st → Backed (jobOf (wordsOf (now (job .entry))) lay) u → admissionOf r ≡ admission.admit (jobOf (wordsOf (now (job .entry))) lay) st (heldOf held) u) ⌝ }
 {
@@ -225,7 +262,11 @@ pub fn admit(job: &[u8], lay: Layout, out: &[u8], ol: OutLayout, work: &[u8], wl
     match kind {
         UseKind::ClassUse { slot: _, class } => admit_class(job, lay, held, class),
         UseKind::ClassDef { slot: _, class } => admit_class(job, lay, held, class),
-        UseKind::GroupClassUse { slot, class, group_index } => admit_group(
+        UseKind::GroupClassUse {
+            slot,
+            class,
+            group_index,
+        } => admit_group(
             job,
             lay,
             out,
@@ -238,7 +279,11 @@ pub fn admit(job: &[u8], lay: Layout, out: &[u8], ol: OutLayout, work: &[u8], wl
             class,
             group_index as u32,
         ),
-        UseKind::GroupClassDef { slot, class, group_index } => admit_group(
+        UseKind::GroupClassDef {
+            slot,
+            class,
+            group_index,
+        } => admit_group(
             job,
             lay,
             out,

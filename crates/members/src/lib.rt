@@ -44,7 +44,14 @@ pub fn place_word(out: &[u8], ol: OutLayout, g: VirtRegGroup, i: usize) -> u32
 }
 
 // The common subclass of class k and register v's.
-pub fn shared_class(job: &[u8], lay: Layout, out: &[u8], ol: OutLayout, k: RegClass, v: VirtReg) -> Found
+pub fn shared_class(
+    job: &[u8],
+    lay: Layout,
+    out: &[u8],
+    ol: OutLayout,
+    k: RegClass,
+    v: VirtReg,
+) -> Found
     requires { ⌜ Fits (wordCount (now job)) lay × (tablesEnd ol ≤ wordCount (now out)) ⌝ }
     ensures { λ r. ⌜ ((st : State) → Holds ol (wordsOf (now (out .entry))) st → v .0 < length (st .registers) → r ≡ foundOf (commonSubclass (jobOf (wordsOf (now (job .entry))) lay) k (registerAt st v .class))) ⌝ }
 {
@@ -70,7 +77,14 @@ fn narrow(job: &[u8], lay: Layout, out: &[u8], ol: OutLayout, k: RegClass, w: u3
 }
 
 // Class k narrowed by the class of each member of group g in turn.
-pub fn narrowed_by(job: &[u8], lay: Layout, out: &[u8], ol: OutLayout, g: VirtRegGroup, k: RegClass) -> Found
+pub fn narrowed_by(
+    job: &[u8],
+    lay: Layout,
+    out: &[u8],
+    ol: OutLayout,
+    g: VirtRegGroup,
+    k: RegClass,
+) -> Found
     requires { ⌜ Fits (wordCount (now job)) lay × (tablesEnd ol ≤ wordCount (now out)) ⌝ }
     ensures { λ r. ⌜ ((st : State) → Holds ol (wordsOf (now (out .entry))) st → r ≡ foundOf (narrowed (jobOf (wordsOf (now (job .entry))) lay) st (membersAt st g) k)) ⌝ }
 {
@@ -106,7 +120,17 @@ fn join_with(f: Found, target: u32) -> Joined
 
 // A use at index i of group g, where class and target were held and k is the candidate: the register at that place is merged into,
 // with the common subclass of the class held before the use and its own; at an empty place the candidate is narrowed by every member.
-pub fn at_place(job: &[u8], lay: Layout, out: &[u8], ol: OutLayout, class: RegClass, target: u32, k: RegClass, g: VirtRegGroup, i: u32) -> Joined
+pub fn at_place(
+    job: &[u8],
+    lay: Layout,
+    out: &[u8],
+    ol: OutLayout,
+    class: RegClass,
+    target: u32,
+    k: RegClass,
+    g: VirtRegGroup,
+    i: u32,
+) -> Joined
     requires { ⌜ Fits (wordCount (now job)) lay × (tablesEnd ol ≤ wordCount (now out)) ⌝ }
     ensures { λ r. ⌜ ((st : State) (h : types.Held) → Holds ol (wordsOf (now (out .entry))) st → h .class ≡ class → h .target ≡ regOf target → joinedOf r ≡ atPlace (jobOf (wordsOf (now (job .entry))) lay) st h k (membersAt st g) (getD (membersAt st g) i none)) ⌝ }
 {
@@ -114,14 +138,21 @@ pub fn at_place(job: &[u8], lay: Layout, out: &[u8], ol: OutLayout, class: RegCl
     if w == 0 {
         return join_with(narrowed_by(job, lay, out, ol, g, k), target);
     }
-    join_with(
-        shared_class(job, lay, out, ol, class, VirtReg(w - 1)),
-        w,
-    )
+    join_with(shared_class(job, lay, out, ol, class, VirtReg(w - 1)), w)
 }
 
 // The same with the group's number + 1 as m; where m is 0 the operand is not mapped and the candidate stays.
-pub fn in_group(job: &[u8], lay: Layout, out: &[u8], ol: OutLayout, class: RegClass, target: u32, k: RegClass, m: u32, i: u32) -> Joined
+pub fn in_group(
+    job: &[u8],
+    lay: Layout,
+    out: &[u8],
+    ol: OutLayout,
+    class: RegClass,
+    target: u32,
+    k: RegClass,
+    m: u32,
+    i: u32,
+) -> Joined
     requires { ⌜ Fits (wordCount (now job)) lay × (tablesEnd ol ≤ wordCount (now out)) ⌝ }
     ensures { λ r. ⌜ ((st : State) (h : types.Held) → Holds ol (wordsOf (now (out .entry))) st → h .class ≡ class → h .target ≡ regOf target → joinedOf r ≡ inGroup (jobOf (wordsOf (now (job .entry))) lay) st h k i (groupOf m)) ⌝ }
 {

@@ -80,9 +80,6 @@ module _ (f : ℕ → Use) (a b n : ℕ) (l : a ≤ n) (m : n < b) where
 
 -- start and end
 module _ (job : Job) (f : ℕ → Use) (a b s e : ℕ) (ls : a ≤ s) (ms : s < b) (le : a ≤ e) (me : e < b) (x y : Use) (ex : x ≡ f s) (ey : y ≡ f e) where
-  us : List Use
-  us = tab f a (b - a)
-
   pub parted-is : (o : Move) → o ≡ cond (eqb (x .pos .0) (y .pos .0)) (turning (tab f a (b - a)) (cond (isDef (y .kind)) (s - a) (e - a))) (cut (inst (earlyCut (job .blocks) (x .pos .0) (y .pos .0))))
       → o ≡ parted job (tab f a (b - a)) (s - a) (e - a)
   unfolding parted
@@ -100,21 +97,27 @@ module _ (job : Job) (f : ℕ → Use) (a b s e : ℕ) (ls : a ≤ s) (ms : s < 
   pub part-end : (o : Move) (d : Bool) → x .pos .0 ≡ y .pos .0 → d ≡ isDef (y .kind) → d ≡ false → o ≡ turning (tab f a (b - a)) (e - a) → o ≡ parted job (tab f a (b - a)) (s - a) (e - a)
   part-end o d p ed t q = parted-is o (q ∙ rw (eq-eqb _ _ p, ← ed, t))
 
-  pub part-cut : (h : types.Held) (r : Inst) → (x .pos .0 ≡ y .pos .0 → ⊥) → r .0 ≡ earlyCut (job .blocks) (x .pos .0) (y .pos .0)
+  pub part-cut : (h : types.Held) (r : Inst) (bs : List BlockData) → (x .pos .0 ≡ y .pos .0 → ⊥) → job .blocks ≡ bs → r .0 ≡ earlyCut bs (x .pos .0) (y .pos .0)
       → kindMove a h (Cut r) ≡ parted job (tab f a (b - a)) (s - a) (e - a)
   unfolding kindMove
-  part-cut h r ne er = parted-is (cut r) (ap (λ (n : ℕ). cut (inst n)) er ∙ rw (ne-eqb _ _ ne))
+  part-cut h r bs ne eb er =
+      parted-is (cut r)
+      (ap (λ (n : ℕ). cut (inst n)) er ∙ ap (λ (l : List BlockData). cut (inst (earlyCut l (x .pos .0) (y .pos .0)))) (sym eb) ∙ rw (ne-eqb _ _ ne))
 
 -- ---- the whole
 
 -- the uses from e back to a
-pub backs : (f : ℕ → Use) (a b e : ℕ) → a ≤ e → e < b → down (λ j. f (a + j)) (e + 1 - a) ≡ reverse (take (suc (e - a)) (tab f a (b - a)))
+backs : (f : ℕ → Use) (a b e : ℕ) → a ≤ e → e < b → down (λ j. f (a + j)) (e + 1 - a) ≡ reverse (take (suc (e - a)) (tab f a (b - a)))
 backs f a b e l m =
     let z : suc (e - a) ≡ e + 1 - a = omega arith in
     down-reverse (λ j. f (a + j)) (e + 1 - a)
     ∙ ap reverse (sym (tab-ext f (λ j. f (a + j)) a 0 (e + 1 - a) (λ n k. let q : a + n ≡ a + (0 + n) = omega arith in ap f q)))
     ∙ ap reverse (sym (take-tab f a (e + 1) b (omega arith) (omega arith)))
     ∙ ap (λ (k : ℕ). reverse (take k (tab f a (b - a)))) (sym z)
+
+pub back-is : (job : Job) (st : State) (f : ℕ → Use) (a b e : ℕ) (h : types.Held) (r : ScanAnswer) → a ≤ e → e < b
+    → backOf e r ≡ scan job st (down (λ j. f (a + j)) (e + 1 - a)) h → backOf e r ≡ scan job st (reverse (take (suc (e - a)) (tab f a (b - a)))) h
+back-is job st f a b e h r l m q = q ∙ ap (λ (us : List Use). scan job st us h) (backs f a b e l m)
 
 module _ (job : Job) (st : State) (top : RegClass) (us : List Use) (h : types.Held) (fr : h ≡ fresh top) (a : ℕ) (r : ScanAnswer) (er : scanOf a r ≡ scan job st us h) where
   forth : move job st top us ≡ fromEnd job st top us (scanOf a r)

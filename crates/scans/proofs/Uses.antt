@@ -68,3 +68,9 @@ pub admit-marked : (K : List ℕ) (marks : ℕ) (W : List ℕ) (lay : Layout) (n
     → u ≡ markedUse K marks W lay n → Backed job (useRow W (lay .uses .at + n * 6)) → (Backed job u → o ≡ admit job st h u) → o ≡ admit job st h (markedUse K marks W lay n)
 admit-marked K marks W lay n job st h o u e b f =
     f (subst (λ (x : Use). Backed job x) (sym e) (backed-marked K marks W lay n job b)) ∙ ap (λ (x : Use). admit job st h x) e
+
+-- its instruction
+pub pos-within : (K : List ℕ) (marks : ℕ) (W : List ℕ) (lay : Layout) (n m : ℕ) (u : Use) → u ≡ markedUse K marks W lay n → useRow W (lay .uses .at + n * 6) .pos .0 < m → u .pos .0 < m
+pos-within K marks W lay n m u e h =
+    let p : u .pos .0 ≡ useRow W (lay .uses .at + n * 6) .pos .0 = ap (λ (x : Use). x .pos .0) e ∙ ap (λ (x : Inst). x .0) (marked-pos K marks W lay n) in
+    omega arith

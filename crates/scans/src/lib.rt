@@ -84,7 +84,16 @@ pub fn fresh_held(top: RegClass) -> Held
 }
 
 // Whether use n is admitted.
-fn admit_at(job: &[u8], lay: Layout, out: &[u8], ol: OutLayout, work: &[u8], wl: WorkLayout, held: Held, n: usize) -> Admission
+fn admit_at(
+    job: &[u8],
+    lay: Layout,
+    out: &[u8],
+    ol: OutLayout,
+    work: &[u8],
+    wl: WorkLayout,
+    held: Held,
+    n: usize,
+) -> Admission
     requires { ⌜ Ready (wordCount (now job)) (wordCount (now work)) (wordsOf (now job)) (wordsOf (now work)) lay wl × (tablesEnd ol ≤ wordCount (now out)) × (n < lay .uses .n) ⌝ }
     ensures { λ r. ⌜ ((st : State) → Stands ol (wordsOf (now (out .entry))) (wordsOf (now (job .entry))) (wordsOf (now (work .entry))) lay wl st → admissionOf r ≡ admit (jobOf (wordsOf (now (job .entry))) lay) st (heldOf held) (markedUse (wordsOf (now (work .entry))) (wl .marks) (wordsOf (now (job .entry))) lay n)) ⌝ }
 {
@@ -93,7 +102,17 @@ fn admit_at(job: &[u8], lay: Layout, out: &[u8], ol: OutLayout, work: &[u8], wl:
 }
 
 // The scan over the uses with numbers a to b - 1.
-pub fn scan_uses(job: &[u8], lay: Layout, out: &[u8], ol: OutLayout, work: &[u8], wl: WorkLayout, first: Held, a: usize, b: usize) -> ScanAnswer
+pub fn scan_uses(
+    job: &[u8],
+    lay: Layout,
+    out: &[u8],
+    ol: OutLayout,
+    work: &[u8],
+    wl: WorkLayout,
+    first: Held,
+    a: usize,
+    b: usize,
+) -> ScanAnswer
     requires { ⌜ Ready (wordCount (now job)) (wordCount (now work)) (wordsOf (now job)) (wordsOf (now work)) lay wl × (tablesEnd ol ≤ wordCount (now out)) × (a ≤ b) × (b ≤ lay .uses .n) ⌝ }
     ensures { λ r. ⌜ (a ≤ r .at) × (r .ok ≡ false → r .at < b) ⌝ }
     ensures { λ r. ⌜ ((st : State) → Stands ol (wordsOf (now (out .entry))) (wordsOf (now (job .entry))) (wordsOf (now (work .entry))) lay wl st → scanOf a r ≡ scan (jobOf (wordsOf (now (job .entry))) lay) st (tab (markedUse (wordsOf (now (work .entry))) (wl .marks) (wordsOf (now (job .entry))) lay) a (b - a)) (heldOf first)) ⌝ }
@@ -120,7 +139,17 @@ pub fn scan_uses(job: &[u8], lay: Layout, out: &[u8], ol: OutLayout, work: &[u8]
 }
 
 // The scan over the uses from number e back to number a.
-pub fn scan_back(job: &[u8], lay: Layout, out: &[u8], ol: OutLayout, work: &[u8], wl: WorkLayout, first: Held, a: usize, e: usize) -> ScanAnswer
+pub fn scan_back(
+    job: &[u8],
+    lay: Layout,
+    out: &[u8],
+    ol: OutLayout,
+    work: &[u8],
+    wl: WorkLayout,
+    first: Held,
+    a: usize,
+    e: usize,
+) -> ScanAnswer
     requires { ⌜ Ready (wordCount (now job)) (wordCount (now work)) (wordsOf (now job)) (wordsOf (now work)) lay wl × (tablesEnd ol ≤ wordCount (now out)) × (a ≤ e) × (e < lay .uses .n) ⌝ }
     ensures { λ r. ⌜ (a ≤ r .at) × (r .ok ≡ false → r .at ≤ e) ⌝ }
     ensures { λ r. ⌜ ((st : State) → Stands ol (wordsOf (now (out .entry))) (wordsOf (now (job .entry))) (wordsOf (now (work .entry))) lay wl st → backOf e r ≡ scan (jobOf (wordsOf (now (job .entry))) lay) st (down (λ j. markedUse (wordsOf (now (work .entry))) (wl .marks) (wordsOf (now (job .entry))) lay (a + j)) (e + 1 - a)) (heldOf first)) ⌝ }
@@ -193,7 +222,17 @@ fn part_at(job: &[u8], lay: Layout, work: &[u8], wl: WorkLayout, s: usize, e: us
 }
 
 // The step that the scans over the uses with numbers a to b - 1 lead to, from the top class.
-pub fn next_move(job: &[u8], lay: Layout, out: &[u8], ol: OutLayout, work: &[u8], wl: WorkLayout, top: RegClass, a: usize, b: usize) -> MoveAnswer
+pub fn next_move(
+    job: &[u8],
+    lay: Layout,
+    out: &[u8],
+    ol: OutLayout,
+    work: &[u8],
+    wl: WorkLayout,
+    top: RegClass,
+    a: usize,
+    b: usize,
+) -> MoveAnswer
     requires { ⌜ Ready (wordCount (now job)) (wordCount (now work)) (wordsOf (now job)) (wordsOf (now work)) lay wl × (tablesEnd ol ≤ wordCount (now out)) × (a ≤ b) × (b ≤ lay .uses .n) ⌝ }
     ensures { λ r. ⌜ ((st : State) → Stands ol (wordsOf (now (out .entry))) (wordsOf (now (job .entry))) (wordsOf (now (work .entry))) lay wl st → moveOf a r ≡ move (jobOf (wordsOf (now (job .entry))) lay) st top (tab (markedUse (wordsOf (now (work .entry))) (wl .marks) (wordsOf (now (job .entry))) lay) a (b - a))) ⌝ }
 {

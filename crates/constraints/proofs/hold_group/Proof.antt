@@ -1,4 +1,3 @@
-
 use Rattle.constraints.proofs.Admitted.{hold-yes, hold-no}
 use borrow.Author.Needs.{needs}
 use Rattle.constraints.proofs.hold_group.Statement.{statement}

@@ -1,4 +1,3 @@
-
 use Rattle.members.proofs.Joining.{joined-yes, joined-no}
 use borrow.Author.Needs.{needs}
 use Rattle.members.proofs.join_with.Statement.{statement}
