@@ -30,9 +30,8 @@ part-at-requires : tie.Need-part-at-requires
 part-at-requires c κs =
     let f = c .before .before .before .before in
     let r = f .scan-uses .ensures .0 .1 (c .before .before .if1 .left) in
-    let b = c .before .scan-back .ensures .0 in
-    let s = f .before .before .before .before .before in
-    (s .pre .0, omega (arith, r, b .1 (c .if2 .left)), omega (arith, r))
+    let b = c .before .scan-back .ensures .0 .1 (c .if2 .left) in
+    (f .before .before .before .before .before .pre .0, omega (arith, r, b), omega (arith, r, b))
 
 returns-3 : tie.Need-returns-3
 returns-3 c st hs =

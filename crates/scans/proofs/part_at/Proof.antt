@@ -32,10 +32,12 @@ returns-2 c h a b ls ms le me =
 
 cut-at-requires : tie.Need-cut-at-requires
 cut-at-requires c κs =
-    let x = c .before .before .before .before .before .before in
-    let s = x .before .before .before in
+    let y = c .before .before .before .before .before in
+    let s = y .before .before .before .before in
     let r = s .pre .0 in
-    (r .some-block, r .few-blocks, r .room, omega (arith, r .few-insts, pos-within _ _ _ (s .args .lay) _ _ _ (x .marked-use .ensures) (r .within _ (s .pre .1))))
+    let px = pos-within _ _ _ (s .args .lay) _ _ _ (y .before .marked-use .ensures) (r .within _ (s .pre .1)) in
+    let py = pos-within _ _ _ (s .args .lay) _ _ _ (y .marked-use2 .ensures) (r .within _ (s .pre .2)) in
+    (r .some-block, r .few-blocks, r .room, omega (arith, r .few-insts, px, py))
 
 returns-3 : tie.Need-returns-3
 returns-3 c h a b ls ms le me =
