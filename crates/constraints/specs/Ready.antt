@@ -77,10 +77,10 @@ pub record Ready (t w : ℕ) (W K : List ℕ) (lay : Layout) (wl : WorkLayout) :
   pub few-insts : instsOf (blocksAt W (lay .blocks .at) (lay .blocks .n)) ≤ 4096
   pub room : wl .starts + lay .blocks .n * 2 + 2 ≤ w
   pub starts : Starts K (wl .starts) (blocksAt W (lay .blocks .at) (lay .blocks .n))
-  -- the uses and their marks
+  -- the marks of the uses; every use is one of a segment's, if there are segments
   pub marks : wl .marks + lay .uses .n ≤ w
-  pub within : (n : ℕ) → n < lay .uses .n → useRow W (lay .uses .at + n * 6) .pos .0 < instsOf (blocksAt W (lay .blocks .at) (lay .blocks .n))
-  pub backed : (n : ℕ) → n < lay .uses .n → Backed (jobOf W lay) (useRow W (lay .uses .at + n * 6))
+  pub within : 0 < lay .segments .n → (n : ℕ) → n < lay .uses .n → useRow W (lay .uses .at + n * 6) .pos .0 < instsOf (blocksAt W (lay .blocks .at) (lay .blocks .n))
+  pub backed : 0 < lay .segments .n → (n : ℕ) → n < lay .uses .n → Backed (jobOf W lay) (useRow W (lay .uses .at + n * 6))
 
 -- The words O of the result tables and K of the work slice stand for st.
 pub record Stands (ol : OutLayout) (O W K : List ℕ) (lay : Layout) (wl : WorkLayout) (st : State) : Type 0 where

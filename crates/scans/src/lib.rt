@@ -94,7 +94,7 @@ fn admit_at(
     held: Held,
     n: usize,
 ) -> Admission
-    requires { ⌜ Ready (wordCount (now job)) (wordCount (now work)) (wordsOf (now job)) (wordsOf (now work)) lay wl × (tablesEnd ol ≤ wordCount (now out)) × (n < lay .uses .n) ⌝ }
+    requires { ⌜ Ready (wordCount (now job)) (wordCount (now work)) (wordsOf (now job)) (wordsOf (now work)) lay wl × (tablesEnd ol ≤ wordCount (now out)) × (n < lay .uses .n) × (0 < lay .segments .n) ⌝ }
     ensures { λ r. ⌜ ((st : State) → Stands ol (wordsOf (now (out .entry))) (wordsOf (now (job .entry))) (wordsOf (now (work .entry))) lay wl st → admissionOf r ≡ admit (jobOf (wordsOf (now (job .entry))) lay) st (heldOf held) (markedUse (wordsOf (now (work .entry))) (wl .marks) (wordsOf (now (job .entry))) lay n)) ⌝ }
 {
     let u = marked_use(job, lay, work, wl, n);
@@ -113,7 +113,7 @@ pub fn scan_uses(
     a: usize,
     b: usize,
 ) -> ScanAnswer
-    requires { ⌜ Ready (wordCount (now job)) (wordCount (now work)) (wordsOf (now job)) (wordsOf (now work)) lay wl × (tablesEnd ol ≤ wordCount (now out)) × (a ≤ b) × (b ≤ lay .uses .n) ⌝ }
+    requires { ⌜ Ready (wordCount (now job)) (wordCount (now work)) (wordsOf (now job)) (wordsOf (now work)) lay wl × (tablesEnd ol ≤ wordCount (now out)) × (a ≤ b) × (b ≤ lay .uses .n) × (0 < lay .segments .n) ⌝ }
     ensures { λ r. ⌜ (a ≤ r .at) × (r .ok ≡ false → r .at < b) ⌝ }
     ensures { λ r. ⌜ ((st : State) → Stands ol (wordsOf (now (out .entry))) (wordsOf (now (job .entry))) (wordsOf (now (work .entry))) lay wl st → scanOf a r ≡ scan (jobOf (wordsOf (now (job .entry))) lay) st (tab (markedUse (wordsOf (now (work .entry))) (wl .marks) (wordsOf (now (job .entry))) lay) a (b - a)) (heldOf first)) ⌝ }
 {
@@ -150,7 +150,7 @@ pub fn scan_back(
     a: usize,
     e: usize,
 ) -> ScanAnswer
-    requires { ⌜ Ready (wordCount (now job)) (wordCount (now work)) (wordsOf (now job)) (wordsOf (now work)) lay wl × (tablesEnd ol ≤ wordCount (now out)) × (a ≤ e) × (e < lay .uses .n) ⌝ }
+    requires { ⌜ Ready (wordCount (now job)) (wordCount (now work)) (wordsOf (now job)) (wordsOf (now work)) lay wl × (tablesEnd ol ≤ wordCount (now out)) × (a ≤ e) × (e < lay .uses .n) × (0 < lay .segments .n) ⌝ }
     ensures { λ r. ⌜ (a ≤ r .at) × (r .ok ≡ false → r .at ≤ e) ⌝ }
     ensures { λ r. ⌜ ((st : State) → Stands ol (wordsOf (now (out .entry))) (wordsOf (now (job .entry))) (wordsOf (now (work .entry))) lay wl st → backOf e r ≡ scan (jobOf (wordsOf (now (job .entry))) lay) st (down (λ j. markedUse (wordsOf (now (work .entry))) (wl .marks) (wordsOf (now (job .entry))) lay (a + j)) (e + 1 - a)) (heldOf first)) ⌝ }
 {
@@ -204,7 +204,7 @@ fn cut_at(lay: Layout, work: &[u8], wl: WorkLayout, x: Inst, y: Inst) -> Inst
 
 // What start s and end e lead to. If they share an instruction the end is turned, or the start where the end is a definition; else a cut is made between them.
 fn part_at(job: &[u8], lay: Layout, work: &[u8], wl: WorkLayout, s: usize, e: usize) -> MoveKind
-    requires { ⌜ Ready (wordCount (now job)) (wordCount (now work)) (wordsOf (now job)) (wordsOf (now work)) lay wl × (s < lay .uses .n) × (e < lay .uses .n) ⌝ }
+    requires { ⌜ Ready (wordCount (now job)) (wordCount (now work)) (wordsOf (now job)) (wordsOf (now work)) lay wl × (s < lay .uses .n) × (e < lay .uses .n) × (0 < lay .segments .n) ⌝ }
     ensures { λ r. ⌜ ((h : types.Held) (a b : ℕ) → a ≤ s → s < b → a ≤ e → e < b → kindMove a h r ≡ parted (jobOf (wordsOf (now (job .entry))) lay) (tab (markedUse (wordsOf (now (work .entry))) (wl .marks) (wordsOf (now (job .entry))) lay) a (b - a)) (s - a) (e - a)) ⌝ }
 {
     let x = marked_use(job, lay, work, wl, s);
@@ -233,7 +233,7 @@ pub fn next_move(
     a: usize,
     b: usize,
 ) -> MoveAnswer
-    requires { ⌜ Ready (wordCount (now job)) (wordCount (now work)) (wordsOf (now job)) (wordsOf (now work)) lay wl × (tablesEnd ol ≤ wordCount (now out)) × (a ≤ b) × (b ≤ lay .uses .n) ⌝ }
+    requires { ⌜ Ready (wordCount (now job)) (wordCount (now work)) (wordsOf (now job)) (wordsOf (now work)) lay wl × (tablesEnd ol ≤ wordCount (now out)) × (a ≤ b) × (b ≤ lay .uses .n) × (0 < lay .segments .n) ⌝ }
     ensures { λ r. ⌜ ((st : State) → Stands ol (wordsOf (now (out .entry))) (wordsOf (now (job .entry))) (wordsOf (now (work .entry))) lay wl st → moveOf a r ≡ move (jobOf (wordsOf (now (job .entry))) lay) st top (tab (markedUse (wordsOf (now (work .entry))) (wl .marks) (wordsOf (now (job .entry))) lay) a (b - a))) ⌝ }
 {
     let first = fresh_held(top);

@@ -12,7 +12,7 @@ admit-requires c κs = search needs
 returns : tie.Need-returns
 returns c st hs =
     let s = c .before .before .before .before .before in
-    admit-marked _ _ _ (s .args .lay) _ _ _ _ _ _ (c .before .marked-use .ensures) (s .pre .0 .backed _ (s .pre .2)) (c .admit .ensures st hs)
+    admit-marked _ _ _ (s .args .lay) _ _ _ _ _ _ (c .before .marked-use .ensures) (s .pre .0 .backed (s .pre .3) _ (s .pre .2)) (c .admit .ensures st hs)
 
 pub admit-at-spec : {M : Type 1} → statement M
 admit-at-spec = tie.close (tie.spec marked-use-requires admit-requires returns)

@@ -17,7 +17,7 @@ scan-back-requires : tie.Need-scan-back-requires
 scan-back-requires c κs =
     let r = c .before .before .scan-uses .ensures .0 in
     let s = c .before .before .before .before .before .before .before in
-    (s .pre .0, s .pre .1, r .0, omega (arith, r .1 (c .if1 .left)))
+    (s .pre .0, s .pre .1, r .0, omega (arith, r .1 (c .if1 .left)), s .pre .4)
 
 returns-2 : tie.Need-returns-2
 returns-2 c st hs =
@@ -31,7 +31,8 @@ part-at-requires c κs =
     let f = c .before .before .before .before in
     let r = f .scan-uses .ensures .0 .1 (c .before .before .if1 .left) in
     let b = c .before .scan-back .ensures .0 .1 (c .if2 .left) in
-    (f .before .before .before .before .before .pre .0, omega (arith, r, b), omega (arith, r, b))
+    let s = f .before .before .before .before .before in
+    (s .pre .0, omega (arith, r, b), omega (arith, r, b), s .pre .4)
 
 returns-3 : tie.Need-returns-3
 returns-3 c st hs =

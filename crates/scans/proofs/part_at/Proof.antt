@@ -35,8 +35,8 @@ cut-at-requires c κs =
     let y = c .before .before .before .before .before in
     let s = y .before .before .before .before in
     let r = s .pre .0 in
-    let px = pos-within _ _ _ (s .args .lay) _ _ _ (y .before .marked-use .ensures) (r .within _ (s .pre .1)) in
-    let py = pos-within _ _ _ (s .args .lay) _ _ _ (y .marked-use2 .ensures) (r .within _ (s .pre .2)) in
+    let px = pos-within _ _ _ (s .args .lay) _ _ _ (y .before .marked-use .ensures) (r .within (s .pre .3) _ (s .pre .1)) in
+    let py = pos-within _ _ _ (s .args .lay) _ _ _ (y .marked-use2 .ensures) (r .within (s .pre .3) _ (s .pre .2)) in
     (r .some-block, r .few-blocks, r .room, omega (arith, r .few-insts, px, py))
 
 returns-3 : tie.Need-returns-3
@@ -45,7 +45,7 @@ returns-3 c h a b ls ms le me =
     let s = y .before .before .before .before in
     let r = s .pre .0 in
     part-cut _ _ a b _ _ ls ms le me _ _ (y .before .marked-use .ensures) (y .marked-use2 .ensures) h _ _ (c .before .if1 .left) (job-blocks _ _)
-    (c .cut-at .ensures _ (r .starts) (blocks-long _ _ _) (pos-within _ _ _ (s .args .lay) _ _ _ (y .marked-use2 .ensures) (r .within _ (s .pre .2))))
+    (c .cut-at .ensures _ (r .starts) (blocks-long _ _ _) (pos-within _ _ _ (s .args .lay) _ _ _ (y .marked-use2 .ensures) (r .within (s .pre .3) _ (s .pre .2))))
 
 pub part-at-spec : {M : Type 1} → statement M
 part-at-spec =
