@@ -1,2 +1,3 @@
 pub mod Operand
 pub mod Admitted
+pub mod Kept
