@@ -1,11 +1,11 @@
 -- An accepted job is ready. Assumes nothing.
 use mathlib.Core.Path.{_≡_, refl, sym, ap, subst, _∙_}
-use mathlib.Core.Bool.{Bool, true, false, _&&_, _||_}
+use mathlib.Core.Bool.{Bool, true, false, _||_}
 use mathlib.Core.List.{List, [], _∷_}
 use Prim.Native.Nat.{ℕ, zero, suc, _+_, _-_, _*_, _≤_, _<_}
 use native.Mathlib.Nat.{zero-add}
 use native.Mathlib.Omega.{arith}
-use lib.Dec.{eqb, ltb, leb}
+use lib.Dec.{eqb, ltb}
 use lib.ListN.{length, getD}
 use borrow.Author.Tests.{ltb-true, ltb-false, leb-true, lt-ltb, le-ltb}
 use Rattle.rows.specs.Tab.{tab, length-tab, getD-tab}
@@ -20,7 +20,7 @@ use Rattle.definition.specs.declared.UseKind.the-variants.{FixedDef, FixedUse, 
 use Rattle.definition.specs.Types.{Segment, Job, val, point}
 use Rattle.definition.specs.Admit.{noUse}
 use Rattle.definition.specs.Entry.{conj, every, some-is, apart, samePlace, instsOf, insts, limitTests, limitsOk, vgroupTests, vgroupOk, operandTests, operandOk, functionTests, functionOk, groupUseTests, groupUseOk, kindOk, useTests, useOk, usesOk}
-use Rattle.coalescing.specs.Rows.{vgroupRow, vgroupsAt}
+use Rattle.coalescing.specs.Rows.{vgroupRow}
 use Rattle.coalescing.proofs.Members.{groups-long, group-row-at}
 use Rattle.function.specs.Blocks.{blockRow, blocksAt, Starts}
 use Rattle.operands.specs.Rows.{noOperand, opAt, isAt}
@@ -35,13 +35,9 @@ use Rattle.layout.specs.Layout.{Fits, segRow, segAt, nextUse, usesIn, segmentOf
 use Rattle.job.specs.Job.{jobBy, jobOf}
 use Rattle.constraints.specs.declared.WorkLayout.{WorkLayout}
 use Rattle.constraints.specs.Ready.{chainsIn, operandsIn, HasOperand, BackedKind, Backed, Ready}
-use Rattle.constraints.proofs.Operand.{job-vgroups, job-operands}
+use Rattle.constraints.proofs.Operand.{both, job-blocks, job-vgroups, job-operands}
 
 -- ---- tests over lists
-
-both : (p q : Bool) → p && q ≡ true → (p ≡ true) × (q ≡ true)
-both true q e = (refl, e)
-both false q e = never (sym e)
 
 every-at : {A : Type 0} (f : A → Bool) (l : List A) (i : ℕ) (d : A) → every f l ≡ true → i < length l → f (getD l i d) ≡ true
 unfolding every
@@ -191,9 +187,6 @@ module _ (W : List ℕ) (lay : Layout) (ok : every (usesOk (jobOf W lay)) (jobOf
   pub use-ok : (n : ℕ) (s : InSegment W lay n) → useOk (jobOf W lay) (segmentOf useRow W lay (s .number)) (useRow W (lay .uses .at + n * 6)) ≡ true
   unfolding usesOk segmentOf usesIn
   use-ok n s =
-      let i = s .number in
-      let a : ℕ = segAt W lay (s .number) .first in
-      let b : ℕ = nextUse W lay (s .number) in
       let j : n - segAt W lay (s .number) .first < nextUse W lay (s .number) - segAt W lay (s .number) .first = omega (arith, s .after, s .before) in
       let us : every (useOk (jobOf W lay) (segmentOf useRow W lay (s .number))) (rowsAt useRow W (lay .uses .at + segAt W lay (s .number) .first * 6) 6 (nextUse W lay (s .number) - segAt W lay (s .number) .first)) ≡ true =
       both _ _ (segment-ok (s .number) (s .there)) .0 in
@@ -207,17 +200,13 @@ module _ (W : List ℕ) (lay : Layout) (ok : every (usesOk (jobOf W lay)) (jobOf
 
 -- ---- all of it
 
-job-blocks : (W : List ℕ) (lay : Layout) → jobOf W lay .blocks ≡ blocksAt W (lay .blocks .at) (lay .blocks .n)
-unfolding jobOf jobBy
-job-blocks W lay = refl
-
-blocks-long : (W : List ℕ) (lay : Layout) → length (jobOf W lay .blocks) ≡ lay .blocks .n
+pub blocks-long : (W : List ℕ) (lay : Layout) → length (jobOf W lay .blocks) ≡ lay .blocks .n
 blocks-long W lay = ap length (job-blocks W lay) ∙ length-rows-at blockRow W (lay .blocks .at) 2 (lay .blocks .n)
 
-vgroups-long : (W : List ℕ) (lay : Layout) → length (jobOf W lay .vgroups) ≡ lay .vgroups .n
+pub vgroups-long : (W : List ℕ) (lay : Layout) → length (jobOf W lay .vgroups) ≡ lay .vgroups .n
 vgroups-long W lay = ap length (job-vgroups W lay) ∙ groups-long W (lay .vgroups .at) (lay .vgroups .n)
 
-operands-long : (W : List ℕ) (lay : Layout) → length (jobOf W lay .operands) ≡ lay .operands .n
+pub operands-long : (W : List ℕ) (lay : Layout) → length (jobOf W lay .operands) ≡ lay .operands .n
 operands-long W lay = ap length (job-operands W lay) ∙ long W (lay .operands .at) (lay .operands .n)
 
 pub ready-of : {t w : ℕ} {W K : List ℕ} {lay : Layout} {wl : WorkLayout} → Fits t lay → chains.Fits t w (chainsIn lay wl) → Chained K (chainsIn lay wl) (operandsIn W lay)

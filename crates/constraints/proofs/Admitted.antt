@@ -1,21 +1,20 @@
 -- Each way through admission. Assumes nothing.
 use mathlib.Core.Path.{_≡_, refl, sym, ap, ap₂, subst, _∙_}
-use mathlib.Core.Bool.{Bool, true, false, _&&_}
+use mathlib.Core.Bool.{Bool, true, false}
 use mathlib.Core.Option.{Option, none, some, bind}
 use mathlib.Core.List.{List}
-use Prim.Native.Nat.{ℕ, zero, suc, _≤_, _<_}
+use Prim.Native.Nat.{ℕ, zero, suc}
 use native.Mathlib.Omega.{arith}
 use lib.Dec.{eqb}
 use borrow.Author.Tests.{eqb-true, eqb-false, eq-eqb, ne-eqb}
 use Rattle.definition.specs.declared.Inst.{Inst}
 use Rattle.definition.specs.declared.RegClass.{RegClass}
 use Rattle.definition.specs.declared.ValueSet.{ValueSet}
-use Rattle.definition.specs.declared.VirtReg.{VirtReg}
 use Rattle.definition.specs.declared.VirtRegGroup.{VirtRegGroup}
 use Rattle.definition.specs.declared.UseKind.{UseKind}
 use Rattle.definition.specs.declared.UseKind.the-variants.{FixedDef, FixedUse, TiedUse, ConstraintConflict, ClassUse, ClassDef, GroupClassUse, GroupClassDef, BlockparamIn, BlockparamOut}
 use Rattle.definition.specs.declared.Use.{Use}
-use Rattle.definition.specs.Types.{Job, State, HeldGroup}
+use Rattle.definition.specs.Types.{Job, State}
 use Rattle.definition.specs.Types as types
 use Rattle.definition.specs.RegInfo.{commonSubclass}
 use Rattle.definition.specs.Uses.{isClassUse}
@@ -23,20 +22,16 @@ use Rattle.definition.specs.Admit.{mappedAt, setsAt, sameSets, mappingFits, gro
 use Rattle.reginfo.specs.declared.Found.{Found}
 use Rattle.reginfo.specs.declared.Found.the-variants.{Class, Nothing}
 use Rattle.reginfo.specs.Rows.{foundOf}
-use Rattle.layout.specs.declared.Layout.{Layout}
-use Rattle.job.specs.Job.{jobOf}
-use Rattle.virt_regs.specs.declared.OutLayout.{OutLayout}
-use Rattle.virt_regs.specs.Encoding.{groupWord, Holds}
+use Rattle.virt_regs.specs.Encoding.{groupWord}
 use Rattle.members.specs.declared.Joined.{Joined}
 use Rattle.members.specs.Places.{regOf, groupOf, joinedOf}
 use Rattle.members.proofs.Places.{group-of}
 use Rattle.members.proofs.Narrowing.{found-some, found-none, bind-some, bind-none}
-use Rattle.constraints.specs.declared.WorkLayout.{WorkLayout}
 use Rattle.constraints.specs.declared.OperandGroup.{OperandGroup}
 use Rattle.constraints.specs.declared.Held.{Held}
 use Rattle.constraints.specs.declared.Admission.{Admission}
 use Rattle.constraints.specs.Held.{heldOf, admissionOf, holding, intoGroup}
-use Rattle.constraints.specs.Ready.{HasOperand, BackedKind, Backed, Stands, Said}
+use Rattle.constraints.specs.Ready.{HasOperand, BackedKind, Backed}
 
 abbrev pub refused : Held → Admission
 refused h = record { ok = false; held = h }

@@ -3,12 +3,12 @@ use mathlib.Core.Path.{_≡_, refl, sym, ap, ap₂, _∙_}
 use mathlib.Core.Bool.{Bool, true, false, _&&_, cond}
 use mathlib.Core.Option.{Option, none, some}
 use mathlib.Core.List.{List, [], _∷_, _++_}
-use Prim.Native.Nat.{ℕ, zero, suc, _+_, _-_, _*_, _≤_, _<_}
+use Prim.Native.Nat.{ℕ, _+_, _-_, _*_, _≤_, _<_}
 use native.Mathlib.Omega.{arith}
 use lib.Dec.{eqb}
 use lib.ListN.{length, getD, set}
 use lib.Seq.{getD-set-same, getD-set-other}
-use borrow.Author.Tests.{eqb-true, eqb-false, eq-eqb, ne-eqb}
+use borrow.Author.Tests.{eqb-true, eqb-false, eq-eqb}
 use Rattle.definition.specs.declared.Inst.{Inst}
 use Rattle.definition.specs.declared.BlockData.{BlockData}
 use Rattle.definition.specs.declared.Operand.{Operand}
@@ -18,18 +18,17 @@ use Rattle.definition.specs.Admit.{mappedAt}
 use Rattle.definition.specs.Entry.{apart, samePlace}
 use Rattle.rows.specs.RowsAt.{length-rows-at}
 use Rattle.function.specs.Blocks.{blockRow, blocksAt, Starts}
-use Rattle.operands.specs.declared.FoundOperand.{FoundOperand}
 use Rattle.operands.specs.declared.FoundOperand.the-variants.{At}
 use Rattle.operands.specs.Rows.{opAt, isAt, lastPlace}
 use Rattle.operands.proofs.Rows.{long}
 use Rattle.operands.proofs.Store.{chained-kept}
-use Rattle.operands.proofs.Twice.{never}
 use Rattle.operands.proofs.Only.{found-only}
 use Rattle.layout.specs.declared.Layout.{Layout}
 use Rattle.virt_regs.specs.declared.OutLayout.{OutLayout}
 use Rattle.virt_regs.specs.Encoding.{groupWord}
 use Rattle.constraints.specs.declared.WorkLayout.{WorkLayout}
 use Rattle.constraints.specs.Ready.{chainsIn, operandsIn, Mapping, Ready, Stands}
+use Rattle.constraints.proofs.Operand.{both}
 
 -- n words from word `at` on are the same in L as in K
 abbrev pub Same : List ℕ → List ℕ → ℕ → ℕ → Type 0
@@ -107,10 +106,6 @@ module _ (m : Mapped) (i : Inst) (s : ℕ) where
 
 both-eqb : (a b c d : ℕ) → a ≡ b → c ≡ d → eqb a b && eqb c d ≡ true
 both-eqb a b c d e f = rw (eq-eqb a b e, eq-eqb c d f)
-
-both : (p q : Bool) → p && q ≡ true → (p ≡ true) × (q ≡ true)
-both true q e = (refl, e)
-both false q e = never (sym e)
 
 -- an entry for operand k is none for another
 not-of : (os : List Operand) (k j : ℕ) (m : Mapped) → apart samePlace os ≡ true → k < length os → j < length os → isAt (m .inst .0) (m .slot) (opAt os k) ≡ true → (j ≡ k → ⊥)

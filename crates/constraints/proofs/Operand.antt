@@ -10,15 +10,16 @@ use Rattle.definition.specs.declared.Inst.{Inst}
 use Rattle.definition.specs.declared.Value.{Value}
 use Rattle.definition.specs.declared.ValueSet.{ValueSet}
 use Rattle.definition.specs.declared.Operand.{Operand}
-use Rattle.definition.specs.Types.{Job, Mapped, inst}
+use Rattle.definition.specs.Types.{Job, inst}
 use Rattle.definition.specs.Admit.{mappedAt, vgroupAt, setsOf, setsAt}
 use Rattle.definition.specs.Entry.{some-is, apart, samePlace}
+use Rattle.function.specs.Blocks.{blocksAt}
 use Rattle.coalescing.specs.Rows.{valuesAt, vgroupRow, vgroupsAt}
 use Rattle.coalescing.specs.Rows as rows
 use Rattle.coalescing.proofs.Members.{group-row-at}
 use Rattle.operands.specs.declared.FoundOperand.{FoundOperand}
 use Rattle.operands.specs.declared.FoundOperand.the-variants.{At, Nothing}
-use Rattle.operands.specs.Rows.{operandRow, operandsAt, opAt, isAt, lastPlace, vgroupFound}
+use Rattle.operands.specs.Rows.{operandRow, opAt, isAt, lastPlace, vgroupFound}
 use Rattle.operands.specs.Chains.{Under}
 use Rattle.operands.proofs.Rows.{long, row-at}
 use Rattle.operands.proofs.Only.{found-at, none-at, vgroup-found}
@@ -28,9 +29,13 @@ use Rattle.job.specs.Job.{jobBy, jobOf}
 use Rattle.virt_regs.specs.Encoding.{groupWord}
 use Rattle.constraints.specs.declared.WorkLayout.{WorkLayout}
 use Rattle.constraints.specs.declared.OperandGroup.{OperandGroup}
-use Rattle.constraints.specs.Ready.{operandsIn, Mapping, HasOperand, OperandIs, Said}
+use Rattle.constraints.specs.Ready.{operandsIn, HasOperand, OperandIs, Said}
 
 -- ---- the tables of a job
+
+pub job-blocks : (W : List ℕ) (lay : Layout) → jobOf W lay .blocks ≡ blocksAt W (lay .blocks .at) (lay .blocks .n)
+unfolding jobOf jobBy
+job-blocks W lay = refl
 
 pub job-values : (W : List ℕ) (lay : Layout) → jobOf W lay .values ≡ valuesAt W (lay .values .at) (lay .values .n)
 unfolding jobOf jobBy
@@ -74,7 +79,7 @@ module _ (W : List ℕ) (lay : Layout) (k : ℕ) (o : Operand) (l : k < lay .ope
 
 -- ---- the operand at a place
 
-both : (p q : Bool) → p && q ≡ true → (p ≡ true) × (q ≡ true)
+pub both : (p q : Bool) → p && q ≡ true → (p ≡ true) × (q ≡ true)
 both true q e = (refl, e)
 both false q e = never (sym e)
 

@@ -1,6 +1,5 @@
 -- What the code's answers stand for. Assumes nothing.
 use Prim.Native.Nat.{ℕ}
-use mathlib.Core.Bool.{Bool}
 use mathlib.Core.Option.{Option, some, bind}
 use mathlib.Core.List.{List}
 use Rattle.definition.specs.declared.RegClass.{RegClass}

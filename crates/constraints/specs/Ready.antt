@@ -1,7 +1,7 @@
 -- What the builder's code needs of the job and of the work slice, and when its slices stand for a state. Assumes nothing.
 use Prim.Native.Nat.{ℕ, _+_, _-_, _*_, _≤_, _<_}
 use mathlib.Core.Path.{_≡_}
-use mathlib.Core.Bool.{Bool, true}
+use mathlib.Core.Bool.{true}
 use mathlib.Core.List.{List, []}
 use lib.ListN.{length, getD}
 use Rattle.definition.specs.declared.Inst.{Inst}

@@ -13,7 +13,7 @@ use virt_regs::OutLayout;
 ghost use mathlib.Core.Path.{_≡_};
 ghost use mathlib.Core.Bool.{true};
 ghost use mathlib.Core.Option.{bind, some};
-ghost use Prim.Native.Nat.{ℕ, _+_, _*_, _≤_, _<_};
+ghost use Prim.Native.Nat.{_+_, _*_, _≤_, _<_};
 ghost use Rattle.words.specs.Words.{wordCount, wordsOf};
 ghost use Rattle.definition.specs.Types.{State};
 ghost use Rattle.definition.specs.Types as types;
@@ -24,7 +24,7 @@ ghost use Rattle.job.specs.Job.{jobOf};
 ghost use Rattle.virt_regs.specs.Encoding.{tablesEnd, Holds};
 ghost use Rattle.members.specs.Places.{groupOf, joinedOf};
 ghost use Rattle.constraints.specs.Held.{heldOf, admissionOf, holding, intoGroup};
-ghost use Rattle.constraints.specs.Ready.{Ready, Stands, Backed, HasOperand, Mapping, OperandIs, Said};
+ghost use Rattle.constraints.specs.Ready.{Ready, Stands, Backed, HasOperand, OperandIs, Said};
 
 // Where the parts of the work slice begin, in words: the index of the operands (heads and nexts), a word for each operand (its group + 1, 0 for none), the table of block starts,
 // a word for each use of the job (1 if it is turned), the turned uses.

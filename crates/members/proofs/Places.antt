@@ -2,7 +2,7 @@
 use mathlib.Core.Path.{_≡_, refl, sym, ap, _∙_}
 use mathlib.Core.Bool.{Bool, true, false}
 use mathlib.Core.Option.{Option, none, some}
-use mathlib.Core.List.{List, [], _++_}
+use mathlib.Core.List.{List, []}
 use Prim.Native.Nat.{ℕ, zero, suc, _+_, _-_, _*_, _≤_, _<_}
 use native.Mathlib.Omega.{arith}
 use lib.Dec.{ltb}
@@ -14,7 +14,7 @@ use Rattle.definition.specs.declared.VirtRegGroup.{VirtRegGroup}
 use Rattle.definition.specs.Types.{State, vreg, vrgroup}
 use Rattle.definition.specs.Admit.{membersAt}
 use Rattle.virt_regs.specs.declared.OutLayout.{OutLayout}
-use Rattle.virt_regs.specs.Part.{part, part-get}
+use Rattle.virt_regs.specs.Part.{part-get}
 use Rattle.virt_regs.specs.Encoding.{groupBase, tablesEnd, groupWord, placeWord, groupRows, Holds}
 use Rattle.virt_regs.specs.Counting.{length-groups}
 use Rattle.virt_regs.specs.Reads.{member-held, size-le, member-lt}

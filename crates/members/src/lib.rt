@@ -7,7 +7,7 @@ use reginfo::Found;
 use virt_regs::OutLayout;
 ghost use mathlib.Core.Path.{_≡_};
 ghost use mathlib.Core.Option.{Option, none, some, bind};
-ghost use Prim.Native.Nat.{ℕ, _+_, _*_, _≤_, _<_};
+ghost use Prim.Native.Nat.{_≤_, _<_};
 ghost use lib.ListN.{length, getD};
 ghost use Rattle.words.specs.Words.{wordCount, wordsOf};
 ghost use Rattle.definition.specs.Types.{State};

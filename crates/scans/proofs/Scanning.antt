@@ -1,9 +1,9 @@
 -- A scan, use by use. Assumes nothing.
 use mathlib.Core.Path.{_≡_, refl, sym, ap, subst, _∙_}
-use mathlib.Core.Bool.{Bool, true, false}
+use mathlib.Core.Bool.{true, false}
 use mathlib.Core.Option.{Option, none, some}
 use mathlib.Core.List.{List, [], _∷_}
-use Prim.Native.Nat.{ℕ, zero, suc, _+_, _-_, _*_, _≤_, _<_}
+use Prim.Native.Nat.{ℕ, suc, _+_, _-_, _≤_, _<_}
 use native.Mathlib.Omega.{arith}
 use Rattle.rows.specs.Tab.{tab, down, tab-more, tab-done, down-more}
 use Rattle.definition.specs.declared.Use.{Use}
@@ -14,7 +14,6 @@ use Rattle.constraints.specs.declared.Held.{Held}
 use Rattle.constraints.specs.declared.Admission.{Admission}
 use Rattle.constraints.specs.Held.{heldOf, admissionOf}
 use Rattle.constraints.proofs.Admitted.{answer-yes, answer-no}
-use Rattle.scans.specs.declared.ScanAnswer.{ScanAnswer}
 use Rattle.scans.specs.Answers.{scanOf, backOf, shifted}
 
 -- ---- one use

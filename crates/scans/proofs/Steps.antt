@@ -2,15 +2,12 @@
 use mathlib.Core.Path.{_≡_, refl, sym, ap, ap₂, _∙_}
 use mathlib.Core.Bool.{Bool, true, false, _&&_, cond}
 use mathlib.Core.List.{List, [], _∷_, reverse}
-use Prim.Native.Nat.{ℕ, suc, _+_, _-_, _*_, _≤_, _<_}
+use Prim.Native.Nat.{ℕ, suc, _+_, _-_, _≤_, _<_}
 use native.Mathlib.Omega.{arith}
 use lib.Dec.{eqb, ltb, leb}
-use lib.ListN.{length, getD, take}
-use lib.Ieee.{lt}
-use borrow.Author.Tests.{eq-eqb, ne-eqb, le-ltb, lt-leb, ltb-true, ltb-false}
+use lib.ListN.{take}
+use borrow.Author.Tests.{eq-eqb, ne-eqb, lt-leb, ltb-true}
 use Rattle.rows.specs.Tab.{tab, down, getD-tab, tab-ext, down-reverse, take-tab}
-use Rattle.rows.specs.RowsAt.{length-rows-at}
-use Rattle.operands.proofs.Twice.{never}
 use Rattle.definition.specs.declared.Inst.{Inst}
 use Rattle.definition.specs.declared.RegClass.{RegClass}
 use Rattle.definition.specs.declared.BlockData.{BlockData}
@@ -19,28 +16,14 @@ use Rattle.definition.specs.declared.Stop.the-variants.{NoStart, TurnedDef}
 use Rattle.definition.specs.Types.{Job, State, inst}
 use Rattle.definition.specs.Types as types
 use Rattle.definition.specs.Uses.{isDef}
-use Rattle.definition.specs.Entry.{instsOf}
 use Rattle.definition.specs.SplitPlacement.{freqAt, starts, keep, earliest, earlyCut}
-use Rattle.definition.specs.Admit.{Scan, through, fails-at, scan, fresh, Move, whole, turn, cut, halt, noUse, useAt, turning, parted, fromStart, fromEnd, move}
-use Rattle.function.specs.Blocks.{blockRow, blocksAt, Starts}
-use Rattle.layout.specs.declared.Layout.{Layout}
-use Rattle.job.specs.Job.{jobBy, jobOf}
+use Rattle.definition.specs.Admit.{Scan, scan, fresh, Move, turn, cut, halt, noUse, useAt, turning, parted, fromStart, fromEnd, move}
 use Rattle.constraints.specs.declared.Held.{Held}
 use Rattle.constraints.specs.Held.{heldOf}
 use Rattle.scans.specs.declared.ScanAnswer.{ScanAnswer}
-use Rattle.scans.specs.declared.MoveAnswer.{MoveAnswer}
 use Rattle.scans.specs.declared.MoveKind.{MoveKind}
 use Rattle.scans.specs.declared.MoveKind.the-variants.{Whole, Turn, Cut, Halt}
 use Rattle.scans.specs.Answers.{scanOf, backOf, kindMove, moveOf}
-
--- ---- the blocks of a job
-
-pub job-blocks : (W : List ℕ) (lay : Layout) → jobOf W lay .blocks ≡ blocksAt W (lay .blocks .at) (lay .blocks .n)
-unfolding jobOf jobBy
-job-blocks W lay = refl
-
-pub blocks-long : (W : List ℕ) (at n : ℕ) → length (blocksAt W at n) ≡ n
-blocks-long W at n = length-rows-at blockRow W at 2 n
 
 -- ---- no block start lies between where the end is not behind the start
 

@@ -2,8 +2,8 @@
 use mathlib.Core.Path.{_≡_, refl, sym, ap, subst, _∙_}
 use mathlib.Core.Bool.{Bool, true, false, cond}
 use mathlib.Core.Option.{Option}
-use mathlib.Core.List.{List, []}
-use Prim.Native.Nat.{ℕ, _+_, _-_, _*_, _≤_, _<_}
+use mathlib.Core.List.{List}
+use Prim.Native.Nat.{ℕ, _+_, _*_, _<_}
 use native.Mathlib.Omega.{arith}
 use lib.Dec.{eqb}
 use lib.ListN.{getD}
@@ -17,7 +17,6 @@ use Rattle.definition.specs.Types.{Job, State}
 use Rattle.definition.specs.Types as types
 use Rattle.definition.specs.Build.{turnedUse}
 use Rattle.definition.specs.Admit.{admit, fresh}
-use Rattle.members.specs.Places.{regOf}
 use Rattle.uses.specs.Rows.{useRow}
 use Rattle.layout.specs.declared.Layout.{Layout}
 use Rattle.constraints.specs.declared.Held.{Held}

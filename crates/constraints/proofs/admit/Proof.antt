@@ -4,60 +4,6 @@ use borrow.Author.Needs.{needs}
 use Rattle.constraints.proofs.admit.Statement.{statement}
 use Rattle.constraints.proofs.admit.Tie as tie
 
-enum-known-kind : tie.Need-enum-known-kind
-enum-known-kind c = search needs
-
-admit-class-requires : tie.Need-admit-class-requires
-admit-class-requires c κs = search needs
-
-enum-known-kind-2 : tie.Need-enum-known-kind-2
-enum-known-kind-2 c = search needs
-
-admit-class-requires-2 : tie.Need-admit-class-requires-2
-admit-class-requires-2 c κs = search needs
-
-enum-known-kind-3 : tie.Need-enum-known-kind-3
-enum-known-kind-3 c = search needs
-
-cast-admit-group : tie.Need-cast-admit-group
-cast-admit-group c = search needs
-
-cast-admit-group-2 : tie.Need-cast-admit-group-2
-cast-admit-group-2 c = search needs
-
-admit-group-requires : tie.Need-admit-group-requires
-admit-group-requires c κs = search needs
-
-enum-known-kind-4 : tie.Need-enum-known-kind-4
-enum-known-kind-4 c = search needs
-
-cast-admit-group-3 : tie.Need-cast-admit-group-3
-cast-admit-group-3 c = search needs
-
-cast-admit-group-4 : tie.Need-cast-admit-group-4
-cast-admit-group-4 c = search needs
-
-admit-group-requires-2 : tie.Need-admit-group-requires-2
-admit-group-requires-2 c κs = search needs
-
-enum-told : tie.Need-enum-told
-enum-told c = search needs
-
-enum-told-2 : tie.Need-enum-told-2
-enum-told-2 c = search needs
-
-enum-told-3 : tie.Need-enum-told-3
-enum-told-3 c = search needs
-
-enum-told-4 : tie.Need-enum-told-4
-enum-told-4 c = search needs
-
-enum-told-5 : tie.Need-enum-told-5
-enum-told-5 c = search needs
-
-enum-told-6 : tie.Need-enum-told-6
-enum-told-6 c = search needs
-
 returns : tie.Need-returns
 returns c st hs b = by-class-use _ st _ _ _ _ _ (c .before .before .kind .given .1) (c .admit-class .ensures)
 
@@ -92,24 +38,24 @@ pub admit-spec : {M : Type 1} → statement M
 admit-spec =
     tie.close
     (tie.spec
-    enum-known-kind
-    admit-class-requires
-    enum-known-kind-2
-    admit-class-requires-2
-    enum-known-kind-3
-    cast-admit-group
-    cast-admit-group-2
-    admit-group-requires
-    enum-known-kind-4
-    cast-admit-group-3
-    cast-admit-group-4
-    admit-group-requires-2
-    enum-told
-    enum-told-2
-    enum-told-3
-    enum-told-4
-    enum-told-5
-    enum-told-6
+    (λ c. search needs)
+    (λ c κs. search needs)
+    (λ c. search needs)
+    (λ c κs. search needs)
+    (λ c. search needs)
+    (λ c. search needs)
+    (λ c. search needs)
+    (λ c κs. search needs)
+    (λ c. search needs)
+    (λ c. search needs)
+    (λ c. search needs)
+    (λ c κs. search needs)
+    (λ c. search needs)
+    (λ c. search needs)
+    (λ c. search needs)
+    (λ c. search needs)
+    (λ c. search needs)
+    (λ c. search needs)
     returns
     returns-2
     returns-3

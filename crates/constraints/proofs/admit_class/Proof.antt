@@ -4,15 +4,6 @@ use borrow.Author.Needs.{needs}
 use Rattle.constraints.proofs.admit_class.Statement.{statement}
 use Rattle.constraints.proofs.admit_class.Tie as tie
 
-common-subclass-requires : tie.Need-common-subclass-requires
-common-subclass-requires c κs = search needs
-
-enum-known-k : tie.Need-enum-known-k
-enum-known-k c = search needs
-
-enum-told : tie.Need-enum-told
-enum-told c = search needs
-
 returns : tie.Need-returns
 returns c = class-no _ _ _ _ (c .before .before .common-subclass .ensures _ (job-classes _ _)) (c .enum-told .given .1)
 
@@ -21,4 +12,4 @@ returns-2 c = class-yes _ _ _ _ (c .before .before .before .before .common-subcl
 
 pub admit-class-spec : {M : Type 1} → statement M
 admit-class-spec =
-    tie.close (tie.spec common-subclass-requires enum-known-k enum-told returns returns-2)
+    tie.close (tie.spec (λ c κs. search needs) (λ c. search needs) (λ c. search needs) returns returns-2)

@@ -6,23 +6,8 @@ use borrow.Author.Needs.{needs}
 use Rattle.constraints.proofs.admit_group.Statement.{statement}
 use Rattle.constraints.proofs.admit_group.Tie as tie
 
-find-group-requires : tie.Need-find-group-requires
-find-group-requires c κs = search needs
-
-common-subclass-requires : tie.Need-common-subclass-requires
-common-subclass-requires c κs = search needs
-
-enum-known-k : tie.Need-enum-known-k
-enum-known-k c = search needs
-
-enum-told : tie.Need-enum-told
-enum-told c = search needs
-
 returns : tie.Need-returns
 returns c st hs b = group-no _ st _ _ _ _ _ _ (c .before .before .common-subclass .ensures _ (job-classes _ _)) (c .enum-told .given .1)
-
-admit-into-requires : tie.Need-admit-into-requires
-admit-into-requires c κs = search needs
 
 returns-2 : tie.Need-returns-2
 returns-2 c st hs b =
@@ -37,11 +22,11 @@ pub admit-group-spec : {M : Type 1} → statement M
 admit-group-spec =
     tie.close
     (tie.spec
-    find-group-requires
-    common-subclass-requires
-    enum-known-k
-    enum-told
+    (λ c κs. search needs)
+    (λ c κs. search needs)
+    (λ c. search needs)
+    (λ c. search needs)
     returns
-    admit-into-requires
+    (λ c κs. search needs)
     returns-2
     returns-3)

@@ -4,15 +4,6 @@ use borrow.Author.Needs.{needs}
 use Rattle.constraints.proofs.admit_into.Statement.{statement}
 use Rattle.constraints.proofs.admit_into.Tie as tie
 
-group-fits-requires : tie.Need-group-fits-requires
-group-fits-requires c κs = search needs
-
-in-group-requires : tie.Need-in-group-requires
-in-group-requires c κs = search needs
-
-hold-group-requires : tie.Need-hold-group-requires
-hold-group-requires c κs = search needs
-
 returns : tie.Need-returns
 returns c st hs =
     let g = c .before .before .before .before in
@@ -27,4 +18,4 @@ returns-2 c st hs =
 pub admit-into-spec : {M : Type 1} → statement M
 admit-into-spec =
     tie.close
-    (tie.spec group-fits-requires in-group-requires hold-group-requires returns returns-2)
+    (tie.spec (λ c κs. search needs) (λ c κs. search needs) (λ c κs. search needs) returns returns-2)

@@ -1,5 +1,4 @@
 use Rattle.constraints.proofs.Admitted.{hold-yes, hold-no}
-use borrow.Author.Needs.{needs}
 use Rattle.constraints.proofs.hold_group.Statement.{statement}
 use Rattle.constraints.proofs.hold_group.Tie as tie
 

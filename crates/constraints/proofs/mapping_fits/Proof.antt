@@ -1,5 +1,4 @@
 use Rattle.constraints.proofs.Admitted.{mapping-free, mapping-same}
-use borrow.Author.Needs.{needs}
 use Rattle.constraints.proofs.mapping_fits.Statement.{statement}
 use Rattle.constraints.proofs.mapping_fits.Tie as tie
 

@@ -17,28 +17,10 @@ abbrev μ-loop : tie.MeasureT-loop
 loop-holds : tie.Need-loop-holds Inv-loop μ-loop
 loop-holds c = narrow-start _ _ _ _ _
 
-place-word-requires : tie.Need-place-word-requires Inv-loop μ-loop
-place-word-requires c κs = search needs
-
-narrow-requires : tie.Need-narrow-requires Inv-loop μ-loop
-narrow-requires c κs = search needs
-
-enum-known-n : tie.Need-enum-known-n Inv-loop μ-loop
-enum-known-n c = search needs
-
-enum-told : tie.Need-enum-told Inv-loop μ-loop
-enum-told c = search needs
-
 returns : tie.Need-returns Inv-loop μ-loop
 returns c =
     let n = c .before .before in
     narrow-stop (n .before .before .before .loop .inv) _ _ (n .before .place-word .ensures) (n .narrow .ensures) (c .enum-told .given .1)
-
-add-i : tie.Need-add-i Inv-loop μ-loop
-add-i c = search needs
-
-loop-less : tie.Need-loop-less Inv-loop μ-loop
-loop-less c = search needs
 
 loop-again : tie.Need-loop-again Inv-loop μ-loop
 loop-again c =
@@ -55,12 +37,12 @@ narrowed-by-spec =
     Inv-loop
     μ-loop
     loop-holds
-    place-word-requires
-    narrow-requires
-    enum-known-n
-    enum-told
+    (λ c κs. search needs)
+    (λ c κs. search needs)
+    (λ c. search needs)
+    (λ c. search needs)
     returns
-    add-i
-    loop-less
+    (λ c. search needs)
+    (λ c. search needs)
     loop-again
     returns-2)

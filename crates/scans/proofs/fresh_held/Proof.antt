@@ -1,5 +1,4 @@
 use Rattle.scans.proofs.Uses.{fresh-is}
-use borrow.Author.Needs.{needs}
 use Rattle.scans.proofs.fresh_held.Statement.{statement}
 use Rattle.scans.proofs.fresh_held.Tie as tie
 

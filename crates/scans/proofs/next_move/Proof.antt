@@ -4,12 +4,6 @@ use borrow.Author.Needs.{needs}
 use Rattle.scans.proofs.next_move.Statement.{statement}
 use Rattle.scans.proofs.next_move.Tie as tie
 
-fresh-held-requires : tie.Need-fresh-held-requires
-fresh-held-requires c κs = search needs
-
-scan-uses-requires : tie.Need-scan-uses-requires
-scan-uses-requires c κs = search needs
-
 returns : tie.Need-returns
 returns c st hs = move-whole _ st _ _ _ (c .before .before .before .fresh-held .ensures) _ _ (c .before .before .scan-uses .ensures .1 st hs) (c .if1 .taken)
 
@@ -48,8 +42,8 @@ pub next-move-spec : {M : Type 1} → statement M
 next-move-spec =
     tie.close
     (tie.spec
-    fresh-held-requires
-    scan-uses-requires
+    (λ c κs. search needs)
+    (λ c κs. search needs)
     returns
     scan-back-requires
     returns-2

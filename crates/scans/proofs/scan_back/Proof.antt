@@ -19,25 +19,13 @@ Inv-loop job lay out ol work wl a e held₀ n₀ held n =
 abbrev μ-loop : tie.MeasureT-loop
 μ-loop job lay out ol work wl a e held₀ n₀ held n = n - a
 
-add-n : tie.Need-add-n Inv-loop μ-loop
-add-n c = search needs
-
 loop-holds : tie.Need-loop-holds Inv-loop μ-loop
 loop-holds c = backward-start _ _ _ _ _ _ (omega arith)
-
-sub-m : tie.Need-sub-m Inv-loop μ-loop
-sub-m c = search needs
-
-admit-at-requires : tie.Need-admit-at-requires Inv-loop μ-loop
-admit-at-requires c κs = search needs
 
 returns : tie.Need-returns Inv-loop μ-loop
 returns c =
     let l = c .before .before .before .before in
     ((omega arith, λ q. omega arith), backward-stop (l .loop .inv) _ refl (c .before .before .before .loop-test .taken) _ (c .before .before .admit-at .ensures) (not-true _ (c .if1 .taken)))
-
-loop-less : tie.Need-loop-less Inv-loop μ-loop
-loop-less c = search needs
 
 loop-again : tie.Need-loop-again Inv-loop μ-loop
 loop-again c =
@@ -53,11 +41,11 @@ scan-back-spec =
     (tie.spec
     Inv-loop
     μ-loop
-    add-n
+    (λ c. search needs)
     loop-holds
-    sub-m
-    admit-at-requires
+    (λ c. search needs)
+    (λ c κs. search needs)
     returns
-    loop-less
+    (λ c. search needs)
     loop-again
     returns-2)

@@ -21,19 +21,10 @@ abbrev μ-loop : tie.MeasureT-loop
 loop-holds : tie.Need-loop-holds Inv-loop μ-loop
 loop-holds c = forward-start _ _ _ _ _ _ (omega arith)
 
-admit-at-requires : tie.Need-admit-at-requires Inv-loop μ-loop
-admit-at-requires c κs = search needs
-
 returns : tie.Need-returns Inv-loop μ-loop
 returns c =
     let l = c .before .before .before .before in
     ((omega arith, λ q. omega arith), forward-stop (l .loop .inv) _ (c .before .before .before .loop-test .taken) (c .before .before .admit-at .ensures) (not-true _ (c .if1 .taken)))
-
-add-n : tie.Need-add-n Inv-loop μ-loop
-add-n c = search needs
-
-loop-less : tie.Need-loop-less Inv-loop μ-loop
-loop-less c = search needs
 
 loop-again : tie.Need-loop-again Inv-loop μ-loop
 loop-again c =
@@ -50,9 +41,9 @@ scan-uses-spec =
     Inv-loop
     μ-loop
     loop-holds
-    admit-at-requires
+    (λ c κs. search needs)
     returns
-    add-n
-    loop-less
+    (λ c. search needs)
+    (λ c. search needs)
     loop-again
     returns-2)
