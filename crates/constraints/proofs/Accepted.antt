@@ -34,7 +34,8 @@ use Rattle.layout.specs.declared.Layout.{Layout}
 use Rattle.layout.specs.Layout.{Fits, segRow, segAt, nextUse, usesIn, segmentOf}
 use Rattle.job.specs.Job.{jobBy, jobOf}
 use Rattle.constraints.specs.declared.WorkLayout.{WorkLayout}
-use Rattle.constraints.specs.Ready.{chainsIn, operandsIn, HasOperand, BackedKind, Backed, Ready}
+use Rattle.constraints.specs.Asks.{askOf}
+use Rattle.constraints.specs.Ready.{chainsIn, operandsIn, HasOperand, BackedAsk, Backed, Ready}
 use Rattle.constraints.proofs.Operand.{both, job-blocks, job-vgroups, job-operands}
 
 -- ---- tests over lists
@@ -118,10 +119,10 @@ operand-of job v p s c i e = some-weaker (λ o. conj (groupUseTests job v p s c 
         rw (a .0, b .0)
 
 pub backed-of : (job : Job) (v : Value) (u : Use) → kindOk job v (u .pos) (u .kind) ≡ true → Backed job u
-unfolding Backed BackedKind kindOk
+unfolding Backed BackedAsk kindOk
 backed-of job v u e = go (u .kind) e
   where
-    go : (k : UseKind) → kindOk job v (u .pos) k ≡ true → BackedKind job (u .pos) k
+    go : (k : UseKind) → kindOk job v (u .pos) k ≡ true → BackedAsk job (u .pos) (askOf k)
     go (FixedDef r) q = tt
     go (FixedUse r) q = tt
     go (TiedUse a b c i) q = tt

@@ -17,7 +17,6 @@ use Rattle.definition.specs.declared.Use.{Use}
 use Rattle.definition.specs.Types.{Job, State}
 use Rattle.definition.specs.Types as types
 use Rattle.definition.specs.RegInfo.{commonSubclass}
-use Rattle.definition.specs.Uses.{isClassUse}
 use Rattle.definition.specs.Admit.{mappedAt, setsAt, sameSets, mappingFits, groupFits, guard, inGroup, admitClass, admitGroup, admitKind, admit}
 use Rattle.reginfo.specs.declared.Found.{Found}
 use Rattle.reginfo.specs.declared.Found.the-variants.{Class, Nothing}
@@ -27,11 +26,15 @@ use Rattle.members.specs.declared.Joined.{Joined}
 use Rattle.members.specs.Places.{regOf, groupOf, joinedOf}
 use Rattle.members.proofs.Places.{group-of}
 use Rattle.members.proofs.Narrowing.{found-some, found-none, bind-some, bind-none}
+use Rattle.constraints.specs.declared.GroupUse.{GroupUse}
+use Rattle.constraints.specs.declared.Ask.{Ask}
+use Rattle.constraints.specs.declared.Ask.the-variants.{Any, Group}
 use Rattle.constraints.specs.declared.OperandGroup.{OperandGroup}
+use Rattle.constraints.specs.Asks.{askOf}
 use Rattle.constraints.specs.declared.Held.{Held}
 use Rattle.constraints.specs.declared.Admission.{Admission}
 use Rattle.constraints.specs.Held.{heldOf, admissionOf, holding, intoGroup}
-use Rattle.constraints.specs.Ready.{HasOperand, BackedKind, Backed}
+use Rattle.constraints.specs.Ready.{HasOperand, BackedAsk, Backed}
 
 abbrev pub refused : Held → Admission
 refused h = record { ok = false; held = h }
@@ -139,51 +142,42 @@ module _ (job : Job) (st : State) (h : Held) (p : Inst) (s : ℕ) (c : RegClass)
       ∙ ap₂ (λ (m : Option VirtRegGroup) (x : List ValueSet). intoGroup job st (heldOf h) k i m x) (group-of (g .mapped) (mappedAt (st .mapping) p s) em) es
       ∙ sym (bind-some _ (found-some f (commonSubclass job (h .class) c) k e q))
 
--- ---- by the kind of the use
+-- ---- by what the use asks
 
-pub backed-use : (job : Job) (u : Use) (s : ℕ) (c : RegClass) (i : ℕ) → u .kind ≡ GroupClassUse s c i → Backed job u → HasOperand job (u .pos) s
-unfolding Backed BackedKind
-backed-use job u s c i e b = subst (λ (k : UseKind). BackedKind job (u .pos) k) e b
+-- the admission by what is asked
+unfoldable admitAsk : Job → State → types.Held → Inst → Ask → Option types.Held
+unfolding admitClass admitGroup
+admitAsk job st h p Any = some h
+admitAsk job st h p (Ask.Class c) = admitClass job h c
+admitAsk job st h p (Group g) = admitGroup job st h p (g .slot) (g .class) (g .index)
 
-pub backed-def : (job : Job) (u : Use) (s : ℕ) (c : RegClass) (i : ℕ) → u .kind ≡ GroupClassDef s c i → Backed job u → HasOperand job (u .pos) s
-unfolding Backed BackedKind
-backed-def job u s c i e b = subst (λ (k : UseKind). BackedKind job (u .pos) k) e b
+asked : (job : Job) (st : State) (h : types.Held) (p : Inst) (k : UseKind) → admitAsk job st h p (askOf k) ≡ admitKind job st h p k
+unfolding admitAsk admitKind
+asked job st h p (FixedDef r) = refl
+asked job st h p (FixedUse r) = refl
+asked job st h p (TiedUse a b c i) = refl
+asked job st h p ConstraintConflict = refl
+asked job st h p (ClassUse s c) = refl
+asked job st h p (ClassDef s c) = refl
+asked job st h p (GroupClassUse s c i) = refl
+asked job st h p (GroupClassDef s c i) = refl
+asked job st h p (BlockparamIn q) = refl
+asked job st h p BlockparamOut = refl
 
-module _ (job : Job) (st : State) (h : Held) (u : Use) where
-  by-kind : (o : Option types.Held) (k : UseKind) → u .kind ≡ k → o ≡ admitKind job st (heldOf h) (u .pos) k → o ≡ admit job st (heldOf h) u
+module _ (job : Job) (st : State) (h : Held) (u : Use) (a : Ask) (e : a ≡ askOf (u .kind)) where
+  by-ask : (b : Ask) → a ≡ b → admitAsk job st (heldOf h) (u .pos) b ≡ admit job st (heldOf h) u
   unfolding admit
-  by-kind o k e q = q ∙ ap (λ (x : UseKind). admitKind job st (heldOf h) (u .pos) x) (sym e)
+  by-ask b q = ap (λ (x : Ask). admitAsk job st (heldOf h) (u .pos) x) (sym q ∙ e) ∙ asked job st (heldOf h) (u .pos) (u .kind)
 
-  pub by-class-use : (o : Option types.Held) (s : ℕ) (c : RegClass) → u .kind ≡ ClassUse s c → o ≡ admitClass job (heldOf h) c → o ≡ admit job st (heldOf h) u
-  unfolding admitKind
-  by-class-use o s c e q = by-kind o (ClassUse s c) e q
+  pub by-any : a ≡ Any → admissionOf (kept h) ≡ admit job st (heldOf h) u
+  unfolding admissionOf admitAsk
+  by-any q = by-ask Any q
 
-  pub by-class-def : (o : Option types.Held) (s : ℕ) (c : RegClass) → u .kind ≡ ClassDef s c → o ≡ admitClass job (heldOf h) c → o ≡ admit job st (heldOf h) u
-  unfolding admitKind
-  by-class-def o s c e q = by-kind o (ClassDef s c) e q
+  pub by-class : (o : Option types.Held) (c : RegClass) → a ≡ Ask.Class c → o ≡ admitClass job (heldOf h) c → o ≡ admit job st (heldOf h) u
+  unfolding admitAsk
+  by-class o c q r = r ∙ by-ask (Ask.Class c) q
 
-  pub by-group-use : (o : Option types.Held) (s : ℕ) (c : RegClass) (i : ℕ) → u .kind ≡ GroupClassUse s c i → Backed job u
-      → (HasOperand job (u .pos) s → o ≡ admitGroup job st (heldOf h) (u .pos) s c i) → o ≡ admit job st (heldOf h) u
-  unfolding admitKind
-  by-group-use o s c i e b q = by-kind o (GroupClassUse s c i) e (q (backed-use job u s c i e b))
-
-  pub by-group-def : (o : Option types.Held) (s : ℕ) (c : RegClass) (i : ℕ) → u .kind ≡ GroupClassDef s c i → Backed job u
-      → (HasOperand job (u .pos) s → o ≡ admitGroup job st (heldOf h) (u .pos) s c i) → o ≡ admit job st (heldOf h) u
-  unfolding admitKind
-  by-group-def o s c i e b q = by-kind o (GroupClassDef s c i) e (q (backed-def job u s c i e b))
-
-  pub by-other : (k : UseKind) → u .kind ≡ k → isClassUse k ≡ false → admissionOf (kept h) ≡ admit job st (heldOf h) u
-  unfolding admissionOf admitKind
-  by-other k e t = by-kind (some (heldOf h)) k e (go k t)
-    where
-      go : (x : UseKind) → isClassUse x ≡ false → some (heldOf h) ≡ admitKind job st (heldOf h) (u .pos) x
-      go (FixedDef r) t = refl
-      go (FixedUse r) t = refl
-      go (TiedUse a b c i) t = refl
-      go ConstraintConflict t = refl
-      go (ClassUse s c) t = let z : _≡_ {A = ℕ} 0 1 = cc in absurd (omega arith)
-      go (ClassDef s c) t = let z : _≡_ {A = ℕ} 0 1 = cc in absurd (omega arith)
-      go (GroupClassUse s c i) t = let z : _≡_ {A = ℕ} 0 1 = cc in absurd (omega arith)
-      go (GroupClassDef s c i) t = let z : _≡_ {A = ℕ} 0 1 = cc in absurd (omega arith)
-      go (BlockparamIn q) t = refl
-      go BlockparamOut t = refl
+  pub by-group : (o : Option types.Held) (g : GroupUse) → a ≡ Group g → Backed job u
+      → (HasOperand job (u .pos) (g .slot) → o ≡ admitGroup job st (heldOf h) (u .pos) (g .slot) (g .class) (g .index)) → o ≡ admit job st (heldOf h) u
+  unfolding admitAsk Backed BackedAsk
+  by-group o g q b r = r (subst (λ (x : Ask). BackedAsk job (u .pos) x) (sym e ∙ q) b) ∙ by-ask (Group g) q

@@ -1,2 +1,3 @@
 pub mod Held
+pub mod Asks
 pub mod Ready

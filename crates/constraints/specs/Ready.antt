@@ -7,8 +7,6 @@ use lib.ListN.{length, getD}
 use Rattle.definition.specs.declared.Inst.{Inst}
 use Rattle.definition.specs.declared.Operand.{Operand}
 use Rattle.definition.specs.declared.Use.{Use}
-use Rattle.definition.specs.declared.UseKind.{UseKind}
-use Rattle.definition.specs.declared.UseKind.the-variants.{FixedDef, FixedUse, TiedUse, ConstraintConflict, ClassUse, ClassDef, GroupClassUse, GroupClassDef, BlockparamIn, BlockparamOut}
 use Rattle.definition.specs.Types.{Job, State, Mapped}
 use Rattle.definition.specs.Admit.{mappedAt, setsOf, setsAt}
 use Rattle.definition.specs.Entry.{some-is, apart, samePlace, instsOf}
@@ -24,8 +22,11 @@ use Rattle.layout.specs.Layout.{Fits}
 use Rattle.job.specs.Job.{jobOf}
 use Rattle.virt_regs.specs.declared.OutLayout.{OutLayout}
 use Rattle.virt_regs.specs.Encoding.{groupWord, Holds}
+use Rattle.constraints.specs.declared.Ask.{Ask}
+use Rattle.constraints.specs.declared.Ask.the-variants.{Any, Class, Group}
 use Rattle.constraints.specs.declared.WorkLayout.{WorkLayout}
 use Rattle.constraints.specs.declared.OperandGroup.{OperandGroup}
+use Rattle.constraints.specs.Asks.{askOf}
 
 -- the index of the operands: a head for each word before the nexts
 abbrev pub chainsIn : Layout → WorkLayout → Chains
@@ -43,22 +44,15 @@ pub record Mapping (K : List ℕ) (at : ℕ) (os : List Operand) (ms : List Mapp
 abbrev pub HasOperand : Job → Inst → ℕ → Type 0
 HasOperand job p s = some-is (isAt (p .0) s) (job .operands) ≡ true
 
-unfoldable pub BackedKind : Job → Inst → UseKind → Type 0
-BackedKind job p (FixedDef r) = Unit {0}
-BackedKind job p (FixedUse r) = Unit {0}
-BackedKind job p (TiedUse u d c i) = Unit {0}
-BackedKind job p ConstraintConflict = Unit {0}
-BackedKind job p (ClassUse s c) = Unit {0}
-BackedKind job p (ClassDef s c) = Unit {0}
-BackedKind job p (GroupClassUse s c i) = HasOperand job p s
-BackedKind job p (GroupClassDef s c i) = HasOperand job p s
-BackedKind job p (BlockparamIn q) = Unit {0}
-BackedKind job p BlockparamOut = Unit {0}
+unfoldable pub BackedAsk : Job → Inst → Ask → Type 0
+BackedAsk job p Any = Unit {0}
+BackedAsk job p (Class c) = Unit {0}
+BackedAsk job p (Group g) = HasOperand job p (g .slot)
 
 -- a use has its operand, if it is a group use
 unfoldable pub Backed : Job → Use → Type 0
-unfolding BackedKind
-Backed job u = BackedKind job (u .pos) (u .kind)
+unfolding BackedAsk
+Backed job u = BackedAsk job (u .pos) (askOf (u .kind))
 
 -- The job with the words W, t of them, is accepted, and the work slice with the words K, w of them, has its index of the operands and its table of block starts, and room for the rest.
 pub record Ready (t w : ℕ) (W K : List ℕ) (lay : Layout) (wl : WorkLayout) : Type 0 where

@@ -24,6 +24,7 @@ ghost use Rattle.job.specs.Job.{jobOf};
 ghost use Rattle.virt_regs.specs.Encoding.{tablesEnd, Holds};
 ghost use Rattle.members.specs.Places.{groupOf, joinedOf};
 ghost use Rattle.constraints.specs.Held.{heldOf, admissionOf, holding, intoGroup};
+ghost use Rattle.constraints.specs.Asks.{groupAsk, askOf};
 ghost use Rattle.constraints.specs.Ready.{Ready, Stands, Backed, HasOperand, OperandIs, Said};
 
 // Where the parts of the work slice begin, in words: the index of the operands (heads and nexts), a word for each operand (its group + 1, 0 for none), the table of block starts,
@@ -58,6 +59,55 @@ pub struct OperandGroup {
     pub found: bool,
     pub mapped: u32,
     pub sets: [ValueSet; 8],
+}
+
+// A group use: the slot of its operand, its class and its index.
+pub struct GroupUse {
+    pub slot: u32,
+    pub class: RegClass,
+    pub index: u32,
+}
+
+// What a use asks of its register: anything will do, a class, or a place in a group.
+pub enum Ask {
+    Any,
+    Class(RegClass),
+    Group(GroupUse),
+}
+
+fn ask_group(slot: u16, class: RegClass, index: u8) -> Ask
+    ensures { λ r. ⌜ r ≡ groupAsk slot class index ⌝ }
+{
+    Ask::Group(GroupUse {
+        slot: slot as u32,
+        class,
+        index: index as u32,
+    })
+}
+
+pub fn ask_of(kind: UseKind) -> Ask
+    ensures { λ r. ⌜ r ≡ askOf kind ⌝ }
+{
+    match kind {
+        UseKind::FixedDef { .. } => Ask::Any,
+        UseKind::FixedUse { .. } => Ask::Any,
+        UseKind::TiedUse { .. } => Ask::Any,
+        UseKind::ConstraintConflict => Ask::Any,
+        UseKind::ClassUse { slot: _, class } => Ask::Class(class),
+        UseKind::ClassDef { slot: _, class } => Ask::Class(class),
+        UseKind::GroupClassUse {
+            slot,
+            class,
+            group_index,
+        } => ask_group(slot, class, group_index),
+        UseKind::GroupClassDef {
+            slot,
+            class,
+            group_index,
+        } => ask_group(slot, class, group_index),
+        UseKind::BlockparamIn { .. } => Ask::Any,
+        UseKind::BlockparamOut => Ask::Any,
+    }
 }
 
 // A class use needs a common subclass of the class held and its own.
@@ -224,21 +274,19 @@ fn admit_group(
     wl: WorkLayout,
     held: Held,
     p: Inst,
-    slot: u32,
-    c: RegClass,
-    i: u32,
+    u: GroupUse,
 ) -> Admission
     requires { ⌜ Ready (wordCount (now job)) (wordCount (now work)) (wordsOf (now job)) (wordsOf (now work)) lay wl × (tablesEnd ol ≤ wordCount (now out)) ⌝ }
-    ensures { λ r. ⌜ ((st : State) → Stands ol (wordsOf (now (out .entry))) (wordsOf (now (job .entry))) (wordsOf (now (work .entry))) lay wl st → HasOperand (jobOf (wordsOf (now (job .entry))) lay) p slot → admissionOf r ≡ admitGroup (jobOf (wordsOf (now (job .entry))) lay) st (heldOf held) p slot c i) ⌝ }
+    ensures { λ r. ⌜ ((st : State) → Stands ol (wordsOf (now (out .entry))) (wordsOf (now (job .entry))) (wordsOf (now (work .entry))) lay wl st → HasOperand (jobOf (wordsOf (now (job .entry))) lay) p (u .slot) → admissionOf r ≡ admitGroup (jobOf (wordsOf (now (job .entry))) lay) st (heldOf held) p (u .slot) (u .class) (u .index)) ⌝ }
 {
-    let g = find_group(job, lay, work, wl, p, slot);
+    let g = find_group(job, lay, work, wl, p, u.slot);
     if g.found {
         let at = lay.classes.at;
         let count = lay.classes.n;
-        let Found::Class(k) = reginfo::common_subclass(job, at, count, held.class, c) else {
+        let Found::Class(k) = reginfo::common_subclass(job, at, count, held.class, u.class) else {
             return Admission { ok: false, held };
         };
-        return admit_into(job, lay, out, ol, held, k, i, g);
+        return admit_into(job, lay, out, ol, held, k, u.index, g);
     }
     Admission { ok: false, held }
 }
@@ -259,48 +307,9 @@ pub fn admit(
 {
     let p = u.pos;
     let kind = u.kind;
-    match kind {
-        UseKind::ClassUse { slot: _, class } => admit_class(job, lay, held, class),
-        UseKind::ClassDef { slot: _, class } => admit_class(job, lay, held, class),
-        UseKind::GroupClassUse {
-            slot,
-            class,
-            group_index,
-        } => admit_group(
-            job,
-            lay,
-            out,
-            ol,
-            work,
-            wl,
-            held,
-            p,
-            slot as u32,
-            class,
-            group_index as u32,
-        ),
-        UseKind::GroupClassDef {
-            slot,
-            class,
-            group_index,
-        } => admit_group(
-            job,
-            lay,
-            out,
-            ol,
-            work,
-            wl,
-            held,
-            p,
-            slot as u32,
-            class,
-            group_index as u32,
-        ),
-        UseKind::FixedDef { .. } => Admission { ok: true, held },
-        UseKind::FixedUse { .. } => Admission { ok: true, held },
-        UseKind::TiedUse { .. } => Admission { ok: true, held },
-        UseKind::ConstraintConflict => Admission { ok: true, held },
-        UseKind::BlockparamIn { .. } => Admission { ok: true, held },
-        UseKind::BlockparamOut => Admission { ok: true, held },
+    match ask_of(kind) {
+        Ask::Any => Admission { ok: true, held },
+        Ask::Class(c) => admit_class(job, lay, held, c),
+        Ask::Group(g) => admit_group(job, lay, out, ol, work, wl, held, p, g),
     }
 }

@@ -21,7 +21,7 @@ use Rattle.uses.specs.Rows.{useRow}
 use Rattle.layout.specs.declared.Layout.{Layout}
 use Rattle.constraints.specs.declared.Held.{Held}
 use Rattle.constraints.specs.Held.{heldOf}
-use Rattle.constraints.specs.Ready.{BackedKind, Backed}
+use Rattle.constraints.specs.Ready.{BackedAsk, Backed}
 use Rattle.scans.specs.Marked.{markedUse}
 
 module _ (K : List ℕ) (marks : ℕ) (W : List ℕ) (lay : Layout) (n w : ℕ) (u : Use) (e : w ≡ getD K (marks + n) 0) (eu : u ≡ useRow W (lay .uses .at + n * 6)) where
@@ -37,7 +37,7 @@ module _ (K : List ℕ) (marks : ℕ) (W : List ℕ) (lay : Layout) (n w : ℕ) 
 
 -- a conflict asks for no operand
 pub backed-turned : (job : Job) (u : Use) → Backed job (turnedUse u)
-unfolding Backed BackedKind
+unfolding Backed BackedAsk
 backed-turned job u = tt
 
 module _ (K : List ℕ) (marks : ℕ) (W : List ℕ) (lay : Layout) (n : ℕ) where

@@ -1,68 +1,27 @@
-use mathlib.Core.Path.{refl}
-use Rattle.constraints.proofs.Admitted.{by-class-use, by-class-def, by-group-use, by-group-def, by-other}
+use Rattle.constraints.proofs.Admitted.{by-any, by-class, by-group}
 use borrow.Author.Needs.{needs}
 use Rattle.constraints.proofs.admit.Statement.{statement}
 use Rattle.constraints.proofs.admit.Tie as tie
 
 returns : tie.Need-returns
-returns c st hs b = by-class-use _ st _ _ _ _ _ (c .before .before .kind .given .1) (c .admit-class .ensures)
+returns c st hs b = by-any _ st _ _ _ (c .before .before .ask-of .ensures) (c .enum-told .given .1)
 
 returns-2 : tie.Need-returns-2
-returns-2 c st hs b = by-class-def _ st _ _ _ _ _ (c .before .before .kind2 .given .1) (c .admit-class2 .ensures)
+returns-2 c st hs b = by-class _ st _ _ _ (c .before .before .before .before .ask-of .ensures) _ _ (c .before .before .c .given .1) (c .admit-class .ensures)
 
 returns-3 : tie.Need-returns-3
-returns-3 c st hs b = by-group-use _ st _ _ _ _ _ _ (c .before .before .kind3 .given .1) b (c .admit-group .ensures st hs)
-
-returns-4 : tie.Need-returns-4
-returns-4 c st hs b = by-group-def _ st _ _ _ _ _ _ (c .before .before .kind4 .given .1) b (c .admit-group2 .ensures st hs)
-
-returns-5 : tie.Need-returns-5
-returns-5 c st hs b = by-other _ st _ _ _ (c .enum-told .given .1) refl
-
-returns-6 : tie.Need-returns-6
-returns-6 c st hs b = by-other _ st _ _ _ (c .enum-told2 .given .1) refl
-
-returns-7 : tie.Need-returns-7
-returns-7 c st hs b = by-other _ st _ _ _ (c .enum-told3 .given .1) refl
-
-returns-8 : tie.Need-returns-8
-returns-8 c st hs b = by-other _ st _ _ _ (c .enum-told4 .given .1) refl
-
-returns-9 : tie.Need-returns-9
-returns-9 c st hs b = by-other _ st _ _ _ (c .enum-told5 .given .1) refl
-
-returns-10 : tie.Need-returns-10
-returns-10 c st hs b = by-other _ st _ _ _ (c .enum-told6 .given .1) refl
+returns-3 c st hs b = by-group _ st _ _ _ (c .before .before .before .before .ask-of .ensures) _ _ (c .before .before .g .given .1) b (c .admit-group .ensures st hs)
 
 pub admit-spec : {M : Type 1} → statement M
 admit-spec =
     tie.close
     (tie.spec
+    (λ c κs. search needs)
+    (λ c. search needs)
     (λ c. search needs)
     (λ c κs. search needs)
     (λ c. search needs)
     (λ c κs. search needs)
-    (λ c. search needs)
-    (λ c. search needs)
-    (λ c. search needs)
-    (λ c κs. search needs)
-    (λ c. search needs)
-    (λ c. search needs)
-    (λ c. search needs)
-    (λ c κs. search needs)
-    (λ c. search needs)
-    (λ c. search needs)
-    (λ c. search needs)
-    (λ c. search needs)
-    (λ c. search needs)
-    (λ c. search needs)
     returns
     returns-2
-    returns-3
-    returns-4
-    returns-5
-    returns-6
-    returns-7
-    returns-8
-    returns-9
-    returns-10)
+    returns-3)
