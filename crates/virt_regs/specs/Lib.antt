@@ -1,0 +1,5 @@
+pub mod Part
+pub mod Each
+pub mod Encoding
+pub mod Counting
+pub mod Reads
