@@ -1,0 +1,4 @@
+pub mod Typed
+pub mod Shown
+pub mod Sorted
+pub mod Weighed
