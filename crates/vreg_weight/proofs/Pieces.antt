@@ -123,13 +123,13 @@ pieces-end J ol O p n i sum h r u ps s l ins = let t = r u ps s l ins in sym (t 
 
 -- ---- the weight
 
-pub weight-is : (J : Job) (ol : OutLayout) (O : List ℕ) (p n k : ℕ) (c : RegClass) (sum w : Float) (insts r : ℕ) (d : ClassData) (o : Options)
+pub weight-is : (J : Job) (ol : OutLayout) (O : List ℕ) (p n : ℕ) (c : RegClass) (sum w : Float) (insts r : ℕ) (d : ClassData) (o : Options)
     → ((u : ℕ) (ps : List Piece) → Shown ol O p u ps → length ps ≡ n → Inside J (usesOf (segsOf ps)) → sum ≡ sumSegs J zeroF (segsOf ps))
     → (1 ≤ rangeInsts (rowsAt rangeAt O (segBase ol + p * 7) 7 n) → rangeInsts (rowsAt rangeAt O (segBase ol + p * 7) 7 n) ≤ 4096 → insts ≡ rangeInsts (rowsAt rangeAt O (segBase ol + p * 7) 7 n))
     → o ≡ J .options → d ≡ classAt J c → w ≡ weightFrom sum insts (o .adjust) (d .spillslots) → r ≡ toBits binary32 w → ofBits binary32 r ≡ w
     → (u : ℕ) (ps : List Piece) → Shown ol O p u ps → length ps ≡ n → Inside J (usesOf (segsOf ps)) → 1 ≤ liveInsts (segsOf ps) → liveInsts (segsOf ps) ≤ 4096
     → BitsOf r (weightOf J c (segsOf ps))
-weight-is J ol O p n k c sum w insts r d o es ei eo ed ew er eb u ps s l ins lo hi =
+weight-is J ol O p n c sum w insts r d o es ei eo ed ew er eb u ps s l ins lo hi =
     let t : rangeInsts (rowsAt rangeAt O (segBase ol + p * 7) 7 n) ≡ liveInsts (segsOf ps) =
     ap (λ (m : ℕ). rangeInsts (rowsAt rangeAt O (segBase ol + p * 7) 7 m)) (sym l) ∙ shown-insts ol O p u ps s in
     let m : insts ≡ liveInsts (segsOf ps) = ei (omega arith) (omega arith) ∙ t in
