@@ -27,8 +27,9 @@ ghost use Rattle.definition.specs.Place.{leastWeight, usesOf, segsOf};
 ghost use Rattle.floats.specs.Nonneg.{nonneg};
 ghost use Rattle.uses.specs.Rows.{usesAt};
 ghost use Rattle.live_insts.specs.Ranges.{rangeAt, rangeInsts};
-ghost use Rattle.virt_regs.specs.Encoding.{tablesEnd, Weighs, Holds};
+ghost use Rattle.virt_regs.specs.Encoding.{tablesEnd, Weighs};
 ghost use Rattle.vreg_weight.specs.Shown.{Shown, FirstShown};
+ghost use Rattle.vreg_weight.specs.Members.{Members};
 ghost use Rattle.vreg_weight.specs.Weighed.{jobIn, Weighable, Inside, BitsOf, lesserAt};
 
 // The sum with the costs of n uses whose rows stand from word `at` on. The block of the use before is tried first.
@@ -152,7 +153,7 @@ pub fn lesser_at(out: &[u8], ol: OutLayout, m: u32, w: u32) -> u32
 // The same for place j of group g; place i is left out.
 pub fn lesser_other(out: &[u8], ol: OutLayout, g: VirtRegGroup, i: usize, j: usize, w: u32) -> u32
     requires { ⌜ (tablesEnd ol ≤ wordCount (now out)) × (g .0 < ol .groups) × (j < 8) × (w ≤ 0x7f80_0000) ⌝ }
-    ensures { λ r. ⌜ (r ≤ 0x7f80_0000) × ((st : State) → Holds ol (wordsOf (now (out .entry))) st → g .0 < length (st .groups) → ofBits binary32 r ≡ lesserAt st i j (getD (membersAt st g) j none) (ofBits binary32 w)) ⌝ }
+    ensures { λ r. ⌜ (r ≤ 0x7f80_0000) × ((st : State) → Members ol (wordsOf (now (out .entry))) st g → ofBits binary32 r ≡ lesserAt st i j (getD (membersAt st g) j none) (ofBits binary32 w)) ⌝ }
 {
     if i == j {
         return w;
@@ -163,7 +164,7 @@ pub fn lesser_other(out: &[u8], ol: OutLayout, g: VirtRegGroup, i: usize, j: usi
 // The bits of the least of w and the weights of group g's members at other places than i.
 pub fn least_weight(out: &[u8], ol: OutLayout, g: VirtRegGroup, i: usize, w: u32) -> u32
     requires { ⌜ (tablesEnd ol ≤ wordCount (now out)) × (g .0 < ol .groups) × (w ≤ 0x7f80_0000) ⌝ }
-    ensures { λ r. ⌜ (r ≤ 0x7f80_0000) × ((st : State) → Holds ol (wordsOf (now (out .entry))) st → g .0 < length (st .groups) → BitsOf r (leastWeight st i 0 (membersAt st g) (ofBits binary32 w))) ⌝ }
+    ensures { λ r. ⌜ (r ≤ 0x7f80_0000) × ((st : State) → Members ol (wordsOf (now (out .entry))) st g → BitsOf r (leastWeight st i 0 (membersAt st g) (ofBits binary32 w))) ⌝ }
 {
     let mut least = w;
     let mut j: usize = 0;
