@@ -37,20 +37,26 @@ lesser-past ol O m w h l = (h, λ e. refl, λ v x e k b q. absurd (omega arith))
 
 pub lesser-over : (ol : OutLayout) (O : List ℕ) (m w b : ℕ) → w ≤ 0x7f80_0000 → b ≡ getD O ((m - 1) * 8 + 2) 0 → 0x7f80_0000 < b → Lesser ol O m w w
 unfolding Weighs
-lesser-over ol O m w b h e l =
-    (h, λ z. refl, λ v x em k f q.
-    let n : m - 1 ≡ v .0 = omega arith in
-    let g : b ≡ toBits binary32 x = e ∙ ap (λ (i : ℕ). getD O (i * 8 + 2) 0) n ∙ f in
-    absurd (omega (arith, q .1)))
+lesser-over ol O m w b h e l = (
+  h,
+  λ z. refl,
+  λ v x em k f q.
+      let n : m - 1 ≡ v .0 = omega arith in
+      let g : b ≡ toBits binary32 x = e ∙ ap (λ (i : ℕ). getD O (i * 8 + 2) 0) n ∙ f in
+      absurd (omega (arith, q .1)),
+)
 
 pub lesser-found : (ol : OutLayout) (O : List ℕ) (m w b r : ℕ) → (m ≡ 0 → ⊥) → b ≡ getD O ((m - 1) * 8 + 2) 0
     → (ofBits binary32 r ≡ minF (ofBits binary32 w) (ofBits binary32 b)) → r ≤ 0x7f80_0000 → Lesser ol O m w r
 unfolding Weighs
-lesser-found ol O m w b r z e f h =
-    (h, λ e. absurd (z e), λ v x em k g q.
-    let n : m - 1 ≡ v .0 = omega arith in
-    let d : ofBits binary32 b ≡ x = ap (ofBits binary32) (e ∙ ap (λ (i : ℕ). getD O (i * 8 + 2) 0) n ∙ g) ∙ q .0 in
-    f ∙ ap (λ (y : Float). minF (ofBits binary32 w) y) d)
+lesser-found ol O m w b r z e f h = (
+  h,
+  λ e. absurd (z e),
+  λ v x em k g q.
+      let n : m - 1 ≡ v .0 = omega arith in
+      let d : ofBits binary32 b ≡ x = ap (ofBits binary32) (e ∙ ap (λ (i : ℕ). getD O (i * 8 + 2) 0) n ∙ g) ∙ q .0 in
+      f ∙ ap (λ (y : Float). minF (ofBits binary32 w) y) d,
+)
 
 -- ---- place j of a group
 
@@ -96,19 +102,24 @@ pub least-start : (ol : OutLayout) (O : List ℕ) (g : VirtRegGroup) (i w : ℕ)
 least-start ol O g i w h = (h, omega arith, λ st p. refl)
 
 pub least-next : (ol : OutLayout) (O : List ℕ) (g : VirtRegGroup) (i w least j r : ℕ) → j < 8 → Leasting ol O g i w least j → LesserOther ol O g i j least r → Leasting ol O g i w r (j + 1)
-least-next ol O g i w least j r h s t =
-    (t .0, omega arith, λ st p.
-    s .2 st p
-    ∙ least-step st i j j (membersAt st g) (ofBits binary32 least)
-    ∙ ap (λ (x : Float). leastWeight st i (suc j) (drop (suc j) (membersAt st g)) x) (sym (t .1 st p))
-    ∙ ap (λ (k : ℕ). leastWeight st i k (drop k (membersAt st g)) (ofBits binary32 r)) (sym (add-one j)))
+least-next ol O g i w least j r h s t = (
+  t .0,
+  omega arith,
+  λ st p.
+      s .2 st p
+      ∙ least-step st i j j (membersAt st g) (ofBits binary32 least)
+      ∙ ap (λ (x : Float). leastWeight st i (suc j) (drop (suc j) (membersAt st g)) x) (sym (t .1 st p))
+      ∙ ap (λ (k : ℕ). leastWeight st i k (drop k (membersAt st g)) (ofBits binary32 r)) (sym (add-one j)),
+)
 
 pub least-end : (ol : OutLayout) (O : List ℕ) (g : VirtRegGroup) (i w least j : ℕ) → 8 ≤ j → Leasting ol O g i w least j
     → (least ≤ 0x7f80_0000) × ((st : State) → Members ol O st g → BitsOf least (leastWeight st i 0 (membersAt st g) (ofBits binary32 w)))
 unfolding leastWeight
-least-end ol O g i w least j h s =
-    (s .0, λ st p.
-    let d : drop j (membersAt st g) ≡ [] = drop-of-length-le (membersAt st g) {i = j} (omega (arith, p .size)) in
-    let e : leastWeight st i 0 (membersAt st g) (ofBits binary32 w) ≡ ofBits binary32 least =
-    s .2 st p ∙ ap (λ (ms : List (Option VirtReg)). leastWeight st i j ms (ofBits binary32 least)) d in
-    (sym (bits-back least (s .0)) ∙ ap (toBits binary32) (sym e), sym e))
+least-end ol O g i w least j h s = (
+  s .0,
+  λ st p.
+      let d : drop j (membersAt st g) ≡ [] = drop-of-length-le (membersAt st g) {i = j} (omega (arith, p .size)) in
+      let e : leastWeight st i 0 (membersAt st g) (ofBits binary32 w) ≡ ofBits binary32 least =
+      s .2 st p ∙ ap (λ (ms : List (Option VirtReg)). leastWeight st i j ms (ofBits binary32 least)) d in
+      (sym (bits-back least (s .0)) ∙ ap (toBits binary32) (sym e), sym e),
+)

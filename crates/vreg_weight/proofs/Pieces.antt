@@ -37,23 +37,27 @@ Adds J ol O i sum x = (u : ℕ) (q : Piece) (ps : List Piece) → FirstShown ol 
 -- no piece has uses past the table
 pub piece-over : (J : Job) (ol : OutLayout) (O : List ℕ) (i : ℕ) (sum : Float) (row : PieceRow) → T (nonneg sum) → row ≡ pieceIn O (segBase ol + i * 7) → ol .uses < row .first + row .uses
     → T (nonneg sum) × Adds J ol O i sum sum
-piece-over J ol O i sum row h e l =
-    (h, λ u q ps f p.
-    let a : row .first ≡ u = ap (λ (x : PieceRow). x .first) (e ∙ f .row) in
-    let b : row .uses ≡ length (q .seg .uses) = ap (λ (x : PieceRow). x .uses) (e ∙ f .row) in
-    absurd (omega (arith, f .fit)))
+piece-over J ol O i sum row h e l = (
+  h,
+  λ u q ps f p.
+      let a : row .first ≡ u = ap (λ (x : PieceRow). x .first) (e ∙ f .row) in
+      let b : row .uses ≡ length (q .seg .uses) = ap (λ (x : PieceRow). x .uses) (e ∙ f .row) in
+      absurd (omega (arith, f .fit)),
+)
 
 pub piece-sum : (J : Job) (ol : OutLayout) (O : List ℕ) (i : ℕ) (sum x : Float) (rm : Remat) (row : PieceRow) → row ≡ pieceIn O (segBase ol + i * 7) → rm ≡ valueAt J (row .value) .remat
     → T (nonneg x) × (Inside J (usesAt O (useBase ol + row .first * 6) (row .uses)) → x ≡ sumUses J rm sum (usesAt O (useBase ol + row .first * 6) (row .uses)))
     → T (nonneg x) × Adds J ol O i sum x
-piece-sum J ol O i sum x rm row e er s =
-    (s .0, λ u q ps f p.
-    let k : row ≡ pieceRow u q = e ∙ f .row in
-    let us : usesAt O (useBase ol + row .first * 6) (row .uses) ≡ q .seg .uses = ap (λ (y : PieceRow). usesAt O (useBase ol + y .first * 6) (y .uses)) k ∙ f .own in
-    let rv : rm ≡ valueAt J (q .seg .value) .remat = er ∙ ap (λ (y : PieceRow). valueAt J (y .value) .remat) k in
-    s .1 (subst (λ (l : List Use). Inside J l) (sym us) p)
-    ∙ ap (λ (l : List Use). sumUses J rm sum l) us
-    ∙ ap (λ (y : Remat). sumUses J y sum (q .seg .uses)) rv)
+piece-sum J ol O i sum x rm row e er s = (
+  s .0,
+  λ u q ps f p.
+      let k : row ≡ pieceRow u q = e ∙ f .row in
+      let us : usesAt O (useBase ol + row .first * 6) (row .uses) ≡ q .seg .uses = ap (λ (y : PieceRow). usesAt O (useBase ol + y .first * 6) (y .uses)) k ∙ f .own in
+      let rv : rm ≡ valueAt J (q .seg .value) .remat = er ∙ ap (λ (y : PieceRow). valueAt J (y .value) .remat) k in
+      s .1 (subst (λ (l : List Use). Inside J l) (sym us) p)
+      ∙ ap (λ (l : List Use). sumUses J rm sum l) us
+      ∙ ap (λ (y : Remat). sumUses J y sum (q .seg .uses)) rv,
+)
 
 -- ---- the pieces behind the first i
 
