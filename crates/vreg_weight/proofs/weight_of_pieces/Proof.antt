@@ -1,3 +1,4 @@
+use native.Mathlib.Omega.{arith}
 use mathlib.Core.Path.{_∙_}
 use Rattle.vreg_weight.proofs.Sums.{options-are, adjust-small}
 use Rattle.vreg_weight.proofs.Pieces.{weight-is}
@@ -6,7 +7,7 @@ use Rattle.vreg_weight.proofs.weight_of_pieces.Statement.{statement}
 use Rattle.vreg_weight.proofs.weight_of_pieces.Tie as tie
 
 sum-pieces-requires : tie.Need-sum-pieces-requires
-sum-pieces-requires c κs = let s = c .before .before .before .before in (s .pre .0, s .pre .1, s .pre .2, c .options-at .ensures ∙ options-are _ _)
+sum-pieces-requires c κs = let s = c .before .before .before .before in (s .pre .0, s .pre .1, omega (arith, s .pre .2), c .options-at .ensures ∙ options-are _ _)
 
 weight-requires : tie.Need-weight-requires
 weight-requires c κs =
