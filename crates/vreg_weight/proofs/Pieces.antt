@@ -24,11 +24,11 @@ use Rattle.uses.specs.Rows.{usesAt}
 use Rattle.live_insts.specs.Ranges.{rangeAt, rangeInsts}
 use Rattle.virt_regs.specs.declared.OutLayout.{OutLayout}
 use Rattle.virt_regs.specs.declared.PieceRow.{PieceRow}
-use Rattle.virt_regs.specs.Each.{Each}
 use Rattle.virt_regs.specs.Encoding.{segBase, useBase, pieceRow}
 use Rattle.virt_regs.specs.Reads.{pieceIn}
 use Rattle.vreg_weight.specs.Shown.{Shown, FirstShown, shown-first, shown-insts}
 use Rattle.vreg_weight.specs.Weighed.{Inside, BitsOf}
+use Rattle.vreg_weight.specs.Sound.{each-left, each-right}
 
 -- what a piece adds
 abbrev pub Adds : Job → OutLayout → List ℕ → ℕ → Float → Float → Type 0
@@ -60,16 +60,6 @@ piece-sum J ol O i sum x rm row e er s = (
 )
 
 -- ---- the pieces behind the first i
-
-each-left : {A : Type 0} (P : A → Type 0) (l r : List A) → Each P (l ++ r) → Each P l
-unfolding Each
-each-left P [] r p = tt
-each-left P (a ∷ l) r p = (p .0, each-left P l r (p .1))
-
-each-right : {A : Type 0} (P : A → Type 0) (l r : List A) → Each P (l ++ r) → Each P r
-unfolding Each
-each-right P [] r p = p
-each-right P (a ∷ l) r p = each-right P l r (p .1)
 
 pub record Rest (J : Job) (ol : OutLayout) (O : List ℕ) (p n : ℕ) (ps : List Piece) (sum : Float) (i : ℕ) : Type 0 where
   pub first : ℕ

@@ -3,3 +3,5 @@ pub mod Shown
 pub mod Sorted
 pub mod Weighed
 pub mod Members
+pub mod Sound
+pub mod Fair

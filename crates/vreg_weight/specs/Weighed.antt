@@ -1,10 +1,11 @@
 -- What a weight is made from: a job's tables, the table of block starts, uses of the job's instructions. Assumes nothing.
-use mathlib.Core.Path.{_≡_}
+use mathlib.Core.Path.{_≡_, sym, ap, _∙_}
 use mathlib.Core.Bool.{cond}
 use mathlib.Core.Option.{Option, none, some}
 use mathlib.Core.List.{List}
 use lib.Dec.{eqb}
 use Prim.Native.Nat.{ℕ, _+_, _*_, _≤_, _<_}
+use native.Mathlib.Omega.{arith}
 use lib.Ieee.{Float, binary32, toBits, ofBits}
 use Rattle.words.specs.Words.{wordCount, wordsOf}
 use Rattle.definition.specs.declared.Use.{Use}
@@ -19,6 +20,7 @@ use Rattle.layout.specs.Layout.{Fits}
 use Rattle.job.specs.Job.{jobOf}
 use Rattle.use_costs.specs.Book.{SmallBook}
 use Rattle.virt_regs.specs.Each.{Each}
+use Rattle.virt_regs.specs.Encoding.{Weighs}
 
 -- the job in a slice
 abbrev pub jobIn : List ℕ → Layout → Job
@@ -40,6 +42,10 @@ Inside J us = Each (λ u. u .pos .0 < instsOf (J .blocks)) us
 -- the bits of a weight, which is no NaN and not negative
 abbrev pub BitsOf : ℕ → Float → Type 0
 BitsOf r w = (r ≡ toBits binary32 w) × (ofBits binary32 r ≡ w)
+
+pub bits-weigh : (r : ℕ) (w : Float) → r ≤ 0x7f80_0000 → BitsOf r w → Weighs w
+unfolding Weighs
+bits-weigh r w h b = (ap (ofBits binary32) (sym (b .0)) ∙ b .1, omega (arith, b .0))
 
 -- one place of a group: the lesser of w and its member's weight; place i is left out
 unfoldable pub lesserAt : State → ℕ → ℕ → Option VirtReg → Float → Float
