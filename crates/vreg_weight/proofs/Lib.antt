@@ -2,3 +2,4 @@ pub mod Sums
 pub mod Pieces
 pub mod Insts
 pub mod Least
+pub mod Ready

@@ -9,7 +9,8 @@ use lib.ListN.{length, length-append}
 use borrow.Author.Tests.{ltb-false, leb-true, leb-false, lt-ltb}
 use Rattle.definition.specs.declared.LiveRangePoint.{LiveRangePoint}
 use Rattle.definition.specs.declared.Use.{Use}
-use Rattle.definition.specs.Types.{Job, Piece}
+use Rattle.definition.specs.Types.{Job, Piece, Segment}
+use Rattle.definition.specs.Build.{asOwn}
 use Rattle.definition.specs.LiveRange.{liveInsts}
 use Rattle.definition.specs.Place.{usesOf, segsOf, firstFrom, lastTo, overlaps, inserted}
 use Rattle.virt_regs.specs.Each.{Each, each-append}
@@ -26,6 +27,23 @@ pub record Fair (J : Job) (m : ℕ) (ps : List Piece) : Type 0 where
 pub fair-insts : (J : Job) (m : ℕ) (ps : List Piece) → Fair J m ps → (1 ≤ liveInsts (segsOf ps)) × (liveInsts (segsOf ps) ≤ m)
 fair-insts J m [] f = absurd (omega (arith, f .filled))
 fair-insts J m (p ∷ ps) f = (insts-least m (p .seg) (segsOf ps) (f .sorted), insts-most m (segsOf (p ∷ ps)) (f .sorted))
+
+-- pieces made of segments
+own-segs : (ss : List Segment) → segsOf (asOwn ss) ≡ ss
+own-segs [] = refl
+own-segs (s ∷ ss) = ap (λ (l : List Segment). s ∷ l) (own-segs ss)
+
+own-length : (ss : List Segment) → length (asOwn ss) ≡ length ss
+own-length [] = refl
+own-length (s ∷ ss) = ap suc (own-length ss)
+
+pub fair-own : (J : Job) (m : ℕ) (ss : List Segment) → Each (Sound J) (usesOf ss) → Sorted 0 m ss → 0 < length ss → Fair J m (asOwn ss)
+fair-own J m ss u s l =
+    record {
+      sound = subst (λ (x : List Segment). Each (Sound J) (usesOf x)) (sym (own-segs ss)) u;
+      sorted = subst (λ (x : List Segment). Sorted 0 m x) (sym (own-segs ss)) s;
+      filled = omega (arith, own-length ss);
+    }
 
 -- ---- merged pieces are sorted
 
