@@ -92,18 +92,10 @@ pub fn use_cost(job: &[u8], lay: Layout, kind: UseKind) -> f32
         UseKind::FixedUse { reg } => spill_weight::fixed_cost(in_memory(job, lay, reg)),
         UseKind::TiedUse { .. } => 0.5,
         UseKind::ConstraintConflict => 0.5,
-        UseKind::ClassUse { slot, class } => class_cost(job, lay, class),
-        UseKind::ClassDef { slot, class } => class_cost(job, lay, class),
-        UseKind::GroupClassUse {
-            slot,
-            class,
-            group_index,
-        } => class_cost(job, lay, class),
-        UseKind::GroupClassDef {
-            slot,
-            class,
-            group_index,
-        } => class_cost(job, lay, class),
+        UseKind::ClassUse { class, .. } => class_cost(job, lay, class),
+        UseKind::ClassDef { class, .. } => class_cost(job, lay, class),
+        UseKind::GroupClassUse { class, .. } => class_cost(job, lay, class),
+        UseKind::GroupClassDef { class, .. } => class_cost(job, lay, class),
         UseKind::BlockparamIn { .. } => 0.0,
         UseKind::BlockparamOut => 0.0,
     }
