@@ -1,15 +1,14 @@
 -- What the entry rules say of an accepted job's words. Assumes nothing.
-use mathlib.Core.Path.{_≡_, refl, sym, ap, _∙_, subst}
+use mathlib.Core.Path.{_≡_, refl, _∙_, subst}
 use mathlib.Core.Bool.{Bool, true, false}
 use mathlib.Core.Option.{none}
 use mathlib.Core.List.{List}
 use Prim.Native.Nat.{ℕ, _+_, _*_, _≤_, _<_}
-use native.Mathlib.Omega.{arith}
-use lib.Dec.{T, leb}
+use lib.Dec.{T}
 use lib.ListN.{length, getD}
-use lib.Ieee.{Float, binary32, ofBits}
+use lib.Ieee.{binary32, ofBits}
 use borrow.Author.Tests.{leb-true}
-use Rattle.rows.specs.RowsAt.{rowsAt, getD-rows-at}
+use Rattle.rows.specs.RowsAt.{getD-rows-at}
 use Rattle.definition.specs.declared.ClassData.{ClassData}
 use Rattle.definition.specs.Types.{Job, cls}
 use Rattle.definition.specs.RegInfo.{noClass, classAt}

@@ -1,11 +1,11 @@
 -- Laws that the code is proved by. Assumes nothing.
 use mathlib.Core.Path.{_≡_, refl, sym, ap, _∙_, subst}
-use mathlib.Core.Bool.{Bool, true, false, cond}
+use mathlib.Core.Bool.{Bool, false}
 use mathlib.Core.List.{List, [], _∷_}
 use Prim.Native.Nat.{ℕ, zero, suc, _+_, _*_, _≤_, _<_}
 use native.Mathlib.Nat.{mul-one}
 use native.Mathlib.Omega.{arith}
-use lib.Dec.{T, leb}
+use lib.Dec.{T}
 use lib.ListN.{length, getD}
 use lib.Ieee.{Float, binary32, ofBits}
 use borrow.Author.Tests.{le-leb}
@@ -17,10 +17,9 @@ use Rattle.definition.specs.declared.ClassData.{ClassData}
 use Rattle.definition.specs.declared.ValueData.{ValueData}
 use Rattle.definition.specs.declared.BlockData.{BlockData}
 use Rattle.definition.specs.declared.UseKind.{UseKind}
-use Rattle.definition.specs.declared.Remat.{Remat}
 use Rattle.definition.specs.declared.Remat.the-variants.{Never}
 use Rattle.definition.specs.Types.{Job}
-use Rattle.definition.specs.RegInfo.{zeroF, noClass, noValue, classAt, valueAt}
+use Rattle.definition.specs.RegInfo.{noClass, noValue, classAt, valueAt}
 use Rattle.definition.specs.Uses.{costOf, halfF}
 use Rattle.definition.specs.Entry.{instsOf, plain, small}
 use Rattle.floats.proofs.Bits.{small-test, bits-plain}

@@ -1,7 +1,7 @@
 -- `count_insts`: the count of `live_insts` as long as it is at most 4096. Assumes nothing.
-use mathlib.Core.Path.{_≡_, sym}
+use mathlib.Core.Path.{_≡_, refl}
 use mathlib.Core.List.{List}
-use Prim.Native.Nat.{ℕ, _+_, _-_, _*_, _≤_, _<_}
+use Prim.Native.Nat.{ℕ, zero, suc, _+_, _-_, _*_, _≤_, _<_}
 use native.Mathlib.Omega.{arith}
 use Rattle.rows.specs.RowsAt.{rowsAt}
 use Rattle.definition.specs.declared.Inst.{Inst}
@@ -25,5 +25,5 @@ pub count-all : {W : List ℕ} {at n i sum : ℕ} {counted : Inst} → Counting 
 count-all {sum = sum} l h z m = (positive sum z, m, λ lo hi. count-done l h)
   where
     positive : (k : ℕ) → (k ≡ 0 → ⊥) → 1 ≤ k
-    positive Prim.Native.Nat.zero z = absurd (z mathlib.Core.Path.refl)
-    positive (Prim.Native.Nat.suc k) z = omega arith
+    positive zero z = absurd (z refl)
+    positive (suc k) z = omega arith

@@ -1,13 +1,11 @@
 -- `lesser_at`, `lesser_other` and the loop of `least_weight`. Assumes nothing.
-use mathlib.Core.Path.{_≡_, refl, sym, ap, _∙_, subst}
-use mathlib.Core.Bool.{Bool, true, false, cond}
+use mathlib.Core.Path.{_≡_, refl, sym, ap, _∙_}
 use mathlib.Core.Option.{Option, none, some}
 use mathlib.Core.List.{List, [], _∷_}
 use Prim.Native.Nat.{ℕ, zero, suc, _+_, _-_, _*_, _≤_, _<_}
 use native.Mathlib.Numerals.{add-one}
 use native.Mathlib.Omega.{arith}
-use lib.Dec.{eqb}
-use lib.ListN.{length, getD, drop, drop-of-length-le}
+use lib.ListN.{getD, drop, drop-of-length-le}
 use lib.Ieee.{Float, binary32, toBits, ofBits}
 use borrow.Author.Tests.{eq-eqb, ne-eqb}
 use Rattle.definition.specs.declared.VirtReg.{VirtReg}

@@ -1,7 +1,7 @@
 -- `sum_piece`, the loop of `sum_pieces`, and the weight. Assumes nothing.
 use mathlib.Core.Path.{_≡_, refl, sym, ap, _∙_, subst}
-use mathlib.Core.List.{List, [], _∷_, _++_}
-use Prim.Native.Nat.{ℕ, suc, _+_, _-_, _*_, _≤_, _<_}
+use mathlib.Core.List.{List, [], _∷_}
+use Prim.Native.Nat.{ℕ, _+_, _-_, _*_, _≤_, _<_}
 use native.Mathlib.Omega.{arith}
 use lib.Dec.{T}
 use lib.ListN.{length}
@@ -12,7 +12,7 @@ use Rattle.definition.specs.declared.Options.{Options}
 use Rattle.definition.specs.declared.RegClass.{RegClass}
 use Rattle.definition.specs.declared.Remat.{Remat}
 use Rattle.definition.specs.declared.Use.{Use}
-use Rattle.definition.specs.Types.{Job, Piece, Segment}
+use Rattle.definition.specs.Types.{Job, Piece}
 use Rattle.definition.specs.RegInfo.{zeroF, classAt, valueAt}
 use Rattle.definition.specs.LiveRange.{liveInsts}
 use Rattle.definition.specs.Weights.{sumUses, sumSegs, weightOf}

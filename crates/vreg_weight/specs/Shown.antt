@@ -1,17 +1,17 @@
 -- A run of pieces that stands in the result tables, with its uses. Assumes nothing.
-use mathlib.Core.Path.{_≡_, refl, sym, ap, _∙_, subst}
+use mathlib.Core.Path.{_≡_, refl, sym, ap, _∙_}
 use mathlib.Core.List.{List, [], _∷_, _++_, map}
 use Prim.Native.Nat.{ℕ, suc, _+_, _-_, _*_, _≤_, _<_}
-use native.Mathlib.Nat.{zero-add, add-zero}
+use native.Mathlib.Nat.{add-zero}
 use native.Mathlib.Omega.{arith}
 use lib.ListN.{length, getD, take, drop, length-append, List·getD-append}
 use lib.Seq.{split-at, take-at, drop-at, getD-append-add}
-use Rattle.rows.specs.Parts.{splice, pad, pad-getD, getD-past, getD-splice-in}
+use Rattle.rows.specs.Parts.{splice, pad-getD, getD-past, getD-splice-in}
 use Rattle.rows.specs.Rows.{rowsOf, rows-append}
 use Rattle.rows.specs.RowsAt.{rowsAt, rows-at-cons, rows-at-append, rows-at-ext, length-rows-at, map-rows-at}
 use Rattle.definition.specs.declared.Use.{Use}
 use Rattle.definition.specs.declared.VirtReg.{VirtReg}
-use Rattle.definition.specs.Types.{Segment, Piece, Register, State, val, point}
+use Rattle.definition.specs.Types.{Piece, Register, State, val, point}
 use Rattle.definition.specs.LiveRange.{liveInsts}
 use Rattle.definition.specs.Admit.{registerAt, noRegister}
 use Rattle.definition.specs.Place.{total, usesOfPieces, usesOf, segsOf}

@@ -1,25 +1,25 @@
 -- Sorted pieces touch at least one instruction and no more than there are. Assumes nothing.
-use Prim.Native.Nat.{ℕ, _+_, _-_, _*_, _≤_, _<_}
-use mathlib.Core.Path.{_≡_, refl, sym, subst}
+use Prim.Native.Nat.{ℕ, _-_, _*_, _≤_, _<_}
+use mathlib.Core.Path.{_≡_, refl}
 use mathlib.Core.Bool.{Bool, true, false}
 use mathlib.Core.Option.{none}
 use mathlib.Core.List.{List, [], _∷_, map}
 use native.Mathlib.Omega.{arith}
 use lib.Dec.{leb, ltb}
 use lib.ListN.{length}
-use borrow.Author.Tests.{ltb-true, ltb-false, leb-true, leb-false}
+use borrow.Author.Tests.{ltb-true, leb-true, leb-false}
 use Rattle.definition.specs.declared.Hint.{Hint}
 use Rattle.definition.specs.declared.Inst.{Inst}
 use Rattle.definition.specs.Types.{Segment, Job}
 use Rattle.definition.specs.Cuts.{leftCut, leftOf, rightCut, rightOf}
 use Rattle.definition.specs.Build.{turnAt, runs, sameSet}
-use Rattle.definition.specs.Entry.{insts, every, segmentOk, segmentTests, segmentsOk, entry, entryTests}
+use Rattle.definition.specs.Entry.{insts, segmentOk, segmentTests, segmentsOk, entry, entryTests}
 use Rattle.definition.specs.LiveRange.{touched, liveInsts}
 use Rattle.definition.proofs.Fits.{SegsFit}
 use Rattle.definition.proofs.Entries.{and-both, conj-all, every-all, lowest-none, accepted-fit}
 use Rattle.definition.proofs.Places.{All, all-map}
 use Rattle.definition.proofs.Runs.{runs-all}
-use Rattle.live_insts.specs.Ranges.{rangeOf, rangeInsts}
+use Rattle.live_insts.specs.Ranges.{rangeOf}
 use Rattle.live_insts.specs.Laws.{RangesFit, ranges-within, live-insts-ranges}
 use Rattle.virt_regs.specs.Each.{Each}
 

@@ -1,11 +1,9 @@
 -- Uses that fit their types and are of an instruction of the job: the job's own, those that turns and cuts leave, and block parameters. Assumes nothing.
-use mathlib.Core.Path.{_≡_, refl, sym, ap, _∙_, subst}
-use mathlib.Core.Bool.{Bool, true, false}
+use mathlib.Core.Path.{_≡_, sym, subst}
+use mathlib.Core.Bool.{true}
 use mathlib.Core.Option.{none}
 use mathlib.Core.List.{List, [], _∷_, _++_}
-use Prim.Native.Nat.{ℕ, zero, suc, _+_, _-_, _*_, _≤_, _<_}
-use native.Mathlib.Omega.{arith}
-use lib.Dec.{ltb}
+use Prim.Native.Nat.{ℕ, zero, suc, _+_, _*_, _<_}
 use borrow.Author.Tests.{ltb-true}
 use Rattle.rows.specs.Tab.{tab}
 use Rattle.rows.specs.RowsAt.{rowsAt}

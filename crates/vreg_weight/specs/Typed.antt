@@ -1,5 +1,5 @@
 -- Uses whose fields fit their UseKind types: such a use is read back from its row. Assumes nothing.
-use mathlib.Core.Path.{_≡_, refl, ap, _∙_}
+use mathlib.Core.Path.{_≡_, refl, sym, ap, _∙_}
 use mathlib.Core.Bool.{Bool, true, false}
 use mathlib.Core.List.{List}
 use Prim.Native.Nat.{ℕ, _+_, _%_, _<_}
@@ -73,14 +73,11 @@ pos-back BlockparamOut p = refl
 pub use-back : (O : List ℕ) (a : ℕ) (u : Use) → ((j : ℕ) → j < 6 → getD O (a + j) 0 ≡ getD (useWords u) j 0) → TypedUse u → useRow O a ≡ u
 unfolding useRow TypedUse
 use-back O a u h t =
-    let w₀ : getD O a 0 ≡ field (u .kind) (u .pos .0) 0 = ap (λ (i : ℕ). getD O i 0) (sym′ (add-zero a)) ∙ h 0 (omega arith) in
+    let w₀ : getD O a 0 ≡ field (u .kind) (u .pos .0) 0 = ap (λ (i : ℕ). getD O i 0) (sym (add-zero a)) ∙ h 0 (omega arith) in
     let k : kindOf (getD O a 0) (getD O (a + 2) 0) (getD O (a + 3) 0) (getD O (a + 4) 0) (getD O (a + 5) 0) ≡ u .kind =
     rw (w₀, h 2 (omega arith), h 3 (omega arith), h 4 (omega arith), h 5 (omega arith)) (kind-back (u .kind) (u .pos .0) t) in
     let p : getD O (a + 1) 0 ≡ u .pos .0 = h 1 (omega arith) ∙ pos-back (u .kind) (u .pos .0) in
     λ x. record { pos = inst (p x); kind = k x }
-  where
-    sym′ : {x y : ℕ} → x ≡ y → y ≡ x
-    sym′ e = mathlib.Core.Path.sym e
 
 -- ---- which uses fit
 

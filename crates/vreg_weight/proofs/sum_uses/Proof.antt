@@ -1,5 +1,5 @@
 use borrow.Author.Needs.{needs}
-use Prim.Native.Nat.{_-_, _≤_}
+use Prim.Native.Nat.{_-_}
 use native.Mathlib.Omega.{arith}
 use Rattle.words.specs.Words.{wordsOf}
 use Rattle.vreg_weight.specs.Weighed.{jobIn}
