@@ -18,7 +18,7 @@ use Rattle.definition.specs.SplitPlacement.{freqAt}
 use Rattle.definition.specs.Weights.{scaled, addCost, sumUses}
 use Rattle.floats.specs.Nonneg.{nonneg}
 use Rattle.spill_weight.specs.Costs.{SmallScales}
-use Rattle.function.specs.Blocks.{Starts, blockRow, blockOf}
+use Rattle.function.specs.Blocks.{Starts, blockRow, blocksAt, blockOf}
 use Rattle.function.specs.BlockLaws.{block-holds, starts-frequency}
 use Rattle.layout.specs.declared.Layout.{Layout}
 use Rattle.layout.specs.Layout.{optionsRow}
@@ -34,6 +34,10 @@ use Rattle.vreg_weight.specs.Weighed.{Inside}
 pub blocks-long : (W : List ℕ) (lay : Layout) → length (jobOf W lay .blocks) ≡ lay .blocks .n
 unfolding jobOf jobBy
 blocks-long W lay = length-rows-at blockRow W (lay .blocks .at) 2 (lay .blocks .n)
+
+pub blocks-are : (W : List ℕ) (lay : Layout) → blocksAt W (lay .blocks .at) (lay .blocks .n) ≡ jobOf W lay .blocks
+unfolding jobOf jobBy
+blocks-are W lay = refl
 
 pub options-are : (W : List ℕ) (lay : Layout) → optionsRow W (lay .opts) ≡ jobOf W lay .options
 unfolding jobOf jobBy

@@ -16,7 +16,9 @@ use Rattle.definition.specs.Place.{usesOf, segsOf, firstFrom, lastTo, overlaps,
 use Rattle.virt_regs.specs.Each.{Each, each-append}
 use Rattle.virt_regs.specs.Counting.{uses-append}
 use Rattle.vreg_weight.specs.Sorted.{Sorted, insts-most, insts-least}
-use Rattle.vreg_weight.specs.Sound.{Sound, each-left, each-right}
+use Rattle.vreg_weight.specs.Typed.{TypedUse}
+use Rattle.vreg_weight.specs.Weighed.{Inside}
+use Rattle.vreg_weight.specs.Sound.{Sound, each-left, each-right, sound-typed, sound-inside}
 
 -- up to the Boundary behind instruction m - 1
 pub record Fair (J : Job) (m : ℕ) (ps : List Piece) : Type 0 where
@@ -27,6 +29,13 @@ pub record Fair (J : Job) (m : ℕ) (ps : List Piece) : Type 0 where
 pub fair-insts : (J : Job) (m : ℕ) (ps : List Piece) → Fair J m ps → (1 ≤ liveInsts (segsOf ps)) × (liveInsts (segsOf ps) ≤ m)
 fair-insts J m [] f = absurd (omega (arith, f .filled))
 fair-insts J m (p ∷ ps) f = (insts-least m (p .seg) (segsOf ps) (f .sorted), insts-most m (segsOf (p ∷ ps)) (f .sorted))
+
+-- what a weight asks of pieces that are shown
+pub fair-typed : (J : Job) (m : ℕ) (ps : List Piece) → Fair J m ps → Each TypedUse (usesOf (segsOf ps))
+fair-typed J m ps f = sound-typed J (usesOf (segsOf ps)) (f .sound)
+
+pub fair-inside : (J : Job) (m : ℕ) (ps : List Piece) → Fair J m ps → Inside J (usesOf (segsOf ps))
+fair-inside J m ps f = sound-inside J (usesOf (segsOf ps)) (f .sound)
 
 -- pieces made of segments
 own-segs : (ss : List Segment) → segsOf (asOwn ss) ≡ ss
