@@ -1,0 +1,5 @@
+pub mod Raised
+pub mod GapParts
+pub mod Flat
+pub mod Opened
+pub mod Merged

@@ -1,0 +1,1 @@
+// Gaps opened in the result tables for pieces that are merged into a register.
