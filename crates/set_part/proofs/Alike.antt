@@ -3,6 +3,7 @@ use mathlib.Core.Path.{_≡_, refl, sym, ap, _∙_}
 use mathlib.Core.List.{List, [], _∷_, _++_}
 use Prim.Native.Nat.{ℕ, zero, suc, _+_, _-_, _*_, _≤_, _<_}
 use native.Mathlib.Omega.{arith}
+use lib.ListN.{getD}
 use Rattle.rows.specs.Tab.{tab, tab-ext}
 use Rattle.definition.specs.declared.Use.{Use}
 use Rattle.definition.specs.Types.{Segment}
@@ -51,3 +52,9 @@ part-alike K K′ marks W lay sp ok same =
     (λ j a b.
     same j (omega (arith, first-le-bound W lay sp ok (sp .seg) (omega arith) (omega arith)))
     (omega (arith, bound-le-end W lay sp ok (sp .seg + (sp .last + 1 - sp .seg)) (omega arith) (omega arith))))
+
+-- nothing but the marks of its own uses counts
+pub part-words : (K K′ : List ℕ) (marks : ℕ) (W : List ℕ) (lay : Layout) (sp : SetPart) → PartOk W lay sp
+    → ((j : ℕ) → sp .first ≤ j → j < sp .end → getD K (marks + j) 0 ≡ getD K′ (marks + j) 0) → partSegs K marks W lay sp ≡ partSegs K′ marks W lay sp
+unfolding markedUse
+part-words K K′ marks W lay sp ok same = part-alike K K′ marks W lay sp ok (λ j a b. rw (same j a b))

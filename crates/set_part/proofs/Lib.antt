@@ -3,3 +3,4 @@ pub mod Read
 pub mod Uses
 pub mod Alike
 pub mod Whole
+pub mod Inside

@@ -4,10 +4,11 @@ use mathlib.Core.List.{List, [], _∷_, _++_}
 use Prim.Native.Nat.{ℕ, zero, suc, _+_, _-_, _*_, _≤_, _<_}
 use native.Mathlib.Nat.{add-zero}
 use native.Mathlib.Omega.{arith}
-use lib.ListN.{length}
-use Rattle.rows.specs.Tab.{tab, length-tab, tab-append, tab-done}
+use lib.ListN.{length, getD}
+use Rattle.rows.specs.Tab.{tab, length-tab, tab-append, getD-tab}
 use Rattle.definition.specs.declared.Use.{Use}
 use Rattle.definition.specs.Types.{Segment}
+use Rattle.definition.specs.Admit.{noUse, useAt}
 use Rattle.definition.specs.Place.{usesOf}
 use Rattle.layout.specs.declared.Layout.{Layout}
 use Rattle.set_part.specs.declared.SetPart.{SetPart}
@@ -41,3 +42,22 @@ part-uses K marks W lay sp ok =
     let e : sp .seg + (sp .last + 1 - sp .seg) ≡ sp .last + 1 = omega arith in
     uses-from W lay sp ok (markedUse K marks W lay) (sp .last + 1 - sp .seg) (sp .seg) (omega arith) (omega arith)
     ∙ rw (e, bound-first W lay sp, bound-end W lay sp (sp .last + 1) (omega arith) (omega arith))
+
+-- how many they are, and use n of them
+pub part-count : (K : List ℕ) (marks : ℕ) (W : List ℕ) (lay : Layout) (sp : SetPart) → PartOk W lay sp → length (usesOf (partSegs K marks W lay sp)) ≡ sp .end - sp .first
+part-count K marks W lay sp ok = ap length (part-uses K marks W lay sp ok) ∙ length-tab (markedUse K marks W lay) (sp .first) (sp .end - sp .first)
+
+pub part-use : (K : List ℕ) (marks : ℕ) (W : List ℕ) (lay : Layout) (sp : SetPart) (n : ℕ) → PartOk W lay sp → sp .first + n < sp .end
+    → useAt (usesOf (partSegs K marks W lay sp)) n ≡ markedUse K marks W lay (sp .first + n)
+part-use K marks W lay sp n ok h =
+    ap (λ (us : List Use). useAt us n) (part-uses K marks W lay sp ok) ∙ getD-tab (markedUse K marks W lay) (sp .first) (sp .end - sp .first) n noUse (omega arith)
+
+-- how many segments there are, and segment i of them
+pub part-length : (K : List ℕ) (marks : ℕ) (W : List ℕ) (lay : Layout) (sp : SetPart) → length (partSegs K marks W lay sp) ≡ sp .last + 1 - sp .seg
+unfolding partSegs
+part-length K marks W lay sp = length-tab (λ i. segBy (markedUse K marks W lay) (partRow W lay sp i)) (sp .seg) (sp .last + 1 - sp .seg)
+
+pub part-nth : (K : List ℕ) (marks : ℕ) (W : List ℕ) (lay : Layout) (sp : SetPart) (i : ℕ) (d : Segment) → sp .seg + i ≤ sp .last
+    → getD (partSegs K marks W lay sp) i d ≡ segBy (markedUse K marks W lay) (partRow W lay sp (sp .seg + i))
+unfolding partSegs
+part-nth K marks W lay sp i d h = getD-tab (λ j. segBy (markedUse K marks W lay) (partRow W lay sp j)) (sp .seg) (sp .last + 1 - sp .seg) i d (omega arith)
