@@ -1,0 +1,2 @@
+pub mod Operand
+pub mod Admitted

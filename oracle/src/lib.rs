@@ -1,0 +1,14 @@
+//! Job sheets read, tested and run through the reference pass.
+
+pub mod answer;
+pub mod cut;
+pub mod entry;
+pub mod feed;
+pub mod frames;
+pub mod job;
+pub mod make;
+pub mod print;
+pub mod run;
+pub mod sheet;
+pub mod tables;
+pub mod tally;
