@@ -68,11 +68,11 @@ own-snoc : (ss : List Segment) (s : Segment) → asOwn (ss ++ (s ∷ [])) ≡ as
 own-snoc [] s = refl
 own-snoc (t ∷ ss) s = ap (λ (l : List Piece). record { origin = Own; seg = t } ∷ l) (own-snoc ss s)
 
-own-length : (ss : List Segment) → length (asOwn ss) ≡ length ss
+pub own-length : (ss : List Segment) → length (asOwn ss) ≡ length ss
 own-length [] = refl
 own-length (s ∷ ss) = ap suc (own-length ss)
 
-own-segs : (ss : List Segment) → segsOf (asOwn ss) ≡ ss
+pub own-segs : (ss : List Segment) → segsOf (asOwn ss) ≡ ss
 own-segs [] = refl
 own-segs (s ∷ ss) = ap (λ (l : List Segment). s ∷ l) (own-segs ss)
 
