@@ -18,6 +18,16 @@ module _ {A : Type 0} (P : A → Type 0) where
   each-append [] r p q = q
   each-append (a ∷ l) r p q = (p .0, each-append l r (p .1) q)
 
+  pub each-front : (l : List A) (r : List A) → Each P (l ++ r) → Each P l
+  unfolding Each
+  each-front [] r p = tt
+  each-front (a ∷ l) r p = (p .0, each-front l r (p .1))
+
+  pub each-back : (l : List A) (r : List A) → Each P (l ++ r) → Each P r
+  unfolding Each
+  each-back [] r p = p
+  each-back (a ∷ l) r p = each-back l r (p .1)
+
   pub each-one : (a : A) → P a → Each P (a ∷ [])
   unfolding Each
   each-one a p = (p, tt)

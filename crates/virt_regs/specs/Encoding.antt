@@ -12,6 +12,8 @@ use Rattle.rows.specs.Rows.{rowsOf}
 use Rattle.definition.specs.declared.VirtReg.{VirtReg}
 use Rattle.definition.specs.declared.VirtRegGroup.{VirtRegGroup}
 use Rattle.definition.specs.declared.Use.{Use}
+use Rattle.definition.specs.declared.UseKind.{UseKind}
+use Rattle.definition.specs.declared.UseKind.the-variants.{FixedDef, FixedUse, TiedUse, ConstraintConflict, ClassUse, ClassDef, GroupClassUse, GroupClassDef, BlockparamIn, BlockparamOut}
 use Rattle.definition.specs.declared.Origin.{Origin}
 use Rattle.definition.specs.declared.Origin.the-variants.{Own, Conflict}
 use Rattle.definition.specs.Types.{Piece, Register, State, Room}
@@ -151,6 +153,22 @@ Weighs w = (ofBits binary32 (toBits binary32 w) ≡ w) × (toBits binary32 w ≤
 unfoldable pub Placed : ℕ → List (Option VirtReg) → Type 0
 Placed n ms = (length ms ≤ 8) × ((i : ℕ) (r : VirtReg) → getD ms i none ≡ some r → r .0 < n)
 
+-- the fields of a use fit their UseKind types
+unfoldable pub TypedKind : UseKind → Type 0
+TypedKind (FixedDef r) = Unit {0}
+TypedKind (FixedUse r) = Unit {0}
+TypedKind (TiedUse s d c i) = (s < 65536) × (d < 65536) × (i < 256)
+TypedKind ConstraintConflict = Unit {0}
+TypedKind (ClassUse s c) = s < 65536
+TypedKind (ClassDef s c) = s < 65536
+TypedKind (GroupClassUse s c i) = (s < 65536) × (i < 256)
+TypedKind (GroupClassDef s c i) = (s < 65536) × (i < 256)
+TypedKind (BlockparamIn q) = Unit {0}
+TypedKind BlockparamOut = Unit {0}
+
+abbrev pub Typed : Use → Type 0
+Typed u = TypedKind (u .kind)
+
 -- The words O hold the registers and groups of st, with zeros behind the rows of each table.
 pub record Holds (ol : OutLayout) (O : List ℕ) (st : State) : Type 0 where
   pub long : tablesEnd ol ≤ length O
@@ -162,5 +180,6 @@ pub record Holds (ol : OutLayout) (O : List ℕ) (st : State) : Type 0 where
   pub segments : part (segBase ol) (useBase ol) O ≡ pad (ol .segs * 7) (pieceRows 0 (allPieces (st .registers)))
   pub uses : part (useBase ol) (groupBase ol) O ≡ pad (ol .uses * 6) (useRows (usesOf (segsOf (allPieces (st .registers)))))
   pub groups : part (groupBase ol) (tablesEnd ol) O ≡ pad (ol .groups * 9) (groupRows (st .groups))
+  pub typed : Each Typed (usesOf (segsOf (allPieces (st .registers))))
   pub weights : Each (λ r. Weighs (r .weight)) (st .registers)
   pub members : Each (Placed (length (st .registers))) (st .groups)

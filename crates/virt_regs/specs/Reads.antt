@@ -186,6 +186,10 @@ module _ (ol : OutLayout) (O : List ℕ) (st : State) (h : Holds ol O st) where
       let n : length (allPieces rs) ≡ length (allPieces (take (v .0) rs)) + (length (r .pieces) + length (allPieces (drop (suc (v .0)) rs))) = ap length e ∙ simp length-append in
       omega (arith, count-pieces st)
 
+  -- its rows are rows of the table
+  pub span-in : (v : VirtReg) → v .0 < length (st .registers) → getD O (v .0 * 8 + 6) 0 + getD O (v .0 * 8 + 7) 0 ≤ ol .segs
+  span-in v l = omega (arith, first-held v l, count-held v l, pieces-in v l, h .fit-segments)
+
   -- the rows of register v's pieces
   pub segments-held : (v : VirtReg) → v .0 < length (st .registers)
       → segmentsIn ol O v ≡ pieceRows (firstUse st (firstPiece st v)) (registerAt st v .pieces)
@@ -242,6 +246,7 @@ holds-none ol n ms l =
       segments = zeros (segBase ol) (useBase ol) (ol .segs * 7) (omega arith) (omega arith);
       uses = zeros (useBase ol) (groupBase ol) (ol .uses * 6) (omega arith) (omega arith);
       groups = zeros (groupBase ol) (tablesEnd ol) (ol .groups * 9) (omega arith) (omega arith);
+      typed = each-none _;
       weights = each-none _;
       members = each-none _;
     }
@@ -264,6 +269,7 @@ holds-mapping ol O st ms h =
       segments = h .segments;
       uses = h .uses;
       groups = h .groups;
+      typed = h .typed;
       weights = h .weights;
       members = h .members;
     }

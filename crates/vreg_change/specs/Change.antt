@@ -21,33 +21,16 @@ use Rattle.definition.specs.Types.{Piece, Register, State}
 use Rattle.definition.specs.Place.{piecesIn, usesIn, usesOf, segsOf, withWeight, update, spread}
 use Rattle.definition.specs.Admit.{membersAt, noRegister}
 use Rattle.virt_regs.specs.declared.OutLayout.{OutLayout}
+use Rattle.virt_regs.specs.declared.Counts.{Counts}
 use Rattle.virt_regs.specs.Part.{part, part-set-ahead, part-set-behind, part-set-in}
 use Rattle.virt_regs.specs.Each.{Each, each-append, each-one, each-get, each-set, each-weaker}
-use Rattle.virt_regs.specs.Encoding.{segBase, useBase, groupBase, tablesEnd, placeWord, groupWords, allPieces, behind, still, eachRegister, eachGroup, registerRows, pieceRows, useRows, groupRows, countsOf, Weighs, Placed, Holds}
+use Rattle.virt_regs.specs.Encoding.{segBase, useBase, groupBase, tablesEnd, placeWord, groupWords, allPieces, behind, still, eachRegister, eachGroup, registerRows, pieceRows, useRows, groupRows, countsOf, Weighs, Placed, Typed, Holds}
+use Rattle.virt_regs.specs.Update.{update-split, length-update, each-update}
 use Rattle.virt_regs.specs.Counting.{count-pieces, count-uses, length-registers, length-groups, placed-more}
 use Rattle.virt_regs.specs.Reads.{size-held, member-held, size-le, member-lt}
 use Rattle.vreg_change.specs.Flat.{weighted, atPlace, atPlaces, memberIn, spreadIn, Spreadable}
 
 -- ---- one register changed
-
-pub update-split : (f : Register → Register) (v : ℕ) (rs : List Register) (d : Register) → v < length rs
-    → update f v rs ≡ take v rs ++ (f (getD rs v d) ∷ drop (suc v) rs)
-unfolding update
-update-split f v [] d h = absurd (omega arith)
-update-split f zero (r ∷ rs) d h = refl
-update-split f (suc v) (r ∷ rs) d h = ap (λ (l : List Register). r ∷ l) (update-split f v rs d (omega arith))
-
-pub length-update : (f : Register → Register) (v : ℕ) (rs : List Register) → length (update f v rs) ≡ length rs
-unfolding update
-length-update f v [] = refl
-length-update f zero (r ∷ rs) = refl
-length-update f (suc v) (r ∷ rs) = ap suc (length-update f v rs)
-
-pub each-update : (P : Register → Type 0) (f : Register → Register) → ((r : Register) → P r → P (f r)) → (v : ℕ) (rs : List Register) → Each P rs → Each P (update f v rs)
-unfolding update Each
-each-update P f p v [] e = tt
-each-update P f p zero (r ∷ rs) e = (p r (e .0), e .1)
-each-update P f p (suc v) (r ∷ rs) e = (e .0, each-update P f p v rs (e .1))
 
 pub all-weight : (c : RegClass) (w : Float) (v : ℕ) (rs : List Register) → allPieces (update (withWeight c w) v rs) ≡ allPieces rs
 unfolding update allPieces
@@ -106,6 +89,7 @@ holds-weighted ol O st v c w h l ww =
       segments = behind-all (segBase ol) (useBase ol) (omega arith) (omega arith) ∙ h .segments ∙ ap (λ (t : List Piece). pad (ol .segs * 7) (pieceRows 0 t)) (sym all);
       uses = behind-all (useBase ol) (groupBase ol) (omega arith) (omega arith) ∙ h .uses ∙ ap (λ (t : List Piece). pad (ol .uses * 6) (useRows (usesOf (segsOf t)))) (sym all);
       groups = behind-all (groupBase ol) (tablesEnd ol) (omega arith) (omega arith) ∙ h .groups;
+      typed = subst (λ (t : List Piece). Each Typed (usesOf (segsOf t))) (sym all) (h .typed);
       weights = each-update _ (withWeight c w) (λ r p. ww) v rs (h .weights);
       members = each-weaker _ _ (λ ms p. placed-more ms (length rs) (length (update (withWeight c w) v rs)) (omega arith) p) (st .groups) (h .members);
     }
@@ -286,6 +270,7 @@ module _ (ol : OutLayout) (O : List ℕ) (st : State) (h : Holds ol O st) where
             ∙ ap (λ (t : List ℕ). set t j x) (h .groups)
             ∙ pad-set (ol .groups * 9) (groupRows gs) j x (omega arith)
             ∙ ap (λ (t : List ℕ). pad (ol .groups * 9) t) rows;
+        typed = h .typed;
         weights = h .weights;
         members = each-set _ gs (g .0) ms′ (h .members) (placed-set ms (length (st .registers)) i r hi hr (each-get _ gs (g .0) [] (h .members) here));
       }
@@ -336,6 +321,21 @@ module _ (ol : OutLayout) (O : List ℕ) (st : State) (h : Holds ol O st) where
             ∙ ap (λ (t : List ℕ). set t j x) (pad-set (ol .groups * 9) (groupRows gs ++ Z) k n (omega arith))
             ∙ pad-set (ol .groups * 9) (set (groupRows gs ++ Z) k n) j x (omega arith)
             ∙ ap (λ (t : List ℕ). pad (ol .groups * 9) t) rows;
+        typed = h .typed;
         weights = h .weights;
         members = each-append _ gs (ms′ ∷ []) (h .members) (each-one _ ms′ (placed-set none′ (length (st .registers)) i r (omega arith) hr (placed-none n (length (st .registers)) hn)));
       }
+
+-- ---- counts
+
+pub counts-member : (st : State) (g : VirtRegGroup) (ms : List (Option VirtReg)) → countsOf (record { registers = st .registers; groups = set (st .groups) (g .0) ms; mapping = st .mapping }) ≡ countsOf st
+unfolding piecesIn usesIn
+counts-member st g ms = λ x. record { regs = length (st .registers); segs = piecesIn st; uses = usesIn st; groups = length-set (st .groups) (g .0) ms x }
+
+pub counts-group : (st : State) (c : Counts) (ms : List (Option VirtReg)) → c ≡ countsOf st
+    → record { regs = c .regs; segs = c .segs; uses = c .uses; groups = c .groups + 1 } ≡ countsOf (record { registers = st .registers; groups = st .groups ++ (ms ∷ []); mapping = st .mapping })
+unfolding piecesIn usesIn
+counts-group st c ms ec =
+    let n : length (st .groups ++ (ms ∷ [])) ≡ length (st .groups) + 1 = length-append (st .groups) (ms ∷ []) in
+    ap (λ (x : Counts). record { regs = x .regs; segs = x .segs; uses = x .uses; groups = x .groups + 1 }) ec
+    ∙ λ x. record { regs = length (st .registers); segs = piecesIn st; uses = usesIn st; groups = sym n x }

@@ -15,7 +15,7 @@ use Rattle.virt_regs.specs.declared.OutLayout.{OutLayout}
 use Rattle.virt_regs.specs.declared.Counts.{Counts}
 use Rattle.virt_regs.specs.Part.{part, length-part, part-ahead, part-behind, part-in}
 use Rattle.virt_regs.specs.Each.{Each, each-append, each-one, each-weaker}
-use Rattle.virt_regs.specs.Encoding.{segBase, useBase, groupBase, tablesEnd, registerRow, registerWords, useWords, allPieces, behind, usedBy, still, eachRegister, eachPiece, eachUse, registerRows, pieceRows, useRows, countsOf, Weighs, Placed, Holds}
+use Rattle.virt_regs.specs.Encoding.{segBase, useBase, groupBase, tablesEnd, registerRow, registerWords, useWords, allPieces, behind, usedBy, still, eachRegister, eachPiece, eachUse, registerRows, pieceRows, useRows, countsOf, Weighs, Typed, Holds}
 use Rattle.virt_regs.specs.Counting.{all-append, uses-append, count-pieces, count-uses, count-uses-of, after-registers, after-pieces, length-registers, length-pieces, length-uses, placed-more}
 
 -- O′ is O with the rows of the pieces ps from piece p on, whose uses begin at use u, and the rows of the uses us from use u on
@@ -100,10 +100,10 @@ written-use ol O p u ps us O₁ O₂ x w l h e =
 -- a register more: its pieces and uses behind those held, then its row
 pub holds-added : (ol : OutLayout) (O O₁ O₂ : List ℕ) (st : State) (c : Counts) (r : Register) → Holds ol O st → c ≡ countsOf st
     → Written ol O (c .segs) (c .uses) (r .pieces) (usesOf (segsOf (r .pieces))) O₁ → O₂ ≡ splice O₁ (c .regs * 8) (registerWords (registerRow (c .segs) r))
-    → c .regs < ol .regs → c .segs + length (r .pieces) ≤ ol .segs → c .uses + usesOfPieces (r .pieces) ≤ ol .uses → Weighs (r .weight)
+    → c .regs < ol .regs → c .segs + length (r .pieces) ≤ ol .segs → c .uses + usesOfPieces (r .pieces) ≤ ol .uses → Weighs (r .weight) → Each Typed (usesOf (segsOf (r .pieces)))
     → Holds ol O₂ (record { registers = st .registers ++ (r ∷ []); groups = st .groups; mapping = st .mapping })
 unfolding rowsOf allPieces
-holds-added ol O O₁ O₂ st c r h ec w e fr fp fu ww =
+holds-added ol O O₁ O₂ st c r h ec w e fr fp fu ww ty =
     let rs : List Register = st .registers in
     let en : c .regs ≡ length rs = ap (λ (x : Counts). x .regs) ec in
     let ep : c .segs ≡ length (allPieces rs) = ap (λ (x : Counts). x .segs) ec ∙ count-pieces st in
@@ -156,6 +156,23 @@ holds-added ol O O₁ O₂ st c r h ec w e fr fp fu ww =
           ap (λ (t : List ℕ). part (groupBase ol) (tablesEnd ol) t) e
           ∙ part-ahead (groupBase ol) (tablesEnd ol) (c .regs * 8) O₁ row (omega arith) (omega arith)
           ∙ w .groups ∙ h .groups;
+      typed = subst (λ (us : List Use). Each Typed us) (sym each) (each-append _ (usesOf (segsOf (allPieces rs))) (usesOf (segsOf (r .pieces))) (h .typed) ty);
       weights = each-append _ rs (r ∷ []) (h .weights) (each-one _ r ww);
       members = each-weaker _ _ (λ ms p. placed-more ms (length rs) (length (rs ++ (r ∷ []))) (omega arith) p) (st .groups) (h .members);
     }
+
+pub counts-added : (st : State) (c : Counts) (r : Register) → c ≡ countsOf st
+    → record { regs = c .regs + 1; segs = c .segs + length (r .pieces); uses = c .uses + usesOfPieces (r .pieces); groups = c .groups } ≡ countsOf (record { registers = st .registers ++ (r ∷ []); groups = st .groups; mapping = st .mapping })
+unfolding allPieces
+counts-added st c r ec =
+    let rs : List Register = st .registers in
+    let st′ : State = record { registers = rs ++ (r ∷ []); groups = st .groups; mapping = st .mapping } in
+    let all : allPieces (rs ++ (r ∷ [])) ≡ allPieces rs ++ r .pieces = all-append rs (r ∷ []) ∙ ap (λ (t : List Piece). allPieces rs ++ t) (append-nil (r .pieces)) in
+    let each : usesOf (segsOf (allPieces (rs ++ (r ∷ [])))) ≡ usesOf (segsOf (allPieces rs)) ++ usesOf (segsOf (r .pieces)) =
+    ap (λ (t : List Piece). usesOf (segsOf t)) all ∙ uses-append (allPieces rs) (r .pieces) in
+    let np : piecesIn st′ ≡ piecesIn st + length (r .pieces) = count-pieces st′ ∙ ap length all ∙ length-append (allPieces rs) (r .pieces) ∙ ap (λ (n : ℕ). n + length (r .pieces)) (sym (count-pieces st)) in
+    let nu : usesIn st′ ≡ usesIn st + usesOfPieces (r .pieces) =
+    count-uses st′ ∙ ap length each ∙ length-append (usesOf (segsOf (allPieces rs))) (usesOf (segsOf (r .pieces))) ∙ (let a = count-uses st in let b = count-uses-of (r .pieces) in omega arith) in
+    let n : length (rs ++ (r ∷ [])) ≡ length rs + 1 = length-append rs (r ∷ []) in
+    ap (λ (x : Counts). record { regs = x .regs + 1; segs = x .segs + length (r .pieces); uses = x .uses + usesOfPieces (r .pieces); groups = x .groups }) ec
+    ∙ λ x. record { regs = sym n x; segs = sym np x; uses = sym nu x; groups = length (st .groups) }
