@@ -37,23 +37,27 @@ Adds J ol O i sum x = (u : ℕ) (q : Piece) (ps : List Piece) → FirstShown ol 
 -- no piece has uses past the table
 pub piece-over : (J : Job) (ol : OutLayout) (O : List ℕ) (i : ℕ) (sum : Float) (row : PieceRow) → T (nonneg sum) → row ≡ pieceIn O (segBase ol + i * 7) → ol .uses < row .first + row .uses
     → T (nonneg sum) × Adds J ol O i sum sum
-piece-over J ol O i sum row h e l =
-    (h, λ u q ps f p.
-    let a : row .first ≡ u = ap (λ (x : PieceRow). x .first) (e ∙ f .row) in
-    let b : row .uses ≡ length (q .seg .uses) = ap (λ (x : PieceRow). x .uses) (e ∙ f .row) in
-    absurd (omega (arith, f .fit)))
+piece-over J ol O i sum row h e l = (
+  h,
+  λ u q ps f p.
+      let a : row .first ≡ u = ap (λ (x : PieceRow). x .first) (e ∙ f .row) in
+      let b : row .uses ≡ length (q .seg .uses) = ap (λ (x : PieceRow). x .uses) (e ∙ f .row) in
+      absurd (omega (arith, f .fit)),
+)
 
 pub piece-sum : (J : Job) (ol : OutLayout) (O : List ℕ) (i : ℕ) (sum x : Float) (rm : Remat) (row : PieceRow) → row ≡ pieceIn O (segBase ol + i * 7) → rm ≡ valueAt J (row .value) .remat
     → T (nonneg x) × (Inside J (usesAt O (useBase ol + row .first * 6) (row .uses)) → x ≡ sumUses J rm sum (usesAt O (useBase ol + row .first * 6) (row .uses)))
     → T (nonneg x) × Adds J ol O i sum x
-piece-sum J ol O i sum x rm row e er s =
-    (s .0, λ u q ps f p.
-    let k : row ≡ pieceRow u q = e ∙ f .row in
-    let us : usesAt O (useBase ol + row .first * 6) (row .uses) ≡ q .seg .uses = ap (λ (y : PieceRow). usesAt O (useBase ol + y .first * 6) (y .uses)) k ∙ f .own in
-    let rv : rm ≡ valueAt J (q .seg .value) .remat = er ∙ ap (λ (y : PieceRow). valueAt J (y .value) .remat) k in
-    s .1 (subst (λ (l : List Use). Inside J l) (sym us) p)
-    ∙ ap (λ (l : List Use). sumUses J rm sum l) us
-    ∙ ap (λ (y : Remat). sumUses J y sum (q .seg .uses)) rv)
+piece-sum J ol O i sum x rm row e er s = (
+  s .0,
+  λ u q ps f p.
+      let k : row ≡ pieceRow u q = e ∙ f .row in
+      let us : usesAt O (useBase ol + row .first * 6) (row .uses) ≡ q .seg .uses = ap (λ (y : PieceRow). usesAt O (useBase ol + y .first * 6) (y .uses)) k ∙ f .own in
+      let rv : rm ≡ valueAt J (q .seg .value) .remat = er ∙ ap (λ (y : PieceRow). valueAt J (y .value) .remat) k in
+      s .1 (subst (λ (l : List Use). Inside J l) (sym us) p)
+      ∙ ap (λ (l : List Use). sumUses J rm sum l) us
+      ∙ ap (λ (y : Remat). sumUses J y sum (q .seg .uses)) rv,
+)
 
 -- ---- the pieces behind the first i
 
@@ -123,13 +127,13 @@ pieces-end J ol O p n i sum h r u ps s l ins = let t = r u ps s l ins in sym (t 
 
 -- ---- the weight
 
-pub weight-is : (J : Job) (ol : OutLayout) (O : List ℕ) (p n k : ℕ) (c : RegClass) (sum w : Float) (insts r : ℕ) (d : ClassData) (o : Options)
+pub weight-is : (J : Job) (ol : OutLayout) (O : List ℕ) (p n : ℕ) (c : RegClass) (sum w : Float) (insts r : ℕ) (d : ClassData) (o : Options)
     → ((u : ℕ) (ps : List Piece) → Shown ol O p u ps → length ps ≡ n → Inside J (usesOf (segsOf ps)) → sum ≡ sumSegs J zeroF (segsOf ps))
     → (1 ≤ rangeInsts (rowsAt rangeAt O (segBase ol + p * 7) 7 n) → rangeInsts (rowsAt rangeAt O (segBase ol + p * 7) 7 n) ≤ 4096 → insts ≡ rangeInsts (rowsAt rangeAt O (segBase ol + p * 7) 7 n))
     → o ≡ J .options → d ≡ classAt J c → w ≡ weightFrom sum insts (o .adjust) (d .spillslots) → r ≡ toBits binary32 w → ofBits binary32 r ≡ w
     → (u : ℕ) (ps : List Piece) → Shown ol O p u ps → length ps ≡ n → Inside J (usesOf (segsOf ps)) → 1 ≤ liveInsts (segsOf ps) → liveInsts (segsOf ps) ≤ 4096
     → BitsOf r (weightOf J c (segsOf ps))
-weight-is J ol O p n k c sum w insts r d o es ei eo ed ew er eb u ps s l ins lo hi =
+weight-is J ol O p n c sum w insts r d o es ei eo ed ew er eb u ps s l ins lo hi =
     let t : rangeInsts (rowsAt rangeAt O (segBase ol + p * 7) 7 n) ≡ liveInsts (segsOf ps) =
     ap (λ (m : ℕ). rangeInsts (rowsAt rangeAt O (segBase ol + p * 7) 7 m)) (sym l) ∙ shown-insts ol O p u ps s in
     let m : insts ≡ liveInsts (segsOf ps) = ei (omega arith) (omega arith) ∙ t in

@@ -44,6 +44,10 @@ unfolding jobOf jobBy optionsRow
 scales-small W lay o s e =
     subst SmallScales (sym e) (record { move-small = bits-small _ (s .move); load-small = bits-small _ (s .load); indirect-small = bits-small _ (s .indirect) })
 
+pub adjust-small : (W : List ℕ) (lay : Layout) (o : Options) → SmallBook W lay → o ≡ optionsRow W (lay .opts) → o .adjust ≤ 65535
+unfolding optionsRow
+adjust-small W lay o s e = let k : o .adjust ≡ getD W (lay .opts) 0 = ap (λ (y : Options). y .adjust) e in omega (arith, s .adjust)
+
 pub block-finite : (W K : List ℕ) (lay : Layout) (at b : ℕ) → Starts K at (jobOf W lay .blocks) → b < lay .blocks .n → getD K (at + b * 2 + 1) 0 < 0x7f80_0000
 block-finite W K lay at b s h = s .finite b (omega (arith, blocks-long W lay))
 

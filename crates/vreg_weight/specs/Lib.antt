@@ -2,3 +2,4 @@ pub mod Typed
 pub mod Shown
 pub mod Sorted
 pub mod Weighed
+pub mod Members

@@ -27,12 +27,24 @@ ghost use Rattle.definition.specs.Place.{leastWeight, usesOf, segsOf};
 ghost use Rattle.floats.specs.Nonneg.{nonneg};
 ghost use Rattle.uses.specs.Rows.{usesAt};
 ghost use Rattle.live_insts.specs.Ranges.{rangeAt, rangeInsts};
-ghost use Rattle.virt_regs.specs.Encoding.{tablesEnd, Weighs, Holds};
+ghost use Rattle.virt_regs.specs.Encoding.{tablesEnd, Weighs};
 ghost use Rattle.vreg_weight.specs.Shown.{Shown, FirstShown};
+ghost use Rattle.vreg_weight.specs.Members.{Members};
 ghost use Rattle.vreg_weight.specs.Weighed.{jobIn, Weighable, Inside, BitsOf, lesserAt};
 
 // The sum with the costs of n uses whose rows stand from word `at` on. The block of the use before is tried first.
-pub fn sum_uses(job: &[u8], lay: Layout, out: &[u8], at: usize, n: usize, work: &[u8], starts: usize, options: Options, remat: Remat, sum: f32) -> f32
+pub fn sum_uses(
+    job: &[u8],
+    lay: Layout,
+    out: &[u8],
+    at: usize,
+    n: usize,
+    work: &[u8],
+    starts: usize,
+    options: Options,
+    remat: Remat,
+    sum: f32,
+) -> f32
     requires { ⌜ Weighable (now job) lay (now work) starts × (at + n * 6 ≤ wordCount (now out)) × (options ≡ jobIn (now job) lay .options) × T (nonneg sum) ⌝ }
     ensures { λ r. ⌜ T (nonneg r) × (Inside (jobIn (now (job .entry)) lay) (usesAt (wordsOf (now (out .entry))) at n) → r ≡ sumUses (jobIn (now (job .entry)) lay) remat sum (usesAt (wordsOf (now (out .entry))) at n)) ⌝ }
 {
@@ -53,7 +65,17 @@ pub fn sum_uses(job: &[u8], lay: Layout, out: &[u8], at: usize, n: usize, work: 
 }
 
 // The sum with the uses of piece i.
-pub fn sum_piece(job: &[u8], lay: Layout, out: &[u8], ol: OutLayout, work: &[u8], starts: usize, options: Options, sum: f32, i: usize) -> f32
+pub fn sum_piece(
+    job: &[u8],
+    lay: Layout,
+    out: &[u8],
+    ol: OutLayout,
+    work: &[u8],
+    starts: usize,
+    options: Options,
+    sum: f32,
+    i: usize,
+) -> f32
     requires { ⌜ Weighable (now job) lay (now work) starts × (tablesEnd ol ≤ wordCount (now out)) × (i < ol .segs) × (options ≡ jobIn (now job) lay .options) × T (nonneg sum) ⌝ }
     ensures { λ r. ⌜ T (nonneg r) × ((u : ℕ) (q : Piece) (ps : List Piece) → FirstShown ol (wordsOf (now (out .entry))) i u q ps → Inside (jobIn (now (job .entry)) lay) (q .seg .uses) → r ≡ sumUses (jobIn (now (job .entry)) lay) (valueAt (jobIn (now (job .entry)) lay) (q .seg .value) .remat) sum (q .seg .uses)) ⌝ }
 {
@@ -66,22 +88,21 @@ pub fn sum_piece(job: &[u8], lay: Layout, out: &[u8], ol: OutLayout, work: &[u8]
     }
     let remat = use_costs::remat_at(job, lay, row.value);
     let at = ol.regs * 8 + ol.segs * 7 + first * 6;
-    sum_uses(
-        job,
-        lay,
-        out,
-        at,
-        n,
-        work,
-        starts,
-        options,
-        remat,
-        sum,
-    )
+    sum_uses(job, lay, out, at, n, work, starts, options, remat, sum)
 }
 
 // The sum of the n pieces from piece p on.
-pub fn sum_pieces(job: &[u8], lay: Layout, out: &[u8], ol: OutLayout, work: &[u8], starts: usize, options: Options, p: usize, n: usize) -> f32
+pub fn sum_pieces(
+    job: &[u8],
+    lay: Layout,
+    out: &[u8],
+    ol: OutLayout,
+    work: &[u8],
+    starts: usize,
+    options: Options,
+    p: usize,
+    n: usize,
+) -> f32
     requires { ⌜ Weighable (now job) lay (now work) starts × (tablesEnd ol ≤ wordCount (now out)) × (p + n ≤ ol .segs) × (options ≡ jobIn (now job) lay .options) ⌝ }
     ensures { λ r. ⌜ T (nonneg r) × ((u : ℕ) (ps : List Piece) → Shown ol (wordsOf (now (out .entry))) p u ps → length ps ≡ n → Inside (jobIn (now (job .entry)) lay) (usesOf (segsOf ps)) → r ≡ sumSegs (jobIn (now (job .entry)) lay) zeroF (segsOf ps)) ⌝ }
 {
@@ -119,7 +140,17 @@ pub fn count_insts(out: &[u8], at: usize, n: usize) -> u32
 }
 
 // The bits of the weight of the n pieces from piece p on, in class c.
-pub fn weight_of_pieces(job: &[u8], lay: Layout, out: &[u8], ol: OutLayout, work: &[u8], starts: usize, p: usize, n: usize, c: RegClass) -> u32
+pub fn weight_of_pieces(
+    job: &[u8],
+    lay: Layout,
+    out: &[u8],
+    ol: OutLayout,
+    work: &[u8],
+    starts: usize,
+    p: usize,
+    n: usize,
+    c: RegClass,
+) -> u32
     requires { ⌜ Weighable (now job) lay (now work) starts × (tablesEnd ol ≤ wordCount (now out)) × (p + n ≤ ol .segs) ⌝ }
     ensures { λ r. ⌜ (r ≤ 0x7f80_0000) × ((u : ℕ) (ps : List Piece) → Shown ol (wordsOf (now (out .entry))) p u ps → length ps ≡ n → Inside (jobIn (now (job .entry)) lay) (usesOf (segsOf ps)) → 1 ≤ liveInsts (segsOf ps) → liveInsts (segsOf ps) ≤ 4096 → BitsOf r (weightOf (jobIn (now (job .entry)) lay) c (segsOf ps))) ⌝ }
 {
@@ -152,7 +183,7 @@ pub fn lesser_at(out: &[u8], ol: OutLayout, m: u32, w: u32) -> u32
 // The same for place j of group g; place i is left out.
 pub fn lesser_other(out: &[u8], ol: OutLayout, g: VirtRegGroup, i: usize, j: usize, w: u32) -> u32
     requires { ⌜ (tablesEnd ol ≤ wordCount (now out)) × (g .0 < ol .groups) × (j < 8) × (w ≤ 0x7f80_0000) ⌝ }
-    ensures { λ r. ⌜ (r ≤ 0x7f80_0000) × ((st : State) → Holds ol (wordsOf (now (out .entry))) st → g .0 < length (st .groups) → ofBits binary32 r ≡ lesserAt st i j (getD (membersAt st g) j none) (ofBits binary32 w)) ⌝ }
+    ensures { λ r. ⌜ (r ≤ 0x7f80_0000) × ((st : State) → Members ol (wordsOf (now (out .entry))) st g → ofBits binary32 r ≡ lesserAt st i j (getD (membersAt st g) j none) (ofBits binary32 w)) ⌝ }
 {
     if i == j {
         return w;
@@ -163,7 +194,7 @@ pub fn lesser_other(out: &[u8], ol: OutLayout, g: VirtRegGroup, i: usize, j: usi
 // The bits of the least of w and the weights of group g's members at other places than i.
 pub fn least_weight(out: &[u8], ol: OutLayout, g: VirtRegGroup, i: usize, w: u32) -> u32
     requires { ⌜ (tablesEnd ol ≤ wordCount (now out)) × (g .0 < ol .groups) × (w ≤ 0x7f80_0000) ⌝ }
-    ensures { λ r. ⌜ (r ≤ 0x7f80_0000) × ((st : State) → Holds ol (wordsOf (now (out .entry))) st → g .0 < length (st .groups) → BitsOf r (leastWeight st i 0 (membersAt st g) (ofBits binary32 w))) ⌝ }
+    ensures { λ r. ⌜ (r ≤ 0x7f80_0000) × ((st : State) → Members ol (wordsOf (now (out .entry))) st g → BitsOf r (leastWeight st i 0 (membersAt st g) (ofBits binary32 w))) ⌝ }
 {
     let mut least = w;
     let mut j: usize = 0;

@@ -4,9 +4,6 @@ use Rattle.words.specs.Words.{wordsOf}
 use Rattle.vreg_weight.proofs.Least.{Leasting, least-start, least-next, least-end}
 use Rattle.vreg_weight.proofs.least_weight.Statement.{statement}
 use Rattle.vreg_weight.proofs.least_weight.Tie as tie
-use Rattle.vreg_weight.proofs.least_weight.Reads as reads
-use Rattle.vreg_weight.proofs.least_weight.Lts as lts
-use Rattle.vreg_weight.proofs.lesser_other.Reads as lesser-other-reads
 
 abbrev Inv-loop : tie.InvT-loop
 Inv-loop out ol g i w least₀ j₀ least j = Leasting ol (wordsOf out) g i w least j
@@ -14,31 +11,16 @@ Inv-loop out ol g i w least₀ j₀ least j = Leasting ol (wordsOf out) g i w le
 abbrev μ-loop : tie.MeasureT-loop
 μ-loop out ol g i w least₀ j₀ least j = 8 - j
 
--- src/lib.rt:170:5
 loop-holds : tie.Need-loop-holds Inv-loop μ-loop
 loop-holds c = least-start _ _ _ _ _ (c .before .pre .2)
 
--- src/lib.rt:171:9
-lesser-other-requires : tie.Need-lesser-other-requires Inv-loop μ-loop
-lesser-other-requires c κs = search needs
-
--- src/lib.rt:172:9
-add-j : tie.Need-add-j Inv-loop μ-loop
-add-j c = search needs
-
--- src/lib.rt:170:5
-loop-less : tie.Need-loop-less Inv-loop μ-loop
-loop-less c = search needs
-
--- src/lib.rt:170:5
 loop-again : tie.Need-loop-again Inv-loop μ-loop
 loop-again c = least-next _ _ _ _ _ _ _ _ (c .before .loop-test .taken) (c .before .before .loop .inv) (c .lesser-other .ensures)
 
--- src/lib.rt:164:1
 returns : tie.Need-returns Inv-loop μ-loop
 returns c = least-end _ _ _ _ _ _ _ (c .loop-test .left) (c .before .loop .inv)
 
 pub least-weight-spec : {M : Type 1} → statement M
 least-weight-spec =
     tie.close
-    (tie.spec Inv-loop μ-loop loop-holds lesser-other-requires add-j loop-less loop-again returns)
+    (tie.spec Inv-loop μ-loop loop-holds (λ c κs. search needs) (λ c. search needs) (λ c. search needs) loop-again returns)

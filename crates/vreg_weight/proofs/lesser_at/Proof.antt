@@ -4,40 +4,20 @@ use Rattle.vreg_weight.proofs.Least.{lesser-empty, lesser-past, lesser-
 use borrow.Author.Needs.{needs}
 use Rattle.vreg_weight.proofs.lesser_at.Statement.{statement}
 use Rattle.vreg_weight.proofs.lesser_at.Tie as tie
-use Rattle.vreg_weight.proofs.lesser_at.Reads as reads
-use Rattle.vreg_weight.proofs.lesser_at.Lts as lts
-use Rattle.floats.proofs.lesser_bits.Reads as lesser-bits-reads
-use Rattle.virt_regs.proofs.weight_of.Reads as weight-of-reads
 
--- src/lib.rt:140:9
 returns : tie.Need-returns
 returns c = let a = c .before .before .args in lesser-empty (a .ol) (wordsOf (now (a .out))) _ _ (c .before .before .pre .1) (c .if1 .taken)
 
--- src/lib.rt:143:9
 returns-2 : tie.Need-returns-2
 returns-2 c = let a = c .before .before .before .args in lesser-past (a .ol) (wordsOf (now (a .out))) _ _ (c .before .before .before .pre .1) (c .if2 .taken)
 
--- src/lib.rt:145:50
-sub-t9 : tie.Need-sub-t9
-sub-t9 c = search needs
-
--- src/lib.rt:145:9
-weight-of-requires : tie.Need-weight-of-requires
-weight-of-requires c κs = search needs
-
--- src/lib.rt:147:9
 returns-3 : tie.Need-returns-3
 returns-3 c = let a = c .before .before .before .before .before .args in lesser-over (a .ol) (wordsOf (now (a .out))) _ _ _ (c .before .before .before .before .before .pre .1) (c .before .weight-of .ensures) (c .if3 .taken)
 
--- src/lib.rt:149:5
-lesser-bits-requires : tie.Need-lesser-bits-requires
-lesser-bits-requires c κs = search needs
-
--- src/lib.rt:134:1
 returns-4 : tie.Need-returns-4
 returns-4 c = let a = c .before .before .before .before .before .before .args in lesser-found (a .ol) (wordsOf (now (a .out))) _ _ _ _ (c .before .before .before .before .if1 .left) (c .before .before .weight-of .ensures) (c .lesser-bits .ensures .1) (c .lesser-bits .ensures .2)
 
 pub lesser-at-spec : {M : Type 1} → statement M
 lesser-at-spec =
     tie.close
-    (tie.spec returns returns-2 sub-t9 weight-of-requires returns-3 lesser-bits-requires returns-4)
+    (tie.spec returns returns-2 (λ c. search needs) (λ c κs. search needs) returns-3 (λ c κs. search needs) returns-4)

@@ -9,9 +9,6 @@ use Rattle.vreg_weight.proofs.Pieces.{Pieces, pieces-start, pieces-next
 use borrow.Author.Needs.{needs}
 use Rattle.vreg_weight.proofs.sum_pieces.Statement.{statement}
 use Rattle.vreg_weight.proofs.sum_pieces.Tie as tie
-use Rattle.vreg_weight.proofs.sum_pieces.Reads as reads
-use Rattle.vreg_weight.proofs.sum_pieces.Lts as lts
-use Rattle.vreg_weight.proofs.sum_piece.Reads as sum-piece-reads
 
 abbrev Inv-loop : tie.InvT-loop
 Inv-loop job lay out ol work starts options p n sum₀ i₀ sum i = T (nonneg sum) × Pieces (jobIn job lay) ol (wordsOf out) p n sum i
@@ -19,32 +16,16 @@ Inv-loop job lay out ol work starts options p n sum₀ i₀ sum i = T (nonneg su
 abbrev μ-loop : tie.MeasureT-loop
 μ-loop job lay out ol work starts options p n sum₀ i₀ sum i = n - i
 
--- src/lib.rt:90:5
 loop-holds : tie.Need-loop-holds Inv-loop μ-loop
 unfolding ofBits
 loop-holds c = (tt, pieces-start _ _ _ _ _)
 
--- src/lib.rt:91:72
-add-sum-piece : tie.Need-add-sum-piece Inv-loop μ-loop
-add-sum-piece c = search needs
-
--- src/lib.rt:91:9
 sum-piece-requires : tie.Need-sum-piece-requires Inv-loop μ-loop
 sum-piece-requires c κs = let s = c .before .before .before .before .before in (s .pre .0, s .pre .1, omega (arith, s .pre .2), s .pre .3, c .before .loop .inv .0)
 
--- src/lib.rt:92:9
-add-i : tie.Need-add-i Inv-loop μ-loop
-add-i c = search needs
-
--- src/lib.rt:90:5
-loop-less : tie.Need-loop-less Inv-loop μ-loop
-loop-less c = search needs
-
--- src/lib.rt:90:5
 loop-again : tie.Need-loop-again Inv-loop μ-loop
 loop-again c = (c .sum-piece .ensures .0, pieces-next _ _ _ _ _ _ _ _ (c .before .loop-test .taken) (c .before .before .loop .inv .1) (c .sum-piece .ensures .1))
 
--- src/lib.rt:84:1
 returns : tie.Need-returns Inv-loop μ-loop
 returns c = (c .before .loop .inv .0, pieces-end _ _ _ _ _ _ _ (c .loop-test .left) (c .before .loop .inv .1))
 
@@ -55,9 +36,9 @@ sum-pieces-spec =
     Inv-loop
     μ-loop
     loop-holds
-    add-sum-piece
+    (λ c. search needs)
     sum-piece-requires
-    add-i
-    loop-less
+    (λ c. search needs)
+    (λ c. search needs)
     loop-again
     returns)

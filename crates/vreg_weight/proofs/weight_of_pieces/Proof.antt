@@ -1,66 +1,35 @@
+use native.Mathlib.Omega.{arith}
+use mathlib.Core.Path.{_∙_}
+use Rattle.vreg_weight.proofs.Sums.{options-are, adjust-small}
+use Rattle.vreg_weight.proofs.Pieces.{weight-is}
 use borrow.Author.Needs.{needs}
 use Rattle.vreg_weight.proofs.weight_of_pieces.Statement.{statement}
 use Rattle.vreg_weight.proofs.weight_of_pieces.Tie as tie
-use Rattle.vreg_weight.proofs.weight_of_pieces.Reads as reads
-use Rattle.vreg_weight.proofs.weight_of_pieces.Lts as lts
-use Rattle.floats.proofs.bits_of.Reads as bits-of-reads
-use Rattle.layout.proofs.options_at.Reads as options-at-reads
-use Rattle.spill_weight.proofs.weight.Reads as weight-reads
-use Rattle.use_costs.proofs.class_data.Reads as class-data-reads
-use Rattle.vreg_weight.proofs.count_insts.Reads as count-insts-reads
-use Rattle.vreg_weight.proofs.sum_pieces.Reads as sum-pieces-reads
 
--- src/lib.rt:126:9
-options-at-requires : tie.Need-options-at-requires
-options-at-requires c κs = search needs
-
--- src/lib.rt:127:9
 sum-pieces-requires : tie.Need-sum-pieces-requires
-sum-pieces-requires c κs = ?
+sum-pieces-requires c κs = let s = c .before .before .before .before in (s .pre .0, s .pre .1, omega (arith, s .pre .2), c .options-at .ensures ∙ options-are _ _)
 
--- src/lib.rt:128:34
-mul-count-insts : tie.Need-mul-count-insts
-mul-count-insts c = search needs
-
--- src/lib.rt:128:48
-mul-count-insts-2 : tie.Need-mul-count-insts-2
-mul-count-insts-2 c = search needs
-
--- src/lib.rt:128:34
-add-count-insts : tie.Need-add-count-insts
-add-count-insts c = search needs
-
--- src/lib.rt:128:9
-count-insts-requires : tie.Need-count-insts-requires
-count-insts-requires c κs = search needs
-
--- src/lib.rt:129:9
-class-data-requires : tie.Need-class-data-requires
-class-data-requires c κs = search needs
-
--- src/lib.rt:130:21
 weight-requires : tie.Need-weight-requires
-weight-requires c κs = ?
+weight-requires c κs =
+    let i = c .before .count-insts .ensures in
+    (c .before .before .before .sum-pieces .ensures .0, i .0, i .1, adjust-small _ _ _ (c .before .before .before .before .before .before .before .before .pre .0 .book) (c .before .before .before .before .options-at .ensures))
 
--- src/lib.rt:130:5
-bits-of-requires : tie.Need-bits-of-requires
-bits-of-requires c κs = search needs
-
--- src/lib.rt:122:1
 returns : tie.Need-returns
-returns c = ?
+returns c =
+    let b = c .bits-of .ensures in
+    (b .2, weight-is _ _ _ _ _ _ _ _ _ _ _ _ (c .before .before .before .before .before .sum-pieces .ensures .1) (c .before .before .before .count-insts .ensures .2) (c .before .before .before .before .before .before .options-at .ensures ∙ options-are _ _) (c .before .before .class-data .ensures .0) (c .before .weight .ensures .0) (b .0) (b .1))
 
 pub weight-of-pieces-spec : {M : Type 1} → statement M
 weight-of-pieces-spec =
     tie.close
     (tie.spec
-    options-at-requires
+    (λ c κs. search needs)
     sum-pieces-requires
-    mul-count-insts
-    mul-count-insts-2
-    add-count-insts
-    count-insts-requires
-    class-data-requires
+    (λ c. search needs)
+    (λ c. search needs)
+    (λ c. search needs)
+    (λ c κs. search needs)
+    (λ c κs. search needs)
     weight-requires
-    bits-of-requires
+    (λ c κs. search needs)
     returns)
