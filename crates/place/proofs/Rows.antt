@@ -7,7 +7,6 @@ use Rattle.rows.specs.Parts.{splice}
 use Rattle.definition.specs.declared.ValueSet.{ValueSet}
 use Rattle.definition.specs.declared.RegClass.{RegClass}
 use Rattle.virt_regs.specs.declared.Counts.{Counts}
-use Rattle.virt_regs.specs.declared.RegisterRow.{RegisterRow}
 use Rattle.virt_regs.specs.Encoding.{hintWord, registerWords}
 use Rattle.place.specs.Ready.{rowOf}
 

@@ -1,12 +1,12 @@
 -- What is left behind when a register has been placed in each of the four ways. Assumes nothing.
-use mathlib.Core.Path.{_≡_, refl, sym, ap, _∙_, subst}
+use mathlib.Core.Path.{_≡_, sym, ap, _∙_, subst}
 use mathlib.Core.Bool.{Bool}
 use mathlib.Core.Option.{Option, none, some}
 use mathlib.Core.List.{List, [], _∷_, _++_}
 use Prim.Native.Nat.{ℕ, _+_, _-_, _*_, _≤_, _<_}
 use native.Mathlib.Omega.{arith}
-use lib.ListN.{length, getD, set, replicate, length-append, length-set}
-use lib.Ieee.{Float, binary32, toBits, ofBits}
+use lib.ListN.{length, getD, set, replicate, length-append}
+use lib.Ieee.{Float, binary32, ofBits}
 use Rattle.rows.specs.Parts.{splice}
 use Rattle.definition.specs.declared.ValueSet.{ValueSet}
 use Rattle.definition.specs.declared.RegClass.{RegClass}
@@ -16,25 +16,30 @@ use Rattle.definition.specs.declared.ClassData.{ClassData}
 use Rattle.definition.specs.declared.Use.{Use}
 use Rattle.definition.specs.Types.{Job, HeldGroup, Held, Piece, Register, Mapped, State, vreg, vrgroup}
 use Rattle.definition.specs.RegInfo.{classAt}
+use Rattle.definition.specs.Lines.{hintIn}
 use Rattle.definition.specs.LiveRange.{liveInsts}
 use Rattle.definition.specs.Weights.{weightOf}
 use Rattle.definition.specs.Admit.{registerAt, membersAt, noRegister}
-use Rattle.definition.specs.Place.{piecesIn, usesIn, usesOfPieces, usesOf, segsOf, withPieces, update, spread, leastWeight, groupWeight, firstFrom, aloneState, leadState, joinState, mergeState}
+use Rattle.definition.specs.Place.{piecesIn, usesOfPieces, usesOf, segsOf, withPieces, update, spread, leastWeight, groupWeight, firstFrom, aloneState, leadState, joinState, mergeState}
 use Rattle.virt_regs.specs.declared.OutLayout.{OutLayout}
 use Rattle.virt_regs.specs.declared.Counts.{Counts}
 use Rattle.virt_regs.specs.declared.RegisterRow.{RegisterRow}
 use Rattle.virt_regs.specs.Part.{part, part-get, part-ahead}
-use Rattle.virt_regs.specs.Encoding.{segBase, useBase, groupBase, tablesEnd, groupWord, hintWord, registerWords, registerRow, countsOf, Weighs, Holds}
+use Rattle.virt_regs.specs.Each.{Each}
+use Rattle.virt_regs.specs.Encoding.{groupBase, tablesEnd, groupWord, hintWord, registerWords, registerRow, countsOf, Weighs, Typed, Holds}
 use Rattle.virt_regs.specs.Update.{length-update}
-use Rattle.virt_regs.specs.Reads.{firstPiece, firstUse, first-held, count-held, member-lt, holds-mapping}
-use Rattle.vreg_put.specs.Written.{Written, holds-added, counts-added}
+use Rattle.virt_regs.specs.Reads.{firstPiece, firstUse, first-held, count-held, member-lt, pieces-in, span-in, holds-mapping}
+use Rattle.vreg_put.specs.Written.{Written, holds-added}
 use Rattle.vreg_change.specs.Flat.{memberIn, spreadIn, Spreadable}
-use Rattle.vreg_change.specs.Change.{holds-spread, spread-able, length-spread, counts-spread, holds-member, holds-group, counts-member, counts-group}
-use Rattle.vreg_insert.specs.Merged.{counts-merged}
+use Rattle.vreg_change.specs.Change.{holds-spread, spread-able, length-spread, holds-member, holds-group}
+use Rattle.vreg_find.specs.Ends.{endsBy, ends-le}
+use Rattle.vreg_insert.specs.Opened.{Opened}
+use Rattle.vreg_insert.specs.Merged.{holds-merged, merged-inserted}
 use Rattle.vreg_weight.specs.Shown.{Shown, shown-written, shown-held}
 use Rattle.vreg_weight.specs.Weighed.{Inside, BitsOf}
 use Rattle.vreg_weight.specs.Members.{Members, members-held, members-written, least-same}
 use Rattle.place.specs.Ready.{Space, Weighed, Ready, Filled, Left, allOf, withNew, rowOf, oneMore, groupMore, piecesMore}
+use Rattle.place.specs.Counted.{counts-alone, counts-lead, counts-join, counts-merge}
 use Rattle.place.specs.Lists.{spread-front, weight-pieces, pieces-new, typed-uses, typed-register}
 
 -- ---- the members of a group are read off its row, which stores elsewhere leave
@@ -88,18 +93,16 @@ module _ (J : Job) (ol : OutLayout) (O O₁ : List ℕ) (c : Counts) (np nu : �
   -- its row behind the registers held
   added : (vs : ValueSet) (k : RegClass) (x : Float) (go : Option VirtRegGroup) (i w : ℕ) (O₂ : List ℕ) → BitsOf w x → w ≤ 2139095040
       → O₂ ≡ splice O₁ (c .regs * 8) (registerWords (rowOf c vs k w (groupWord go) i np hint))
-      → Left ol O₂ (oneMore c np nu) (record { registers = st .registers ++ (record { set = vs; class = k; weight = x; group = go; index = i; pieces = ps } ∷ []); groups = st .groups; mapping = st .mapping })
+      → Holds ol O₂ (record { registers = st .registers ++ (record { set = vs; class = k; weight = x; group = go; index = i; pieces = ps } ∷ []); groups = st .groups; mapping = st .mapping })
   added vs k x go i w O₂ b l e =
       let q : Register = record { set = vs; class = k; weight = x; group = go; index = i; pieces = ps } in
       let row : rowOf c vs k w (groupWord go) i np hint ≡ registerRow (c .segs) q =
       λ t. record { set = vs; class = k; weight = b .0 t; group = groupWord go; index = i; hint = hintWord (r .hinted t); first = c .segs; count = sym (r .pieces) t } in
-      let counts : oneMore c np nu ≡ oneMore c (length ps) (usesOfPieces ps) = λ t. oneMore c (sym (r .pieces) t) (sym (r .uses) t) in
-      record {
-        holds =
-            holds-added ol O O₁ O₂ st c q (r .holds) (r .counts) (r .written) (e ∙ ap (λ (y : RegisterRow). splice O₁ (c .regs * 8) (registerWords y)) row)
-            (s .regs) (omega (arith, r .pieces, s .segs)) (omega (arith, r .uses, s .uses)) (weighs w x b l) (r .typed);
-        counts = counts ∙ counts-added st c q (r .counts);
-      }
+      holds-added ol O O₁ O₂ st c q (r .holds) (r .counts) (r .written) (e ∙ ap (λ (y : RegisterRow). splice O₁ (c .regs * 8) (registerWords y)) row)
+      (s .regs) (omega (arith, r .pieces, s .segs)) (omega (arith, r .uses, s .uses)) (weighs w x b l) (r .typed)
+
+  one-more : oneMore c np nu ≡ oneMore c (length ps) (usesOfPieces ps)
+  one-more = λ t. oneMore c (sym (r .pieces) t) (sym (r .uses) t)
 
   regs-held : c .regs ≡ length (st .registers)
   regs-held = ap (λ (x : Counts). x .regs) (r .counts)
@@ -116,7 +119,7 @@ module _ (J : Job) (ol : OutLayout) (O O₁ : List ℕ) (c : Counts) (np nu : �
       let one = added vs k (weightOf J k (segsOf ps)) none 0 w O₂ (ready-weight k w f) l e in
       let same : record { registers = st .registers ++ (record { set = vs; class = k; weight = weightOf J k (segsOf ps); group = none; index = 0; pieces = ps } ∷ []); groups = st .groups; mapping = st .mapping } ≡ aloneState J vs h ps st =
       λ t. record { registers = st .registers ++ (record { set = vs; class = sym ek t; weight = weightOf J (sym ek t) (segsOf ps); group = none; index = 0; pieces = ps } ∷ []); groups = st .groups; mapping = st .mapping } in
-      record { holds = subst (λ (z : State). Holds ol O₂ z) same (one .holds); counts = en ∙ one .counts ∙ ap countsOf same }
+      record { holds = subst (λ (z : State). Holds ol O₂ z) same one; counts = en ∙ one-more ∙ counts-alone J vs h ps st c (r .counts) }
 
   -- ---- a register that leads a new group
 
@@ -125,7 +128,7 @@ module _ (J : Job) (ol : OutLayout) (O O₁ : List ℕ) (c : Counts) (np nu : �
       → n ≡ oneMore c np nu → O₂ ≡ splice O₁ (c .regs * 8) (registerWords (rowOf c vs k w (c .groups + 1) i np hint)) → d ≡ classAt J k
       → m ≡ groupMore n → O₃ ≡ set (set O₂ (groupBase ol + c .groups * 9) (d .size)) (groupBase ol + (c .groups * 9 + (i + 1))) (c .regs + 1)
       → Left ol O₃ m (leadState J vs h hg ps st ms)
-  unfolding leadState piecesIn usesIn
+  unfolding leadState
   left-lead vs k h hg ms i w d n m O₂ O₃ f l ek ei fg hi hs en e ed em e₃ =
       let g : VirtRegGroup = vrgroup (c .groups) in
       let size : ℕ = classAt J k .size in
@@ -137,7 +140,7 @@ module _ (J : Job) (ol : OutLayout) (O O₁ : List ℕ) (c : Counts) (np nu : �
       let st₂ : State = record { registers = st .registers ++ (q ∷ []); groups = st .groups ++ (places ∷ []); mapping = st .mapping } in
       let held : Holds ol O₃ st₂ =
       subst (λ (t : List ℕ). Holds ol t st₂) (sym (e₃ ∙ ap (λ (x : ClassData). set (set O₂ (groupBase ol + c .groups * 9) (x .size)) (groupBase ol + (c .groups * 9 + (i + 1))) (c .regs + 1)) ed))
-      (holds-group ol O₂ st₁ (one .holds) g size i (vreg (c .regs)) groups-held fg hs hi here) in
+      (holds-group ol O₂ st₁ one g size i (vreg (c .regs)) groups-held fg hs hi here) in
       let same : record { registers = st .registers ++ (q ∷ []); groups = st .groups ++ (places ∷ []); mapping = ms } ≡ leadState J vs h hg ps st ms =
       λ t. record {
         registers = st .registers ++ (record { set = vs; class = sym ek t; weight = weightOf J (sym ek t) (segsOf ps); group = some (vrgroup (groups-held t)); index = sym ei t; pieces = ps } ∷ []);
@@ -146,7 +149,7 @@ module _ (J : Job) (ol : OutLayout) (O O₁ : List ℕ) (c : Counts) (np nu : �
       } in
       record {
         holds = subst (λ (z : State). Holds ol O₃ z) same (holds-mapping ol O₃ st₂ ms held);
-        counts = em ∙ ap groupMore en ∙ counts-group st₁ (oneMore c np nu) places (one .counts) ∙ ap countsOf same;
+        counts = em ∙ ap groupMore (en ∙ one-more) ∙ counts-lead J vs h hg ps st ms c (r .counts);
       }
 
   -- ---- a register that joins a group
@@ -170,7 +173,7 @@ module _ (J : Job) (ol : OutLayout) (O O₁ : List ℕ) (c : Counts) (np nu : �
       let st₂ : State = record { registers = rs ++ (q ∷ []); groups = st .groups; mapping = st .mapping } in
       let st₃ : State = record { registers = spread k x ms (rs ++ (q ∷ [])); groups = st .groups; mapping = st .mapping } in
       let st₄ : State = record { registers = spread k x ms (rs ++ (q ∷ [])); groups = set (st .groups) (g .0) (set ms i (some (vreg (c .regs)))); mapping = st .mapping } in
-      let held₃ : Holds ol O₃ st₃ = subst (λ (t : List ℕ). Holds ol t st₃) (sym e₃) (holds-spread ol O₂ st₂ (one .holds) g here k x w (b .0) (weighs w x b l)) in
+      let held₃ : Holds ol O₃ st₃ = subst (λ (t : List ℕ). Holds ol t st₃) (sym e₃) (holds-spread ol O₂ st₂ one g here k x w (b .0) (weighs w x b l)) in
       let there : c .regs < length (spread k x ms (rs ++ (q ∷ []))) = omega (arith, regs-held, length-append rs (q ∷ []), length-spread k x ms (rs ++ (q ∷ []))) in
       let held₄ : Holds ol O₄ st₄ = subst (λ (t : List ℕ). Holds ol t st₄) (sym e₄) (holds-member ol O₃ st₃ held₃ g i (vreg (c .regs)) here hi there) in
       let front : spread k x ms (rs ++ (q ∷ [])) ≡ spread k x ms rs ++ (q ∷ []) = spread-front k x ms rs (q ∷ []) (λ j v e. member-lt ol O st (r .holds) g j v here e) in
@@ -186,10 +189,36 @@ module _ (J : Job) (ol : OutLayout) (O O₁ : List ℕ) (c : Counts) (np nu : �
       } in
       record {
         holds = subst (λ (z : State). Holds ol O₄ z) (one₄ ∙ same) held₄;
-        counts = en ∙ one .counts ∙ sym (counts-spread k x ms st₂) ∙ sym (counts-member st₃ g (set ms i (some (vreg (c .regs))))) ∙ ap countsOf (one₄ ∙ same);
+        counts = en ∙ one-more ∙ counts-join J vs h hg g ps st c (r .counts);
       }
 
 -- ---- pieces merged into a register
+
+-- the gaps opened for them have been filled
+pub filled : (J : Job) (ol : OutLayout) (O O₁ O₂ : List ℕ) (st : State) (c : Counts) (v : VirtReg) (k np nu : ℕ) (hint : Bool) (p u : ℕ) (new : List Piece) → Holds ol O st → c ≡ countsOf st
+    → v .0 < length (st .registers) → k ≡ endsBy (firstFrom new) (registerAt st v .pieces) → Opened ol st c v k np nu hint p u O₁ → Written ol O₁ p u new (usesOf (segsOf new)) O₂
+    → length new ≡ np → usesOfPieces new ≡ nu → hint ≡ hintIn new → c .segs + np ≤ ol .segs → c .uses + nu ≤ ol .uses → Each Typed (usesOf (segsOf new)) → Weighed J (allOf v new st)
+    → Filled J ol c np nu v st new O₂
+filled J ol O O₁ O₂ st c v k np nu hint p u new h ec here ek op w en eu eh fp fu ty wd =
+    let le : k ≤ length (registerAt st v .pieces) = subst (λ (n : ℕ). n ≤ length (registerAt st v .pieces)) (sym ek) (ends-le (firstFrom new) (registerAt st v .pieces)) in
+    let cp : c .segs ≡ piecesIn st = ap (λ (x : Counts). x .segs) ec in
+    record {
+      holds =
+          merged-inserted ol O₂ st v (firstFrom new) k new ek
+          (holds-merged ol O O₁ O₂ st c v k np nu hint p u new h ec here le op w (sym en) (sym eu) eh fp fu (omega (arith, op .piece, pieces-in ol O st h v here)) ty);
+      counts = ec;
+      here = here;
+      pieces = en;
+      uses = eu;
+      weighed = wd;
+    }
+
+-- what is asked of the words then
+pub filled-asks : (J : Job) (ol : OutLayout) (O : List ℕ) (c : Counts) (np nu : ℕ) (v : VirtReg) (st : State) (new : List Piece) (g : VirtRegGroup) → Filled J ol c np nu v st new O → g .0 < length (st .groups)
+    → Spreadable ol g O × (v .0 < ol .regs) × (getD O (v .0 * 8 + 6) 0 + getD O (v .0 * 8 + 7) 0 ≤ ol .segs)
+filled-asks J ol O c np nu v st new g f l =
+    let there : v .0 < length (withNew v new st .registers) = omega (arith, f .here, length-update (withPieces (allOf v new st)) (v .0) (st .registers)) in
+    (spread-able ol O (withNew v new st) (f .holds) g l, omega (arith, f .holds .fit-registers), span-in ol O (withNew v new st) (f .holds) v there)
 
 pub left-merge : (J : Job) (ol : OutLayout) (O O₂ : List ℕ) (c n : Counts) (np nu : ℕ) (v : VirtReg) (st : State) (new : List Piece) (k : RegClass) (h : Held) (hg : HeldGroup) (g : VirtRegGroup) (i p m w₀ w : ℕ)
     → Filled J ol c np nu v st new O → p ≡ getD O (v .0 * 8 + 6) 0 → m ≡ getD O (v .0 * 8 + 7) 0 → WeightFrom J ol O p m k w₀ → LeastFrom ol O g i w₀ w → w ≤ 2139095040
@@ -220,5 +249,5 @@ left-merge J ol O O₂ c n np nu v st new k h hg g i p m w₀ w fd ep em f lf l 
     let counts : piecesMore c np nu ≡ piecesMore c (length new) (usesOfPieces new) = λ t. piecesMore c (sym (fd .pieces) t) (sym (fd .uses) t) in
     record {
       holds = subst (λ (z : State). Holds ol O₂ z) same held₂;
-      counts = en ∙ counts ∙ counts-merged st c v (firstFrom new) new (fd .counts) (fd .here) ∙ sym (counts-spread k x ms st₁) ∙ ap countsOf same;
+      counts = en ∙ counts ∙ counts-merge J h hg g v new st c (fd .counts) (fd .here);
     }

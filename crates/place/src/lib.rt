@@ -122,7 +122,14 @@ pub fn finish_lead(
     let v = c.regs as u32;
     let n = add_register(out, c, set, class, w, g + 1, index, np, nu, hint);
     let data = class_data(job, lay, class);
-    add_group(out, ol, VirtRegGroup(g), data.size, index as usize, VirtReg(v));
+    add_group(
+        out,
+        ol,
+        VirtRegGroup(g),
+        data.size,
+        index as usize,
+        VirtReg(v),
+    );
     Counts {
         regs: n.regs,
         segs: n.segs,

@@ -22,9 +22,11 @@ returns c =
     let s = c .before .before .before .before .before .before .before .before .before .before .before .before .before .before .before .before .before .before .before .before .before in
     let p = c .before .before .before .before .before .before .before .before .before .before .add-register .ensures in
     let l = c .before .before .before .before .before .before .before .before .before .before .before .before .before .before .least-weight .ensures in
-    let w = c .before .before .before .before .before .before .before .before .before .before .before .before .before .before .before .before .weight-of-pieces .ensures in
-    (p .0, λ O st ps h hg r ek ei here hi.
-    left-join _ _ O _ _ _ _ _ st ps r (s .pre .2) _ _ h hg _ _ _ _ _ _ _ _ (w .1) (l .1) (l .0) ek ei here hi (p .0) (p .1) (c .before .before .before .before .before .before .spread .ensures) (c .before .before .set-member .ensures))
+    let w = c .before .before .before .before .before .before .before .before .before .before .before .before .before .before .before .before .weight-of-pieces .ensures in (
+      p .0,
+      λ O st ps h hg r ek ei here hi.
+          left-join _ _ O _ _ _ _ _ st ps r (s .pre .2) _ _ h hg _ _ _ _ _ _ _ _ (w .1) (l .1) (l .0) ek ei here hi (p .0) (p .1) (c .before .before .before .before .before .before .spread .ensures) (c .before .before .set-member .ensures),
+    )
 
 pub finish-join-spec : {M : Type 1} → statement M
 finish-join-spec =

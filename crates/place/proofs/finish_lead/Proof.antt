@@ -22,9 +22,11 @@ returns : tie.Need-returns
 returns c =
     let s = c .before .before .before .before .before .before .before .before .before .before .before .before .before .before .before .before .before in
     let p = c .before .before .before .before .before .before .before .before .add-register .ensures in
-    let w = c .before .before .before .before .before .before .before .before .before .before .before .before .weight-of-pieces .ensures in
-    (ap groupMore (p .0), λ O st ps h hg ms r ek ei hi hs.
-    left-lead _ _ O _ _ _ _ _ st ps r (s .pre .2) _ _ h hg ms _ _ _ _ _ _ _ (w .1) (w .0) ek ei (s .pre .3) hi hs (p .0) (p .1) (c .before .before .before .before .before .class-data .ensures .0) refl (c .before .before .before .add-group .ensures))
+    let w = c .before .before .before .before .before .before .before .before .before .before .before .before .weight-of-pieces .ensures in (
+      ap groupMore (p .0),
+      λ O st ps h hg ms r ek ei hi hs.
+          left-lead _ _ O _ _ _ _ _ st ps r (s .pre .2) _ _ h hg ms _ _ _ _ _ _ _ (w .1) (w .0) ek ei (s .pre .3) hi hs (p .0) (p .1) (c .before .before .before .before .before .class-data .ensures .0) refl (c .before .before .before .add-group .ensures),
+    )
 
 pub finish-lead-spec : {M : Type 1} → statement M
 finish-lead-spec =

@@ -8,9 +8,11 @@ returns : tie.Need-returns
 returns c =
     let l = c .before .before .before .before .before .before .least-weight .ensures in
     let w = c .before .before .before .before .before .before .before .before .weight-of-pieces .ensures in
-    let q = c .before .before .before .before .before .before .before .before .before .before .pieces-of .ensures in
-    (refl, λ st new h hg f ek ei here.
-    left-merge _ _ _ _ _ _ _ _ _ st new _ h hg _ _ _ _ _ _ f (q .0) (q .1) (w .1) (l .1) (l .0) ek ei here refl (c .before .before .before .before .spread .ensures))
+    let q = c .before .before .before .before .before .before .before .before .before .before .pieces-of .ensures in (
+      refl,
+      λ st new h hg f ek ei here.
+          left-merge _ _ _ _ _ _ _ _ _ st new _ h hg _ _ _ _ _ _ f (q .0) (q .1) (w .1) (l .1) (l .0) ek ei here refl (c .before .before .before .before .spread .ensures),
+    )
 
 pub finish-merge-spec : {M : Type 1} → statement M
 finish-merge-spec =
