@@ -193,8 +193,8 @@ pub fn finish_merge(
 {
     let s = pieces_of(out, v);
     let w = weight_of_pieces(job, lay, out, ol, work, starts, s.first, s.count, class);
-    let least = least_weight(out, ol, g, index as usize, w);
-    spread(out, ol, g, class, least);
+    let weight = least_weight(out, ol, g, index as usize, w);
+    spread(out, ol, g, class, weight);
     Counts {
         regs: c.regs,
         segs: c.segs + np,
