@@ -22,18 +22,7 @@ use Rattle.layout.specs.declared.Layout.{Layout}
 use Rattle.constraints.specs.declared.Held.{Held}
 use Rattle.constraints.specs.Held.{heldOf}
 use Rattle.constraints.specs.Ready.{BackedAsk, Backed}
-use Rattle.scans.specs.Marked.{markedUse}
-
-module _ (K : List ℕ) (marks : ℕ) (W : List ℕ) (lay : Layout) (n w : ℕ) (u : Use) (e : w ≡ getD K (marks + n) 0) (eu : u ≡ useRow W (lay .uses .at + n * 6)) where
-  pub unmarked : w ≡ 0 → u ≡ markedUse K marks W lay n
-  unfolding markedUse
-  unmarked z = eu ∙ sym (ap (λ (b : Bool). cond b (useRow W (lay .uses .at + n * 6)) (turnedUse (useRow W (lay .uses .at + n * 6)))) (eq-eqb _ _ (sym e ∙ z)))
-
-  pub marked : (w ≡ 0 → ⊥) → record { pos = u .pos; kind = ConstraintConflict } ≡ markedUse K marks W lay n
-  unfolding markedUse
-  marked ne =
-      ap turnedUse eu
-      ∙ sym (ap (λ (b : Bool). cond b (useRow W (lay .uses .at + n * 6)) (turnedUse (useRow W (lay .uses .at + n * 6)))) (ne-eqb _ _ (λ q. ne (e ∙ q))))
+use Rattle.set_part.specs.Part.{markedUse}
 
 -- a conflict asks for no operand
 pub backed-turned : (job : Job) (u : Use) → Backed job (turnedUse u)

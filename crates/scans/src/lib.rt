@@ -28,7 +28,7 @@ ghost use Rattle.job.specs.Job.{jobOf};
 ghost use Rattle.virt_regs.specs.Encoding.{tablesEnd};
 ghost use Rattle.constraints.specs.Held.{heldOf, admissionOf};
 ghost use Rattle.constraints.specs.Ready.{Ready, Stands};
-ghost use Rattle.scans.specs.Marked.{markedUse};
+ghost use Rattle.set_part.specs.Part.{markedUse};
 ghost use Rattle.scans.specs.Answers.{scanOf, backOf, kindMove, moveOf};
 
 // A scan that went through, with what is then held; or the number of the use that it could not admit.
@@ -56,17 +56,8 @@ pub fn marked_use(job: &[u8], lay: Layout, work: &[u8], wl: WorkLayout, n: usize
     requires { ⌜ Ready (wordCount (now job)) (wordCount (now work)) (wordsOf (now job)) (wordsOf (now work)) lay wl × (n < lay .uses .n) ⌝ }
     ensures { λ r. ⌜ r ≡ markedUse (wordsOf (now (work .entry))) (wl .marks) (wordsOf (now (job .entry))) lay n ⌝ }
 {
-    let at = lay.uses.at;
-    let u = uses::use_at(job, at + n * 6);
     let marks = wl.marks;
-    if words::word_at(work, marks + n) == 0 {
-        return u;
-    }
-    let pos = u.pos;
-    Use {
-        pos,
-        kind: UseKind::ConstraintConflict,
-    }
+    turned::marked_use(job, lay, work, marks, n)
 }
 
 // What is held before any use.
