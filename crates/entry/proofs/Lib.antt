@@ -1,0 +1,4 @@
+pub mod Numbers
+pub mod Counts
+pub mod Entering
+pub mod Preparing
