@@ -16,7 +16,7 @@ use Rattle.job.specs.Job.{rawJob}
 use Rattle.job_shape.specs.Shape.{layoutOf, shapeOk}
 use Rattle.job_shape.specs.Answer.{binaryJob, answerIf, binaryAnswer}
 use Rattle.job_shape.proofs.Tests.{passed, failed}
-use Rattle.entry.specs.Number.{numberIn, firstNumber, tableTests, entryNumber}
+use Rattle.entry.specs.Number.{numberIn, firstNumber, tableTests, entryIf, entryOf, entryNumber}
 
 -- ---- tests one after the other: one of which a callee answered t
 
@@ -53,7 +53,7 @@ number-none (some r) e = absurd (named r e)
 -- ---- the number of a slice
 
 pub number-off : (s : List ℕ) → shapeOk s ≡ false → 1 ≡ entryNumber s
-unfolding entryNumber
+unfolding entryNumber entryOf numberIn
 number-off s e = rw e
 
 module _ (s : List ℕ) (lay : Layout) (found : lay ≡ layoutOf (wordsOf s)) (ok : shapeOk s ≡ true) where
@@ -65,7 +65,7 @@ module _ (s : List ℕ) (lay : Layout) (found : lay ≡ layoutOf (wordsOf s)) (o
   job-is = ap (λ (l : Layout). rawJob (wordsOf s) l) (sym found)
 
   pub number-is : entryNumber s ≡ numberIn (entry job)
-  unfolding entryNumber
+  unfolding entryNumber entryOf
   number-is = rw (ok, job-is)
 
   entry-is : numberIn (entry job) ≡ firstNumber ((limitsOk job, OverALimit) ∷ (bookOk job, BadBook) ∷ tableTests job)
@@ -80,3 +80,23 @@ module _ (s : List ℕ) (lay : Layout) (found : lay ≡ layoutOf (wordsOf s)) (o
 
   pub number-tables : {t u : Bool} {n : ℕ} → not t ≡ false → t ≡ limitsOk job → not u ≡ false → u ≡ bookOk job → n ≡ firstNumber (tableTests job) → n ≡ entryNumber s
   number-tables h e i f g = passes OverALimit ((bookOk job, BadBook) ∷ tableTests job) h e (passes BadBook (tableTests job) i f g) ∙ sym entry-is ∙ sym number-is
+
+-- ---- the answer to a slice
+
+pub answer-by : (s : List ℕ) (room : Room) → binaryAnswer s room ≡ answerTo (entryOf s) (binaryJob s) room
+unfolding binaryAnswer answerIf answer answerTo entryOf
+answer-by s room = by (shapeOk s)
+  where
+    by : (b : Bool) → answerIf b (binaryJob s) room ≡ answerTo (entryIf b (binaryJob s)) (binaryJob s) room
+    by true = refl
+    by false = refl
+
+-- number 0: what is built
+pub answer-built : (s : List ℕ) (room : Room) → entryNumber s ≡ 0 → binaryAnswer s room ≡ build (binaryJob s) room
+unfolding entryNumber answerTo
+answer-built s room e = answer-by s room ∙ ap (λ (o : Option Refusal). answerTo o (binaryJob s) room) (number-none (entryOf s) e)
+
+-- any other: the refusal of that number
+pub answer-refused : (s : List ℕ) (room : Room) (r : Refusal) → entryOf s ≡ some r → (binaryAnswer s room ≡ refused r) × (entryNumber s ≡ numberOf r)
+unfolding entryNumber answerTo numberIn
+answer-refused s room r e = (answer-by s room ∙ ap (λ (o : Option Refusal). answerTo o (binaryJob s) room) e, ap numberIn e)

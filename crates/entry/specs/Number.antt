@@ -4,7 +4,7 @@ use mathlib.Core.Bool.{Bool, true, false}
 use mathlib.Core.Option.{Option, none, some}
 use mathlib.Core.List.{List, [], _∷_}
 use Rattle.definition.specs.declared.Refusal.{Refusal}
-use Rattle.definition.specs.declared.Refusal.the-variants.{OverALimit, BadBook, BadFunction, BadHint, BadSegment, BadUse}
+use Rattle.definition.specs.declared.Refusal.the-variants.{NotARecord, OverALimit, BadBook, BadFunction, BadHint, BadSegment, BadUse}
 use Rattle.definition.specs.Types.{Job, numberOf}
 use Rattle.definition.specs.Entry.{every, limitsOk, bookOk, functionOk, hintsOk, segmentsOk, usesOk, lowestOf, entry}
 use Rattle.job_shape.specs.Shape.{shapeOk}
@@ -27,12 +27,17 @@ listTests job = (hintsOk job, BadHint) ∷ (segmentsOk job, BadSegment) ∷ (eve
 abbrev pub tableTests : Job → List (Bool × Refusal)
 tableTests job = (functionOk job, BadFunction) ∷ listTests job
 
-abbrev pub numberIf : Bool → Job → ℕ
-unfolding entry numberIn
-numberIf true job = numberIn (entry job)
-numberIf false job = 1
+abbrev pub entryIf : Bool → Job → Option Refusal
+unfolding entry
+entryIf true job = entry job
+entryIf false job = some NotARecord
 
--- "Tests 1 to 7 go by number, lowest first": a slice off its shape is 1, any other has the number of its job's entry; 0 if the job is accepted
+-- "Tests 1 to 7 go by number, lowest first": a slice off its shape is refused by test 1, any other as its job is
+unfoldable pub entryOf : List ℕ → Option Refusal
+unfolding shapeOk binaryJob entry
+entryOf s = entryIf (shapeOk s) (binaryJob s)
+
+-- 0 if the job is accepted
 unfoldable pub entryNumber : List ℕ → ℕ
-unfolding shapeOk binaryJob numberIn entry
-entryNumber s = numberIf (shapeOk s) (binaryJob s)
+unfolding numberIn entryOf
+entryNumber s = numberIn (entryOf s)

@@ -30,7 +30,7 @@ clear-words-requires-2 c κs =
     let d = b .before .before .before .before in
     let p = d .before .before .before .before .before .before .pre in
     let r = p .0 .regions in
-    omega (arith, p .1, b .put-starts .kept .1, d .clear-words .kept .0, r .marks, r .turned)
+    omega (arith, p .1, b .put-starts .kept .1, d .clear-words .kept .0, r .starts, r .marks, r .turned)
 
 returns : tie.Need-returns
 returns c =
