@@ -21,18 +21,18 @@ use Rattle.job_shape.proofs.Rising.{begins-at}
 use Rattle.entry_uses.specs.Tests.{Rising}
 
 module _ (W : List ℕ) (lay : Layout) where
-  abbrev firstAt : ℕ → ℕ
+  abbrev pub firstAt : ℕ → ℕ
   firstAt i = getD W (lay .segments .at + i * 5 + 4) 0
 
-  first-is : (i : ℕ) → segAt W lay i .first ≡ firstAt i
+  pub first-is : (i : ℕ) → segAt W lay i .first ≡ firstAt i
   unfolding segAt segRow
   first-is i = refl
 
-  next-last : (i : ℕ) → lay .segments .n ≤ i + 1 → nextUse W lay i ≡ lay .uses .n
+  pub next-last : (i : ℕ) → lay .segments .n ≤ i + 1 → nextUse W lay i ≡ lay .uses .n
   unfolding nextUse
   next-last i h = rw (le-ltb (i + 1) (lay .segments .n) h)
 
-  next-more : (i : ℕ) → i + 1 < lay .segments .n → nextUse W lay i ≡ firstAt (i + 1)
+  pub next-more : (i : ℕ) → i + 1 < lay .segments .n → nextUse W lay i ≡ firstAt (i + 1)
   unfolding nextUse
   next-more i h = rw (lt-ltb (i + 1) (lay .segments .n) h)
 

@@ -2,3 +2,4 @@ pub mod Numbers
 pub mod Counts
 pub mod Entering
 pub mod Preparing
+pub mod Rows
