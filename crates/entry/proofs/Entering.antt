@@ -1,5 +1,5 @@
 -- What a job that passes all tests leaves. Assumes nothing.
-use Prim.Native.Nat.{ℕ, suc, _+_, _-_, _/_, _≤_, _<_}
+use Prim.Native.Nat.{ℕ, suc, _/_, _≤_, _<_}
 use native.Mathlib.Omega.{arith}
 use mathlib.Core.Path.{_≡_, refl, sym, ap, subst, _∙_}
 use mathlib.Core.Bool.{Bool, true, false, not, _&&_}
@@ -9,11 +9,11 @@ use lib.Dec.{leb, ltb}
 use lib.ListN.{length, getD}
 use borrow.Author.Tests.{not-false}
 use Rattle.rows.specs.RowsAt.{rowsAt}
-use Rattle.words.specs.Words.{wordCount, wordsOf}
+use Rattle.words.specs.Words.{wordsOf}
 use Rattle.definition.specs.declared.Operand.{Operand}
 use Rattle.definition.specs.declared.Hint.{Hint}
 use Rattle.definition.specs.Types.{Job}
-use Rattle.definition.specs.Entry.{every, instsOf, insts, apart, samePlace, chained, notAfter, limitsOk, bookOk, functionOk, hintsOk, usesOk, entryTests, entry}
+use Rattle.definition.specs.Entry.{every, instsOf, insts, apart, samePlace, chained, notAfter, limitsOk, functionOk, hintsOk, entryTests, entry}
 use Rattle.definition.proofs.Entries.{and-both, lowest-none}
 use Rattle.function.specs.Blocks.{blocksAt}
 use Rattle.hints.specs.Hints.{hintAt}
@@ -39,7 +39,7 @@ use Rattle.entry_uses.proofs.Typed.{raw-is-job}
 use Rattle.work_layout.specs.declared.WorkLayout.{WorkLayout}
 use Rattle.work_layout.specs.Regions.{maxWork, Regions, chainsIn}
 use Rattle.work_layout.proofs.Parts.{heads-are}
-use Rattle.entry.specs.Number.{numberIn, entryNumber}
+use Rattle.entry.specs.Number.{entryNumber}
 use Rattle.entry.specs.declared.Entered.{Entered}
 use Rattle.entry.specs.Accepted.{noEntry, Accepted}
 use Rattle.entry.proofs.Numbers.{number-is, number-none}

@@ -1,5 +1,5 @@
 -- What preparing the work slice leaves in it. Assumes nothing.
-use Prim.Native.Nat.{ℕ, _+_, _-_, _*_, _≤_, _<_}
+use Prim.Native.Nat.{ℕ, _+_, _*_, _≤_, _<_}
 use native.Mathlib.Omega.{arith}
 use mathlib.Core.Path.{_≡_, sym, ap, subst, _∙_}
 use mathlib.Core.Bool.{true}
@@ -8,7 +8,7 @@ use lib.ListN.{length, getD, replicate, length-replicate, getD-replicate}
 use lib.Ieee.{binary32, ofBits}
 use Rattle.rows.specs.Parts.{splice, length-splice, getD-splice-before, getD-splice-in}
 use Rattle.rows.specs.RowsAt.{length-rows-at}
-use Rattle.words.specs.Words.{wordCount, wordsOf}
+use Rattle.words.specs.Words.{wordsOf}
 use Rattle.words.specs.Laws.{words-small}
 use Rattle.definition.specs.declared.BlockData.{BlockData}
 use Rattle.definition.specs.Entry.{every, blockOk, functionOk, functionTests, entryTests, entry}

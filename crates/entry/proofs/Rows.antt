@@ -14,12 +14,10 @@ use Rattle.rows.specs.RowsAt.{rowsAt}
 use Rattle.words.specs.Words.{wordCount, wordsOf}
 use Rattle.definition.specs.declared.Inst.{Inst}
 use Rattle.definition.specs.declared.Value.{Value}
-use Rattle.definition.specs.declared.ValueGroup.{ValueGroup}
 use Rattle.definition.specs.declared.RegClass.{RegClass}
 use Rattle.definition.specs.declared.Operand.{Operand}
-use Rattle.definition.specs.declared.Use.{Use}
-use Rattle.definition.specs.Types.{Job, Segment}
-use Rattle.definition.specs.Entry.{conj, every, some-is, instsOf, insts, membersOf, groupUseTests, groupUseOk, useTests, useOk, usesOk, functionOk, entryTests, entry}
+use Rattle.definition.specs.Types.{Job}
+use Rattle.definition.specs.Entry.{conj, every, some-is, instsOf, insts, groupUseTests, groupUseOk, useTests, useOk, usesOk, functionOk, entryTests, entry}
 use Rattle.definition.proofs.Entries.{and-both, lowest-none}
 use Rattle.function.specs.Blocks.{blocksAt}
 use Rattle.coalescing.specs.Rows.{vgroupRow}

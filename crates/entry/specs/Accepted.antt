@@ -7,7 +7,7 @@ use mathlib.Core.List.{List}
 use lib.ListN.{getD, replicate}
 use Rattle.rows.specs.Parts.{splice}
 use Rattle.rows.specs.RowsAt.{rowsAt}
-use Rattle.words.specs.Words.{wordCount, wordsOf}
+use Rattle.words.specs.Words.{wordsOf}
 use Rattle.definition.specs.Entry.{instsOf, apart, samePlace, chained, notAfter, entry}
 use Rattle.function.specs.Blocks.{blocksAt, startWords, Starts}
 use Rattle.hints.specs.Hints.{hintAt}

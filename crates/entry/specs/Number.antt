@@ -4,9 +4,9 @@ use mathlib.Core.Bool.{Bool, true, false}
 use mathlib.Core.Option.{Option, none, some}
 use mathlib.Core.List.{List, [], _∷_}
 use Rattle.definition.specs.declared.Refusal.{Refusal}
-use Rattle.definition.specs.declared.Refusal.the-variants.{NotARecord, OverALimit, BadBook, BadFunction, BadHint, BadSegment, BadUse}
+use Rattle.definition.specs.declared.Refusal.the-variants.{NotARecord, BadFunction, BadHint, BadSegment, BadUse}
 use Rattle.definition.specs.Types.{Job, numberOf}
-use Rattle.definition.specs.Entry.{every, limitsOk, bookOk, functionOk, hintsOk, segmentsOk, usesOk, lowestOf, entry}
+use Rattle.definition.specs.Entry.{every, functionOk, hintsOk, segmentsOk, usesOk, lowestOf, entry}
 use Rattle.job_shape.specs.Shape.{shapeOk}
 use Rattle.job_shape.specs.Answer.{binaryJob}
 

@@ -10,7 +10,7 @@ ghost use Rattle.definition.specs.Entry.{limitsOk};
 ghost use Rattle.layout.specs.Layout.{Fits};
 ghost use Rattle.operands.specs.Chains.{Chained, operandsOf};
 ghost use Rattle.job.specs.Job.{rawJob};
-ghost use Rattle.entry_function.specs.Counts.{Within, Indexes};
+ghost use Rattle.entry_function.specs.Counts.{Indexes};
 ghost use Rattle.entry_kinds.specs.Tests.{Ready};
 ghost use Rattle.entry_uses.specs.Tests.{Rising};
 ghost use Rattle.work_layout.specs.Regions.{maxWork};
