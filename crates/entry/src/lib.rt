@@ -118,3 +118,17 @@ pub fn prepare(job: &[u8], e: Entered, work: &mut [u8])
     block_starts::put_starts(job, at, blocks as u32, work, wl.starts);
     work_layout::clear_words(work, wl.marks, lay.uses.n);
 }
+
+// The tests, and the work slice of a job that passes them.
+pub fn enter_prepared(job: &[u8], work: &mut [u8]) -> Entered
+    requires { ⌜ maxWork ≤ wordCount (now work) ⌝ }
+    ensures { λ r. ⌜ r .number ≡ entryNumber (now (job .entry)) ⌝ }
+    ensures { λ r. ⌜ (r .number ≡ 0 → Accepted (now (job .entry)) (wordsOf (now (work .exit))) (r .lay) (r .wl) (r .insts) × Prepared (wordsOf (now (job .entry))) (wordsOf (now (work .exit))) (r .lay) (r .wl)) ⌝ }
+{
+    let e = enter(job, work);
+    if e.number != 0 {
+        return e;
+    }
+    prepare(job, e, work);
+    e
+}
