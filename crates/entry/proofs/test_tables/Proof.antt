@@ -19,13 +19,13 @@ test-lists-requires : tie.Need-test-lists-requires
 test-lists-requires c κs =
     let p = c .before .before .before .before .before .before .before .before .pre in
     let f = c .before .before .before .before .function-ok in
-    (ready (p .0) (p .2) (p .3) (f .kept .1 .1 .0) (c .before .if1 .left) (f .ensures .0) (f .ensures .1), p .1, p .2)
+    (ready (p .0) (p .2) (p .3) (f .kept .1 .1 .0) (c .before .if1 .left) (f .ensures .0) (λ e. f .ensures .1 e .0), p .1, p .2)
 
 returns-2 : tie.Need-returns-2
 returns-2 c =
     let f = c .before .before .before .before .before .function-ok in (
       passes _ _ (c .before .before .if1 .left) (f .ensures .0) (c .test-lists .ensures),
-      λ e. f .ensures .1 (not-false _ (c .before .before .if1 .left)),
+      λ e. f .ensures .1 (not-false _ (c .before .before .if1 .left)) .0,
     )
 
 pub test-tables-spec : {M : Type 1} → statement M
