@@ -137,7 +137,7 @@ pub fn map_conflict(
     b: usize,
     g: u32,
 ) -> bool
-    requires { ⌜ Ready (wordCount (now job)) (wordCount (now work)) (wordsOf (now job)) (wordsOf (now work)) lay wl × MapApart lay wl × RowsOk (wordCount (now work)) (wordsOf (now work)) (wl .turned) lay a b × (g < 4294967295) ⌝ }
+    requires { ⌜ Ready (wordCount (now job)) (wordCount (now work)) (wordsOf (now job)) (wordsOf (now work)) lay wl × MapApart lay wl × RowsOk (wordCount (now work)) (wordsOf (now work)) (wl .turned) lay a b × (g < 4294967295) × (0 < lay .segments .n) ⌝ }
     ensures { λ r. ⌜ ((v : Value) (p : Inst) (q : Option ℕ) → Maps (wordsOf (now (job .entry))) (wordsOf (now (work .entry))) lay wl (mapUses (vrgroup g) (usesOf (segsOf (conflictPiece v p q (turnedRowsOf (wordsOf (now (work .entry))) (wl .turned) (wordsOf (now (job .entry))) lay a b) ∷ [])))) r (wordsOf (now (work .exit)))) ⌝ }
 {
     let turned = wl.turned;
