@@ -1,0 +1,3 @@
+pub mod Swap
+pub mod Trying
+pub mod Runs
