@@ -178,3 +178,23 @@ elsewhere-swap turned a b K₀ K i j o ha l hb w =
       before = λ n m. swap-before K turned i j h l n (omega arith) ∙ o .before n m;
       behind = λ n m. swap-behind K turned i j h l n (omega arith) ∙ o .behind n m;
     }
+
+-- ---- what the code reads and stores
+
+pub use-read : (K : List ℕ) (turned : ℕ) (W : List ℕ) (lay : Layout) (k n : ℕ) (u : Use) → n ≡ getD K (turned + k * 4 + 1) 0 → u ≡ useRow W (lay .uses .at + n * 6) → u ≡ rowUse K turned W lay k
+unfolding rowUse
+use-read K turned W lay k n u en eu = eu ∙ ap (λ (j : ℕ). useRow W (lay .uses .at + j * 6)) en
+
+pub words-read : (K : List ℕ) (i v n h q : ℕ) → v ≡ getD K i 0 → n ≡ getD K (i + 1) 0 → h ≡ getD K (i + 2) 0 → q ≡ getD K (i + 3) 0
+    → record { value = v; number = n; has = h; param = q } ≡ rowWords K i
+unfolding rowWords
+words-read K i v n h q a b c d = λ x. record { value = a x; number = b x; has = c x; param = d x }
+
+pub swapped : (K K₁ K₂ : List ℕ) (turned i j : ℕ) (x y : RowWords) → x ≡ rowWords K (turned + i * 4) → y ≡ rowWords K (turned + j * 4)
+    → K₁ ≡ splice K (turned + i * 4) (fourOf y) → K₂ ≡ splice K₁ (turned + j * 4) (fourOf x) → K₂ ≡ swapRows K turned i j
+unfolding swapRows
+swapped K K₁ K₂ turned i j x y ex ey e₁ e₂ =
+    e₂
+    ∙ ap (λ (l : List ℕ). splice l (turned + j * 4) (fourOf x)) e₁
+    ∙ ap (λ (r : RowWords). splice (splice K (turned + i * 4) (fourOf r)) (turned + j * 4) (fourOf x)) ey
+    ∙ ap (λ (r : RowWords). splice (splice K (turned + i * 4) (fourOf (rowWords K (turned + j * 4)))) (turned + j * 4) (fourOf r)) ex

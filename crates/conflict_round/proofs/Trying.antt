@@ -11,6 +11,7 @@ use lib.Ieee.{binary32, ofBits}
 use Rattle.rows.specs.Tab.{tab, length-tab, tab-more, tab-done, tab-snoc, tab-ext}
 use Rattle.rows.specs.RowsAt.{length-rows-at}
 use Rattle.words.specs.Words.{wordCount, wordsOf}
+use Rattle.words.specs.Laws.{length-words}
 use Rattle.definition.specs.declared.BlockData.{BlockData}
 use Rattle.definition.specs.declared.Use.{Use}
 use Rattle.definition.specs.Types.{Job, State, Turned}
@@ -27,7 +28,7 @@ use Rattle.constraints.specs.declared.Held.{Held}
 use Rattle.constraints.specs.declared.Admission.{Admission}
 use Rattle.constraints.specs.declared.WorkLayout.{WorkLayout}
 use Rattle.constraints.specs.Held.{heldOf, admissionOf}
-use Rattle.constraints.specs.Ready.{operandsIn, Mapping, Ready, Stands}
+use Rattle.constraints.specs.Ready.{operandsIn, Mapping, Backed, Ready, Stands}
 use Rattle.constraints.proofs.Admitted.{answer-yes, answer-no}
 use Rattle.conflict_round.specs.declared.Round.{Round}
 use Rattle.conflict_round.specs.Conflict.{rowUse, turnedRowAt, turnedRowsOf, RowsOk}
@@ -249,3 +250,33 @@ module _ (S : State → Type 0) (J : Job) (w : ℕ) (K₀ : List ℕ) (turned : 
                 (λ k o. rows-equal K (swapRows K turned i m) turned W lay k k (swap-over K turned i m t x k o))
                 (answer-no r _ (at-row st s) q);
           })
+
+-- ---- the use of a row
+
+-- it has its operand
+backed-row : (t w : ℕ) (W K : List ℕ) (lay : Layout) (wl : WorkLayout) (k : ℕ) (u : Use) → Ready t w W K lay wl → getD K (wl .turned + k * 4 + 1) 0 < lay .uses .n → u ≡ rowUse K (wl .turned) W lay k
+    → Backed (jobOf W lay) u
+unfolding rowUse
+backed-row t w W K lay wl k u r h e = subst (λ (x : Use). Backed (jobOf W lay) x) (sym e) (r .backed (getD K (wl .turned + k * 4 + 1) 0) h)
+
+pub admit-is : (t w : ℕ) (W K : List ℕ) (lay : Layout) (wl : WorkLayout) (k : ℕ) (u : Use) (st : State) (h : types.Held) (o : Option types.Held) → Ready t w W K lay wl
+    → getD K (wl .turned + k * 4 + 1) 0 < lay .uses .n → u ≡ rowUse K (wl .turned) W lay k → (Backed (jobOf W lay) u → o ≡ admit (jobOf W lay) st h u)
+    → o ≡ admit (jobOf W lay) st h (rowUse K (wl .turned) W lay k)
+admit-is t w W K lay wl k u st h o r l e f = f (backed-row t w W K lay wl k u r l e) ∙ ap (λ (x : Use). admit (jobOf W lay) st h x) e
+
+-- ---- the slices along the loop
+
+pub ready-now : (t : ℕ) (W s₀ s : List ℕ) (lay : Layout) (wl : WorkLayout) (a b : ℕ) → Elsewhere (wl .turned) a b (wordsOf s₀) (wordsOf s) → TurnedApart lay wl → length s ≡ length s₀
+    → Ready t (wordCount s₀) W (wordsOf s₀) lay wl → Ready t (wordCount s) W (wordsOf s) lay wl
+ready-now t W s₀ s lay wl a b o m e r =
+    subst (λ (n : ℕ). Ready t (n / 4) W (wordsOf s) lay wl) (sym e) (ready-kept lay wl a b (wordsOf s₀) (wordsOf s) o m t (wordCount s₀) W r)
+
+pub rows-now : (s₀ s K : List ℕ) (turned : ℕ) (lay : Layout) (a b : ℕ) → length s ≡ length s₀ → RowsOk (wordCount s₀) K turned lay a b → RowsOk (wordCount s) K turned lay a b
+rows-now s₀ s K turned lay a b e r = subst (λ (n : ℕ). RowsOk (n / 4) K turned lay a b) (sym e) r
+
+pub count-is : (s₀ s : List ℕ) → length s ≡ length s₀ → wordCount s₀ ≡ length (wordsOf s)
+count-is s₀ s e = sym (length-words s ∙ ap (λ (n : ℕ). n / 4) e)
+
+-- rows c to d - 1 of rows a to b - 1
+pub rows-part : (w : ℕ) (K : List ℕ) (turned : ℕ) (lay : Layout) (a b c d : ℕ) → RowsOk w K turned lay a b → a ≤ c → c ≤ d → d ≤ b → RowsOk w K turned lay c d
+rows-part w K turned lay a b c d r l m n = record { order = m; within = omega (arith, r .within); known = λ k x y. r .known k (omega arith) (omega arith) }

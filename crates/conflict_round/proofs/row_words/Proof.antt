@@ -1,3 +1,4 @@
+use Rattle.conflict_round.proofs.Swap.{words-read}
 use borrow.Author.Needs.{needs}
 use Rattle.conflict_round.proofs.row_words.Statement.{statement}
 use Rattle.conflict_round.proofs.row_words.Tie as tie
@@ -35,7 +36,7 @@ word-at-requires-4 c κs = search needs
 
 -- src/lib.rt:49:1
 returns : tie.Need-returns
-returns c = ?
+returns c = words-read _ _ _ _ _ _ (c .before .before .before .word-at .ensures) (c .before .before .word-at2 .ensures) (c .before .word-at3 .ensures) (c .word-at4 .ensures)
 
 pub row-words-spec : {M : Type 1} → statement M
 row-words-spec =

@@ -1,3 +1,4 @@
+use Rattle.conflict_round.proofs.Swap.{swapped}
 use borrow.Author.Needs.{needs}
 use Rattle.conflict_round.proofs.swap_rows.Statement.{statement}
 use Rattle.conflict_round.proofs.swap_rows.Tie as tie
@@ -44,7 +45,7 @@ same-length c = search needs
 
 -- src/lib.rt:62:1
 returns : tie.Need-returns
-returns c = ?
+returns c = swapped _ _ _ _ _ _ _ _ (c .before .before .before .before .before .before .before .before .before .before .row-words .ensures) (c .before .before .before .before .before .before .before .before .row-words2 .ensures) (c .before .before .before .before .before .before .put-4 .ensures) (c .before .before .put-42 .ensures)
 
 pub swap-rows-spec : {M : Type 1} → statement M
 swap-rows-spec =
