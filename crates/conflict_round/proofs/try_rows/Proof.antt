@@ -1,3 +1,4 @@
+use denote.Ref.{now}
 use native.Mathlib.Omega.{arith}
 use mathlib.Core.Path.{_≡_, refl}
 use Prim.Native.Nat.{_-_}
@@ -73,7 +74,7 @@ loop-again-2 c =
     let s = c .before .before .before .before .before .before .before .before .before .before .before .before in
     let v = c .before .before .before .before .before .before .before .before .loop .inv in
     (trying-no _ _ _ _ _ _ _ _ _ _ _ _ _ _ (v .0) (c .before .before .before .before .before .before .before .loop-test .taken) _
-    (λ st hs. c .before .before .before .before .before .admit-row .ensures st (stands-kept _ _ _ _ _ _ (v .0 .elsewhere) (s .pre .2) _ _ _ st hs)) (c .before .before .before .before .if1 .left) _ refl _ (c .before .before .swap-rows .ensures) (count-is _ _ (v .1)),
+    (λ st hs. c .before .before .before .before .before .admit-row .ensures st (stands-kept _ _ _ _ _ _ (v .0 .elsewhere) (s .pre .2) _ _ _ st hs)) (c .before .before .before .before .if1 .left) _ refl _ (c .before .before .swap-rows .ensures) (count-is (now (s .args .work)) (c .before .before .before .before .before .before .before .before .loop .work) (v .1)),
     omega (arith, v .1, c .before .before .swap-rows .kept .0))
 
 -- src/lib.rt:85:1
@@ -84,7 +85,7 @@ same-length c = omega (arith, c .before .loop .inv .1)
 returns : tie.Need-returns Inv-loop μ-loop
 returns c =
     let v = c .before .loop .inv in
-    ((v .0 .low, omega (arith, v .0 .mid, v .0 .high), v .0 .elsewhere, rows-now _ _ _ _ _ _ _ (v .1) (v .0 .rows)), trying-end _ _ _ _ _ _ _ _ _ _ _ _ _ _ (v .0) (c .loop-test .left))
+    ((v .0 .low, omega (arith, v .0 .mid, v .0 .high), v .0 .elsewhere, rows-now (now (c .before .before .before .before .before .args .work)) (c .before .loop .work) _ _ _ _ _ (v .1) (v .0 .rows)), trying-end _ _ _ _ _ _ _ _ _ _ _ _ _ _ (v .0) (c .loop-test .left))
 
 pub try-rows-spec : {M : Type 1} → statement M
 try-rows-spec =
