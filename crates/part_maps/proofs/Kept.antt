@@ -1,25 +1,23 @@
 -- What stays where only words of the mapping change. Assumes nothing.
-use mathlib.Core.Path.{_≡_, refl, sym, ap, _∙_}
+use mathlib.Core.Path.{_≡_, refl, ap, _∙_}
 use mathlib.Core.Bool.{Bool, true, false, cond}
 use mathlib.Core.List.{List}
-use Prim.Native.Nat.{ℕ, _+_, _-_, _*_, _≤_, _<_}
+use Prim.Native.Nat.{ℕ, _+_, _-_, _*_, _<_}
 use native.Mathlib.Omega.{arith}
 use lib.Dec.{eqb}
-use lib.ListN.{length, getD}
+use lib.ListN.{getD}
 use lib.Ieee.{binary32, ofBits}
 use Rattle.definition.specs.declared.Use.{Use}
 use Rattle.definition.specs.declared.BlockData.{BlockData}
 use Rattle.definition.specs.Build.{turnedUse}
 use Rattle.function.specs.Blocks.{blocksAt, Starts}
-use Rattle.operands.specs.declared.Chains.{Chains}
-use Rattle.operands.specs.Chains.{Chained}
 use Rattle.operands.proofs.Rows.{long}
 use Rattle.layout.specs.declared.Layout.{Layout}
 use Rattle.uses.specs.Rows.{useRow}
 use Rattle.job.specs.Job.{jobOf}
 use Rattle.set_part.specs.Part.{markedUse}
 use Rattle.constraints.specs.declared.WorkLayout.{WorkLayout}
-use Rattle.constraints.specs.Ready.{chainsIn, operandsIn, BackedKind, Backed, Ready}
+use Rattle.constraints.specs.Ready.{BackedKind, Backed, Ready}
 use Rattle.part_maps.specs.Maps.{MapApart, Outside}
 
 pub outside-none : (lay : Layout) (wl : WorkLayout) (K : List ℕ) → Outside lay wl K K

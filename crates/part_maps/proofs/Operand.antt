@@ -3,12 +3,12 @@ use mathlib.Core.Path.{_≡_, refl, sym, ap, ap₂, _∙_, subst}
 use mathlib.Core.Bool.{Bool, true, false, not, cond, _&&_}
 use mathlib.Core.Option.{Option, none, some}
 use mathlib.Core.List.{List, [], _∷_, _++_}
-use Prim.Native.Nat.{ℕ, zero, suc, _+_, _-_, _*_, _≤_, _<_}
+use Prim.Native.Nat.{ℕ, _+_, _-_, _<_}
 use native.Mathlib.Omega.{arith}
 use lib.Dec.{eqb, ltb}
 use lib.ListN.{length, getD, set, length-set}
 use lib.Seq.{getD-set-same, getD-set-other}
-use borrow.Author.Tests.{eqb-true, eqb-false, eq-eqb, ne-eqb, ltb-true, ltb-false, not-true, not-false}
+use borrow.Author.Tests.{eqb-true, eqb-false, eq-eqb, ltb-true, ltb-false, not-true, not-false}
 use Rattle.definition.specs.declared.Inst.{Inst}
 use Rattle.definition.specs.declared.Use.{Use}
 use Rattle.definition.specs.declared.UseKind.{UseKind}
@@ -18,10 +18,9 @@ use Rattle.definition.specs.declared.VirtRegGroup.{VirtRegGroup}
 use Rattle.definition.specs.Types.{Job, Mapped, inst, vrgroup}
 use Rattle.definition.specs.Uses.{slotOf}
 use Rattle.definition.specs.Admit.{mappedAt}
-use Rattle.definition.specs.Place.{mapOne, slotD}
+use Rattle.definition.specs.Place.{mapOne}
 use Rattle.definition.specs.Entry.{apart, samePlace}
-use Rattle.operands.specs.declared.FoundOperand.{FoundOperand}
-use Rattle.operands.specs.declared.FoundOperand.the-variants.{At, Nothing}
+use Rattle.operands.specs.declared.FoundOperand.the-variants.{At}
 use Rattle.operands.specs.Rows.{opAt, isAt, lastPlace}
 use Rattle.operands.specs.Chains.{Under}
 use Rattle.operands.proofs.Rows.{long}
@@ -31,8 +30,8 @@ use Rattle.layout.specs.declared.Layout.{Layout}
 use Rattle.job.specs.Job.{jobOf}
 use Rattle.virt_regs.specs.Encoding.{groupWord}
 use Rattle.constraints.specs.declared.WorkLayout.{WorkLayout}
-use Rattle.constraints.specs.Ready.{operandsIn, Mapping, HasOperand, BackedKind, Backed, Ready}
-use Rattle.constraints.proofs.Operand.{found-known, said-nothing, said-past}
+use Rattle.constraints.specs.Ready.{operandsIn, Mapping, HasOperand, BackedKind, Backed}
+use Rattle.constraints.proofs.Operand.{said-past}
 use Rattle.part_maps.specs.declared.GroupSlot.{GroupSlot}
 use Rattle.part_maps.specs.Maps.{slotGiven, Outside, MapsTo, PutAt, Maps, mapUse}
 use Rattle.part_maps.proofs.Kept.{outside-none}

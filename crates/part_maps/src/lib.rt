@@ -9,10 +9,9 @@ use operands::FoundOperand;
 use set_part::SetPart;
 ghost use mathlib.Core.Path.{_≡_};
 ghost use mathlib.Core.Option.{some};
-ghost use mathlib.Core.List.{List};
-ghost use Prim.Native.Nat.{ℕ, _+_, _≤_, _<_};
+ghost use Prim.Native.Nat.{_+_, _<_};
 ghost use Rattle.words.specs.Words.{wordCount, wordsOf};
-ghost use Rattle.definition.specs.Types.{Mapped, vrgroup};
+ghost use Rattle.definition.specs.Types.{vrgroup};
 ghost use Rattle.definition.specs.Uses.{slotOf};
 ghost use Rattle.definition.specs.Admit.{mappedAt};
 ghost use Rattle.definition.specs.Place.{mapOne, mapUses, usesOf};
@@ -64,7 +63,15 @@ fn map_at(work: &mut [u8], wl: WorkLayout, k: usize, g: u32) -> bool
 }
 
 // Maps the operand at an instruction and slot to group g; not if it is mapped. An accepted job has an operand for each of its group uses.
-fn map_operand(job: &[u8], lay: Layout, work: &mut [u8], wl: WorkLayout, p: Inst, slot: u32, g: u32) -> bool
+fn map_operand(
+    job: &[u8],
+    lay: Layout,
+    work: &mut [u8],
+    wl: WorkLayout,
+    p: Inst,
+    slot: u32,
+    g: u32,
+) -> bool
     requires { ⌜ Ready (wordCount (now job)) (wordCount (now work)) (wordsOf (now job)) (wordsOf (now work)) lay wl × HasOperand (jobOf (wordsOf (now job)) lay) p slot × (g < 4294967295) ⌝ }
     ensures { λ r. ⌜ Maps (wordsOf (now (job .entry))) (wordsOf (now (work .entry))) lay wl (λ ms. mapOne p (some slot) (vrgroup g) ms (mappedAt ms p slot)) r (wordsOf (now (work .exit))) ⌝ }
 {
@@ -97,7 +104,14 @@ pub fn map_use(job: &[u8], lay: Layout, work: &mut [u8], wl: WorkLayout, u: Use,
 }
 
 // "A new group maps every group operand of its register": of a part. Not if one is mapped already.
-pub fn map_part(job: &[u8], lay: Layout, work: &mut [u8], wl: WorkLayout, sp: SetPart, g: u32) -> bool
+pub fn map_part(
+    job: &[u8],
+    lay: Layout,
+    work: &mut [u8],
+    wl: WorkLayout,
+    sp: SetPart,
+    g: u32,
+) -> bool
     requires { ⌜ Ready (wordCount (now job)) (wordCount (now work)) (wordsOf (now job)) (wordsOf (now work)) lay wl × MapApart lay wl × PartOk (wordsOf (now job)) lay sp × (g < 4294967295) ⌝ }
     ensures { λ r. ⌜ Maps (wordsOf (now (job .entry))) (wordsOf (now (work .entry))) lay wl (mapUses (vrgroup g) (usesOf (partSegs (wordsOf (now (work .entry))) (wl .marks) (wordsOf (now (job .entry))) lay sp))) r (wordsOf (now (work .exit))) ⌝ }
 {

@@ -1,7 +1,7 @@
 -- The uses of a part written one by one, then a row for each of its segments. Assumes nothing.
 use mathlib.Core.Path.{_≡_, refl, sym, ap, _∙_, subst}
-use mathlib.Core.List.{List, [], _∷_, _++_, map}
-use Prim.Native.Nat.{ℕ, zero, suc, _+_, _-_, _*_, _≤_, _<_}
+use mathlib.Core.List.{List, [], _∷_, _++_}
+use Prim.Native.Nat.{ℕ, suc, _+_, _-_, _*_, _≤_, _<_}
 use native.Mathlib.Omega.{arith}
 use lib.ListN.{length}
 use Rattle.rows.specs.Tab.{tab, length-tab, tab-snoc}
@@ -68,11 +68,11 @@ own-snoc : (ss : List Segment) (s : Segment) → asOwn (ss ++ (s ∷ [])) ≡ as
 own-snoc [] s = refl
 own-snoc (t ∷ ss) s = ap (λ (l : List Piece). record { origin = Own; seg = t } ∷ l) (own-snoc ss s)
 
-own-length : (ss : List Segment) → length (asOwn ss) ≡ length ss
+pub own-length : (ss : List Segment) → length (asOwn ss) ≡ length ss
 own-length [] = refl
 own-length (s ∷ ss) = ap suc (own-length ss)
 
-own-segs : (ss : List Segment) → segsOf (asOwn ss) ≡ ss
+pub own-segs : (ss : List Segment) → segsOf (asOwn ss) ≡ ss
 own-segs [] = refl
 own-segs (s ∷ ss) = ap (λ (l : List Segment). s ∷ l) (own-segs ss)
 

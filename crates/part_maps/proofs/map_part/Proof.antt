@@ -51,9 +51,10 @@ loop-again : tie.Need-loop-again Inv-loop μ-loop
 loop-again c =
     let s = c .before .before .before .before .before .before .before .before .before .before .before in
     let l = c .before .before .before .before .before .before .before .before in
-    let o = run-outside _ _ _ _ _ _ _ _ _ _ (l .loop .inv .0) in
-    (run-next _ _ _ _ _ _ _ _ _ _ (l .loop .inv .0) (c .before .before .before .before .before .before .before .loop-test .taken) _ (c .before .before .before .before .before .marked-use .ensures ∙ marked-kept _ _ _ _ o (s .pre .1) _ _) _ _ (c .before .before .before .map-use .ensures) (c .if1 .left),
-    omega (arith, l .loop .inv .1, c .before .before .before .map-use))
+    let o = run-outside _ _ _ _ _ _ _ _ _ _ (l .loop .inv .0) in (
+      run-next _ _ _ _ _ _ _ _ _ _ (l .loop .inv .0) (c .before .before .before .before .before .before .before .loop-test .taken) _ (c .before .before .before .before .before .marked-use .ensures ∙ marked-kept _ _ _ _ o (s .pre .1) _ _) _ _ (c .before .before .before .map-use .ensures) (c .if1 .left),
+      omega (arith, l .loop .inv .1, c .before .before .before .map-use),
+    )
 
 returns-2 : tie.Need-returns-2 Inv-loop μ-loop
 returns-2 c =

@@ -1,10 +1,6 @@
-use mathlib.Core.Path.{_≡_, refl}
-use Prim.Native.Nat.{_+_, _-_, _≤_, _<_}
+use Prim.Native.Nat.{_+_, _-_, _≤_}
 use native.Mathlib.Omega.{arith}
-use lib.ListN.{length}
 use Rattle.words.specs.Words.{wordsOf}
-use Rattle.words.specs.Laws.{length-words}
-use denote.Ref.{now}
 use Rattle.part_pieces.proofs.Hint.{HintLeft, hint-start, hint-no, hint-yes, hint-end}
 use borrow.Author.Needs.{needs}
 use Rattle.part_pieces.proofs.hint_in_part.Statement.{statement}
