@@ -14,7 +14,7 @@ use Rattle.definition.specs.declared.Use.{Use}
 use Rattle.definition.specs.Types.{Turned, val}
 use Rattle.definition.specs.Build.{allOf, onto, runs, sameInst}
 use Rattle.layout.specs.declared.Layout.{Layout}
-use Rattle.conflict_round.specs.Conflict.{rowUse, turnedRowAt, turnedRowsOf, RowsOk}
+use Rattle.conflict_piece.specs.Conflict.{rowUse, turnedRowAt, turnedRowsOf, RowsOk}
 use Rattle.conflict_round.proofs.Swap.{row-use}
 
 -- ---- a run of a list

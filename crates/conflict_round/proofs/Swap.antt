@@ -17,7 +17,7 @@ use Rattle.definition.specs.Types.{Turned, val}
 use Rattle.uses.specs.Rows.{useRow}
 use Rattle.layout.specs.declared.Layout.{Layout}
 use Rattle.conflict_round.specs.declared.RowWords.{RowWords}
-use Rattle.conflict_round.specs.Conflict.{rowUse, turnedRowAt, RowsOk}
+use Rattle.conflict_piece.specs.Conflict.{rowUse, turnedRowAt, RowsOk}
 use Rattle.conflict_round.specs.Rounds.{rowWords, fourOf, swapRows, Elsewhere}
 
 -- ---- one row put at word p
@@ -180,10 +180,6 @@ elsewhere-swap turned a b K₀ K i j o ha l hb w =
     }
 
 -- ---- what the code reads and stores
-
-pub use-read : (K : List ℕ) (turned : ℕ) (W : List ℕ) (lay : Layout) (k n : ℕ) (u : Use) → n ≡ getD K (turned + k * 4 + 1) 0 → u ≡ useRow W (lay .uses .at + n * 6) → u ≡ rowUse K turned W lay k
-unfolding rowUse
-use-read K turned W lay k n u en eu = eu ∙ ap (λ (j : ℕ). useRow W (lay .uses .at + j * 6)) en
 
 pub words-read : (K : List ℕ) (i v n h q : ℕ) → v ≡ getD K i 0 → n ≡ getD K (i + 1) 0 → h ≡ getD K (i + 2) 0 → q ≡ getD K (i + 3) 0
     → record { value = v; number = n; has = h; param = q } ≡ rowWords K i

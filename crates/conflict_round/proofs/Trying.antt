@@ -30,8 +30,9 @@ use Rattle.constraints.specs.declared.WorkLayout.{WorkLayout}
 use Rattle.constraints.specs.Held.{heldOf, admissionOf}
 use Rattle.constraints.specs.Ready.{operandsIn, Mapping, Backed, Ready, Stands}
 use Rattle.constraints.proofs.Admitted.{answer-yes, answer-no}
+use Rattle.conflict_piece.proofs.Going.{backed-row}
 use Rattle.conflict_round.specs.declared.Round.{Round}
-use Rattle.conflict_round.specs.Conflict.{rowUse, turnedRowAt, turnedRowsOf, RowsOk}
+use Rattle.conflict_piece.specs.Conflict.{rowUse, turnedRowAt, turnedRowsOf, RowsOk}
 use Rattle.conflict_round.specs.Rounds.{swapRows, TurnedApart, Elsewhere, tryAll, Tried}
 use Rattle.conflict_round.proofs.Swap.{row-use, rows-equal, swap-first, swap-second, swap-under, swap-inside, swap-over, swap-known, elsewhere-none, elsewhere-swap}
 
@@ -252,12 +253,6 @@ module _ (S : State → Type 0) (J : Job) (w : ℕ) (K₀ : List ℕ) (turned : 
           })
 
 -- ---- the use of a row
-
--- it has its operand
-backed-row : (t w : ℕ) (W K : List ℕ) (lay : Layout) (wl : WorkLayout) (k : ℕ) (u : Use) → Ready t w W K lay wl → getD K (wl .turned + k * 4 + 1) 0 < lay .uses .n → u ≡ rowUse K (wl .turned) W lay k
-    → Backed (jobOf W lay) u
-unfolding rowUse
-backed-row t w W K lay wl k u r h e = subst (λ (x : Use). Backed (jobOf W lay) x) (sym e) (r .backed (getD K (wl .turned + k * 4 + 1) 0) h)
 
 pub admit-is : (t w : ℕ) (W K : List ℕ) (lay : Layout) (wl : WorkLayout) (k : ℕ) (u : Use) (st : State) (h : types.Held) (o : Option types.Held) → Ready t w W K lay wl
     → getD K (wl .turned + k * 4 + 1) 0 < lay .uses .n → u ≡ rowUse K (wl .turned) W lay k → (Backed (jobOf W lay) u → o ≡ admit (jobOf W lay) st h u)

@@ -1,2 +1,1 @@
-pub mod Conflict
 pub mod Rounds

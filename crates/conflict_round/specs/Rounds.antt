@@ -13,7 +13,7 @@ use Rattle.constraints.specs.declared.WorkLayout.{WorkLayout}
 use Rattle.constraints.specs.Held.{heldOf}
 use Rattle.conflict_round.specs.declared.Round.{Round}
 use Rattle.conflict_round.specs.declared.RowWords.{RowWords}
-use Rattle.conflict_round.specs.Conflict.{turnedRowsOf}
+use Rattle.conflict_piece.specs.Conflict.{turnedRowsOf}
 
 -- the words of the row that begins at word i
 unfoldable pub rowWords : List ℕ → ℕ → RowWords

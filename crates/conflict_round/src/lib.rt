@@ -2,7 +2,6 @@
 use constraints::Admission;
 use constraints::Held;
 use constraints::WorkLayout;
-use definition::Use;
 use layout::Layout;
 use virt_regs::OutLayout;
 ghost use mathlib.Core.Path.{_≡_};
@@ -18,7 +17,7 @@ ghost use Rattle.job.specs.Job.{jobOf};
 ghost use Rattle.virt_regs.specs.Encoding.{tablesEnd};
 ghost use Rattle.constraints.specs.Held.{heldOf, admissionOf};
 ghost use Rattle.constraints.specs.Ready.{Ready, Stands};
-ghost use Rattle.conflict_round.specs.Conflict.{rowUse, turnedRowAt, turnedRowsOf, RowsOk};
+ghost use Rattle.conflict_piece.specs.Conflict.{rowUse, turnedRowAt, turnedRowsOf, RowsOk};
 ghost use Rattle.conflict_round.specs.Rounds.{rowWords, swapRows, TurnedApart, Elsewhere, tryAll, Tried};
 
 // The four words of a row: value, use number, whether it has a parameter (0 or 1), the parameter.
@@ -33,16 +32,6 @@ pub struct RowWords {
 pub struct Round {
     pub end: usize,
     pub held: Held,
-}
-
-// The use of turned row k, as it stands in the job.
-pub fn turned_use(job: &[u8], lay: Layout, work: &[u8], turned: usize, k: usize) -> Use
-    requires { ⌜ Fits (wordCount (now job)) lay × (turned + k * 4 + 4 ≤ wordCount (now work)) × (getD (wordsOf (now work)) (turned + k * 4 + 1) 0 < lay .uses .n) ⌝ }
-    ensures { λ r. ⌜ r ≡ rowUse (wordsOf (now (work .entry))) turned (wordsOf (now (job .entry))) lay k ⌝ }
-{
-    let n = words::word_at(work, turned + k * 4 + 1) as usize;
-    let at = lay.uses.at;
-    uses::use_at(job, at + n * 6)
 }
 
 // The row that begins at word i.
@@ -77,7 +66,7 @@ fn admit_row(job: &[u8], lay: Layout, out: &[u8], ol: OutLayout, work: &[u8], wl
     ensures { λ r. ⌜ ((st : State) → Stands ol (wordsOf (now (out .entry))) (wordsOf (now (job .entry))) (wordsOf (now (work .entry))) lay wl st → admissionOf r ≡ admit (jobOf (wordsOf (now (job .entry))) lay) st (heldOf held) (rowUse (wordsOf (now (work .entry))) (wl .turned) (wordsOf (now (job .entry))) lay k)) ⌝ }
 {
     let turned = wl.turned;
-    let u = turned_use(job, lay, work, turned, k);
+    let u = conflict_piece::turned_use(job, lay, work, turned, k);
     constraints::admit(job, lay, out, ol, work, wl, held, u)
 }
 
@@ -109,10 +98,10 @@ pub fn run_end(job: &[u8], lay: Layout, work: &[u8], turned: usize, a: usize, n:
     requires { ⌜ Fits (wordCount (now job)) lay × RowsOk (wordCount (now work)) (wordsOf (now work)) turned lay a n × (a < n) ⌝ }
     ensures { λ r. ⌜ (a < r) × (r ≤ n) × (runs sameInst (turnedRowsOf (wordsOf (now (work .entry))) turned (wordsOf (now (job .entry))) lay a n) ≡ turnedRowsOf (wordsOf (now (work .entry))) turned (wordsOf (now (job .entry))) lay a r ∷ runs sameInst (turnedRowsOf (wordsOf (now (work .entry))) turned (wordsOf (now (job .entry))) lay r n)) ⌝ }
 {
-    let first = turned_use(job, lay, work, turned, a);
+    let first = conflict_piece::turned_use(job, lay, work, turned, a);
     let mut e = a + 1;
     while e < n {
-        let u = turned_use(job, lay, work, turned, e);
+        let u = conflict_piece::turned_use(job, lay, work, turned, e);
         if u.pos.0 != first.pos.0 {
             return e;
         }

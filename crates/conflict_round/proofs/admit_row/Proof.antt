@@ -4,7 +4,7 @@ use Rattle.conflict_round.proofs.admit_row.Statement.{statement}
 use Rattle.conflict_round.proofs.admit_row.Tie as tie
 use Rattle.conflict_round.proofs.admit_row.Reads as reads
 use Rattle.conflict_round.proofs.admit_row.Lts as lts
-use Rattle.conflict_round.proofs.turned_use.Reads as turned-use-reads
+use Rattle.conflict_piece.proofs.turned_use.Reads as turned-use-reads
 use Rattle.constraints.proofs.admit.Reads as admit-reads
 
 -- src/lib.rt:80:9

@@ -7,7 +7,7 @@ use Rattle.conflict_round.proofs.run_end.Statement.{statement}
 use Rattle.conflict_round.proofs.run_end.Tie as tie
 use Rattle.conflict_round.proofs.run_end.Reads as reads
 use Rattle.conflict_round.proofs.run_end.Lts as lts
-use Rattle.conflict_round.proofs.turned_use.Reads as turned-use-reads
+use Rattle.conflict_piece.proofs.turned_use.Reads as turned-use-reads
 
 abbrev Inv-loop : tie.InvT-loop
 Inv-loop job lay work turned a n first e₀ e = Running (wordsOf work) turned (wordsOf job) lay a n (first .pos .0) e
