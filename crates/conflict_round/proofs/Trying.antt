@@ -13,10 +13,11 @@ use Rattle.rows.specs.RowsAt.{length-rows-at}
 use Rattle.words.specs.Words.{wordCount, wordsOf}
 use Rattle.words.specs.Laws.{length-words}
 use Rattle.definition.specs.declared.BlockData.{BlockData}
+use Rattle.definition.specs.declared.RegClass.{RegClass}
 use Rattle.definition.specs.declared.Use.{Use}
 use Rattle.definition.specs.Types.{Job, State, Turned}
 use Rattle.definition.specs.Types as types
-use Rattle.definition.specs.Admit.{admit}
+use Rattle.definition.specs.Admit.{fresh, admit}
 use Rattle.definition.specs.Build.{lastFirst, lastFirst′, try}
 use Rattle.definition.specs.Build as build
 use Rattle.function.specs.Blocks.{blockRow, blocksAt, Starts}
@@ -33,7 +34,7 @@ use Rattle.constraints.proofs.Admitted.{answer-yes, answer-no}
 use Rattle.conflict_piece.proofs.Going.{backed-row}
 use Rattle.conflict_round.specs.declared.Round.{Round}
 use Rattle.conflict_piece.specs.Conflict.{rowUse, turnedRowAt, turnedRowsOf, RowsOk}
-use Rattle.conflict_round.specs.Rounds.{swapRows, TurnedApart, Elsewhere, tryAll, Tried}
+use Rattle.conflict_round.specs.Rounds.{swapRows, TurnedApart, Elsewhere, tryFrom, tryAll, Tried}
 use Rattle.conflict_round.proofs.Swap.{row-use, rows-equal, swap-first, swap-second, swap-under, swap-inside, swap-over, swap-known, elsewhere-none, elsewhere-swap}
 
 -- ---- one step of `try`
@@ -168,7 +169,7 @@ pub record Trying (S : State → Type 0) (J : Job) (h₀ : types.Held) (w : ℕ)
   pub high : j ≤ b
   pub elsewhere : Elsewhere turned a b K₀ K
   pub rows : RowsOk w K turned lay a b
-  pub on : (st : State) → S st → tryAll J st h₀ (turnedRowsOf K₀ turned W lay a b) ≡ tried J st (turnedRowAt K turned W lay) a b i j h
+  pub on : (st : State) → S st → tryFrom J st h₀ (turnedRowsOf K₀ turned W lay a b) ≡ tried J st (turnedRowAt K turned W lay) a b i j h
 
 module _ (S : State → Type 0) (J : Job) (w : ℕ) (K₀ : List ℕ) (turned : ℕ) (W : List ℕ) (lay : Layout) (a b : ℕ) where
   pub trying-start : (h : types.Held) → RowsOk w K₀ turned lay a b → Trying S J h w K₀ turned W lay a b K₀ a b h
@@ -191,13 +192,13 @@ module _ (S : State → Type 0) (J : Job) (w : ℕ) (K₀ : List ℕ) (turned : 
       }
 
   module _ (h₀ : types.Held) (K : List ℕ) (i j : ℕ) (h : Held) (v : Trying S J h₀ w K₀ turned W lay a b K i j (heldOf h)) where
-    pub trying-end : j ≤ i → (st : State) → S st → Tried K turned W lay a b (record { end = i; held = h }) (tryAll J st h₀ (turnedRowsOf K₀ turned W lay a b))
+    all-tried : j ≤ i → (st : State) → S st → Tried K turned W lay a b (record { end = i; held = h }) (tryFrom J st h₀ (turnedRowsOf K₀ turned W lay a b))
     unfolding turnedRowsOf
-    trying-end l st s =
+    all-tried l st s =
         let f : ℕ → Turned = turnedRowAt K turned W lay in
         let z : j - i ≡ 0 = omega arith in
         let y : j ≡ i = omega (arith, v .mid) in
-        let e : tryAll J st h₀ (turnedRowsOf K₀ turned W lay a b) ≡ record { held = heldOf h; taken = tab f a (i - a); left = tab f i (b - i) } =
+        let e : tryFrom J st h₀ (turnedRowsOf K₀ turned W lay a b) ≡ record { held = heldOf h; taken = tab f a (i - a); left = tab f i (b - i) } =
         v .on st s
         ∙ ap (λ (n : ℕ). try n J st (heldOf h) (tab f a (i - a)) (tab f i (j - i)) (tab f j (b - j))) z
         ∙ try-end J st (heldOf h) (tab f a (i - a)) (tab f i (j - i)) (tab f j (b - j))
@@ -207,6 +208,10 @@ module _ (S : State → Type 0) (J : Job) (w : ℕ) (K₀ : List ℕ) (turned : 
           left = sym (ap (λ (q : build.Round). q .left) e);
           held = sym (ap (λ (q : build.Round). q .held) e);
         }
+
+    pub trying-end : (top : RegClass) → h₀ ≡ fresh top → j ≤ i → (st : State) → S st → Tried K turned W lay a b (record { end = i; held = h }) (tryAll J st top (turnedRowsOf K₀ turned W lay a b))
+    trying-end top e l st s =
+        subst (λ (g : types.Held). Tried K turned W lay a b (record { end = i; held = h }) (tryFrom J st g (turnedRowsOf K₀ turned W lay a b))) e (all-tried l st s)
 
     module _ (l : i < j) (r : Admission) (ea : (st : State) → S st → admissionOf r ≡ admit J st (heldOf h) (rowUse K turned W lay i)) where
       at-row : (st : State) → S st → admissionOf r ≡ admit J st (heldOf h) (turnedRowAt K turned W lay i .use′)

@@ -4,8 +4,10 @@ use mathlib.Core.Path.{_≡_}
 use mathlib.Core.List.{List, [], _∷_}
 use lib.ListN.{length, getD}
 use Rattle.rows.specs.Parts.{splice}
+use Rattle.definition.specs.declared.RegClass.{RegClass}
 use Rattle.definition.specs.Types.{Job, State, Turned}
 use Rattle.definition.specs.Types as types
+use Rattle.definition.specs.Admit.{fresh}
 use Rattle.definition.specs.Build.{try}
 use Rattle.definition.specs.Build as build
 use Rattle.layout.specs.declared.Layout.{Layout}
@@ -39,9 +41,12 @@ pub record Elsewhere (turned a b : ℕ) (K K′ : List ℕ) : Type 0 where
   pub before : (n : ℕ) → n < turned + a * 4 → getD K′ n 0 ≡ getD K n 0
   pub behind : (n : ℕ) → turned + b * 4 ≤ n → getD K′ n 0 ≡ getD K n 0
 
--- all of ts are tried, from what is held on
-abbrev pub tryAll : Job → State → types.Held → List Turned → build.Round
-tryAll job st h ts = try (length ts) job st h [] ts []
+abbrev pub tryFrom : Job → State → types.Held → List Turned → build.Round
+tryFrom job st h ts = try (length ts) job st h [] ts []
+
+-- "From the top class, the turned uses are tried"
+abbrev pub tryAll : Job → State → RegClass → List Turned → build.Round
+tryAll job st top ts = tryFrom job st (fresh top) ts
 
 -- the answer r with the words K of rows a to b - 1 stands for q
 pub record Tried (K : List ℕ) (turned : ℕ) (W : List ℕ) (lay : Layout) (a b : ℕ) (r : Round) (q : build.Round) : Type 0 where

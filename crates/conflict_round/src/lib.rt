@@ -2,6 +2,7 @@
 use constraints::Admission;
 use constraints::Held;
 use constraints::WorkLayout;
+use definition::RegClass;
 use layout::Layout;
 use virt_regs::OutLayout;
 ghost use mathlib.Core.Path.{_≡_};
@@ -70,14 +71,14 @@ fn admit_row(job: &[u8], lay: Layout, out: &[u8], ol: OutLayout, work: &[u8], wl
     constraints::admit(job, lay, out, ol, work, wl, held, u)
 }
 
-// "the turned uses are tried in the order turned; one not admitted trades places with the last untried one": rows a to b - 1.
-pub fn try_rows(job: &[u8], lay: Layout, out: &[u8], ol: OutLayout, work: &mut [u8], wl: WorkLayout, first: Held, a: usize, b: usize) -> Round
+// "From the top class, the turned uses are tried in the order turned; one not admitted trades places with the last untried one": rows a to b - 1.
+pub fn try_rows(job: &[u8], lay: Layout, out: &[u8], ol: OutLayout, work: &mut [u8], wl: WorkLayout, top: RegClass, a: usize, b: usize) -> Round
     requires { ⌜ Ready (wordCount (now job)) (wordCount (now work)) (wordsOf (now job)) (wordsOf (now work)) lay wl × (tablesEnd ol ≤ wordCount (now out)) × TurnedApart lay wl × RowsOk (wordCount (now work)) (wordsOf (now work)) (wl .turned) lay a b ⌝ }
     ensures { λ r. ⌜ (a ≤ r .end) × (r .end ≤ b) × Elsewhere (wl .turned) a b (wordsOf (now (work .entry))) (wordsOf (now (work .exit))) × RowsOk (wordCount (now (work .exit))) (wordsOf (now (work .exit))) (wl .turned) lay a b ⌝ }
-    ensures { λ r. ⌜ ((st : State) → Stands ol (wordsOf (now (out .entry))) (wordsOf (now (job .entry))) (wordsOf (now (work .entry))) lay wl st → Tried (wordsOf (now (work .exit))) (wl .turned) (wordsOf (now (job .entry))) lay a b r (tryAll (jobOf (wordsOf (now (job .entry))) lay) st (heldOf first) (turnedRowsOf (wordsOf (now (work .entry))) (wl .turned) (wordsOf (now (job .entry))) lay a b))) ⌝ }
+    ensures { λ r. ⌜ ((st : State) → Stands ol (wordsOf (now (out .entry))) (wordsOf (now (job .entry))) (wordsOf (now (work .entry))) lay wl st → Tried (wordsOf (now (work .exit))) (wl .turned) (wordsOf (now (job .entry))) lay a b r (tryAll (jobOf (wordsOf (now (job .entry))) lay) st top (turnedRowsOf (wordsOf (now (work .entry))) (wl .turned) (wordsOf (now (job .entry))) lay a b))) ⌝ }
 {
     let turned = wl.turned;
-    let mut held = first;
+    let mut held = scans::fresh_held(top);
     let mut i = a;
     let mut j = b;
     while i < j {

@@ -26,12 +26,12 @@ abbrev μ-loop : tie.MeasureT-loop
 
 -- src/lib.rt:94:5
 loop-holds : tie.Need-loop-holds Inv-loop μ-loop
-loop-holds c = (trying-start _ _ _ _ _ _ _ _ _ _ (c .before .before .before .pre .3), refl)
+loop-holds c = (trying-start _ _ _ _ _ _ _ _ _ _ (c .before .before .before .before .pre .3), refl)
 
 -- src/lib.rt:95:13
 admit-row-requires : tie.Need-admit-row-requires Inv-loop μ-loop
 admit-row-requires c κs =
-    let s = c .before .before .before .before .before .before in
+    let s = c .before .before .before .before .before .before .before in
     let v = c .before .before .loop .inv in
     let t = c .before .loop-test .taken in
     (ready-now _ _ _ _ _ _ _ _ (v .0 .elsewhere) (s .pre .2) (v .1) (s .pre .0), s .pre .1, omega (arith, t, v .0 .high, v .0 .rows .within, v .1), v .0 .rows .known (c .before .before .loop .i) (v .0 .low) (omega (arith, t, v .0 .high)))
@@ -47,7 +47,7 @@ loop-less c = omega (arith, c .before .before .before .before .loop-test .taken)
 -- src/lib.rt:94:5
 loop-again : tie.Need-loop-again Inv-loop μ-loop
 loop-again c =
-    let s = c .before .before .before .before .before .before .before .before .before in
+    let s = c .before .before .before .before .before .before .before .before .before .before in
     let v = c .before .before .before .before .before .loop .inv in
     (trying-yes _ _ _ _ _ _ _ _ _ _ _ _ _ _ (v .0) (c .before .before .before .before .loop-test .taken) _
     (λ st hs. c .before .before .admit-row .ensures st (stands-kept _ _ _ _ _ _ (v .0 .elsewhere) (s .pre .2) _ _ _ st hs)) (c .before .if1 .taken),
@@ -71,7 +71,7 @@ loop-less-2 c = omega (arith, c .before .before .before .before .before .before 
 -- src/lib.rt:94:5
 loop-again-2 : tie.Need-loop-again-2 Inv-loop μ-loop
 loop-again-2 c =
-    let s = c .before .before .before .before .before .before .before .before .before .before .before .before in
+    let s = c .before .before .before .before .before .before .before .before .before .before .before .before .before in
     let v = c .before .before .before .before .before .before .before .before .loop .inv in
     (trying-no _ _ _ _ _ _ _ _ _ _ _ _ _ _ (v .0) (c .before .before .before .before .before .before .before .loop-test .taken) _
     (λ st hs. c .before .before .before .before .before .admit-row .ensures st (stands-kept _ _ _ _ _ _ (v .0 .elsewhere) (s .pre .2) _ _ _ st hs)) (c .before .before .before .before .if1 .left) _ refl _ (c .before .before .swap-rows .ensures) (count-is (now (s .args .work)) (c .before .before .before .before .before .before .before .before .loop .work) (v .1)),
@@ -85,7 +85,7 @@ same-length c = omega (arith, c .before .loop .inv .1)
 returns : tie.Need-returns Inv-loop μ-loop
 returns c =
     let v = c .before .loop .inv in
-    ((v .0 .low, omega (arith, v .0 .mid, v .0 .high), v .0 .elsewhere, rows-now (now (c .before .before .before .before .before .args .work)) (c .before .loop .work) _ _ _ _ _ (v .1) (v .0 .rows)), trying-end _ _ _ _ _ _ _ _ _ _ _ _ _ _ (v .0) (c .loop-test .left))
+    ((v .0 .low, omega (arith, v .0 .mid, v .0 .high), v .0 .elsewhere, rows-now (now (c .before .before .before .before .before .before .args .work)) (c .before .loop .work) _ _ _ _ _ (v .1) (v .0 .rows)), trying-end _ _ _ _ _ _ _ _ _ _ _ _ _ _ (v .0) _ (c .before .before .fresh-held .ensures) (c .loop-test .left))
 
 pub try-rows-spec : {M : Type 1} → statement M
 try-rows-spec =
@@ -93,6 +93,7 @@ try-rows-spec =
     (tie.spec
     Inv-loop
     μ-loop
+    (λ c κs. search needs)
     loop-holds
     admit-row-requires
     add-i
