@@ -14,8 +14,8 @@ use Rattle.definition.specs.declared.Use.{Use}
 use Rattle.definition.specs.Types.{Turned, val}
 use Rattle.definition.specs.Build.{allOf, onto, runs, sameInst}
 use Rattle.layout.specs.declared.Layout.{Layout}
-use Rattle.conflict_piece.specs.Conflict.{rowUse, turnedRowAt, turnedRowsOf, RowsOk}
-use Rattle.conflict_round.proofs.Swap.{row-use}
+use Rattle.conflict_piece.specs.Conflict.{rowUse, turnedRowAt, turnedRowsOf}
+use Rattle.conflict_round.proofs.Kept.{row-use}
 
 -- ---- a run of a list
 
@@ -44,7 +44,7 @@ onto-first t ((c ∷ cs) ∷ ds) = go (sameInst t c)
 onto-last : (t z : Turned) (rs : List (List Turned)) → sameInst t z ≡ false → onto sameInst t (onto sameInst z rs) ≡ (t ∷ []) ∷ onto sameInst z rs
 onto-last t z rs e =
     let o = onto-first z rs in
-    ap (λ (l : List (List Turned)). onto sameInst t l) (o .2 )
+    ap (λ (l : List (List Turned)). onto sameInst t l) (o .2)
     ∙ ap (λ (b : Bool). cond b ((t ∷ z ∷ o .0) ∷ o .1) ((t ∷ []) ∷ (z ∷ o .0) ∷ o .1)) e
     ∙ ap (λ (l : List (List Turned)). (t ∷ []) ∷ l) (sym (o .2))
 
@@ -113,10 +113,12 @@ module _ (K : List ℕ) (turned : ℕ) (W : List ℕ) (lay : Layout) (a n : ℕ)
     run-is : (e < n → rowUse K turned W lay e .pos .0 ≡ p → ⊥)
         → (a < e) × (e ≤ n) × (runs sameInst (turnedRowsOf K turned W lay a n) ≡ turnedRowsOf K turned W lay a e ∷ runs sameInst (turnedRowsOf K turned W lay e n))
     unfolding turnedRowsOf
-    run-is o =
-        (v .some-row, v .high,
-        run-of p (turnedRowAt K turned W lay) a e n (v .some-row) (v .high) (λ m lo hi. ap (λ (x : Use). x .pos .0) (row-use K turned W lay m) ∙ v .alike m lo hi)
-        (λ l q. o l (sym (ap (λ (x : Use). x .pos .0) (row-use K turned W lay e)) ∙ q)))
+    run-is o = (
+      v .some-row,
+      v .high,
+      run-of p (turnedRowAt K turned W lay) a e n (v .some-row) (v .high) (λ m lo hi. ap (λ (x : Use). x .pos .0) (row-use K turned W lay m) ∙ v .alike m lo hi)
+          (λ l q. o l (sym (ap (λ (x : Use). x .pos .0) (row-use K turned W lay e)) ∙ q)),
+    )
 
     pub running-stop : (u : Use) → u ≡ rowUse K turned W lay e → (u .pos .0 ≡ p → ⊥)
         → (a < e) × (e ≤ n) × (runs sameInst (turnedRowsOf K turned W lay a n) ≡ turnedRowsOf K turned W lay a e ∷ runs sameInst (turnedRowsOf K turned W lay e n))

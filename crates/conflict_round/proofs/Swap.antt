@@ -1,8 +1,7 @@
 -- Rows that trade places. Assumes nothing.
 use mathlib.Core.Path.{_≡_, refl, sym, ap, _∙_}
-use mathlib.Core.Bool.{Bool, true, false, cond}
-use mathlib.Core.Option.{Option, none, some}
-use mathlib.Core.List.{List, [], _∷_}
+use mathlib.Core.Bool.{Bool, true, false}
+use mathlib.Core.List.{List}
 use Prim.Native.Nat.{ℕ, _+_, _-_, _*_, _≤_, _<_}
 use native.Mathlib.Nat.{add-zero}
 use native.Mathlib.Numerals.{lt-of-le-of-ne}
@@ -12,13 +11,11 @@ use lib.ListN.{length, getD, drop}
 use lib.Seq.{getD-drop}
 use borrow.Author.Tests.{ltb-true, ltb-false, eqb-true, eqb-false}
 use Rattle.rows.specs.Parts.{splice, length-splice, getD-splice-before, getD-splice-in, drop-splice}
-use Rattle.definition.specs.declared.Use.{Use}
-use Rattle.definition.specs.Types.{Turned, val}
-use Rattle.uses.specs.Rows.{useRow}
 use Rattle.layout.specs.declared.Layout.{Layout}
 use Rattle.conflict_round.specs.declared.RowWords.{RowWords}
-use Rattle.conflict_piece.specs.Conflict.{rowUse, turnedRowAt, RowsOk}
+use Rattle.conflict_piece.specs.Conflict.{RowsOk}
 use Rattle.conflict_round.specs.Rounds.{rowWords, fourOf, swapRows, Elsewhere}
+use Rattle.conflict_round.proofs.Kept.{row-same, row-number}
 
 -- ---- one row put at word p
 
@@ -47,16 +44,6 @@ module _ (K : List ℕ) (p : ℕ) (r : RowWords) (h : p + 4 ≤ length K) where
       let c : getD (splice K p (fourOf r)) (p + 2) 0 ≡ r .has = getD-splice-in K p (fourOf r) h 2 0 (omega arith) in
       let d : getD (splice K p (fourOf r)) (p + 3) 0 ≡ r .param = getD-splice-in K p (fourOf r) h 3 0 (omega arith) in
       λ x. record { value = a x; number = b x; has = c x; param = d x }
-
--- four words that are as they were
-row-same : (K K′ : List ℕ) (k : ℕ) → ((n : ℕ) → k ≤ n → n < k + 4 → getD K′ n 0 ≡ getD K n 0) → rowWords K′ k ≡ rowWords K k
-unfolding rowWords
-row-same K K′ k f =
-    let a : getD K′ k 0 ≡ getD K k 0 = f k (omega arith) (omega arith) in
-    let b : getD K′ (k + 1) 0 ≡ getD K (k + 1) 0 = f (k + 1) (omega arith) (omega arith) in
-    let c : getD K′ (k + 2) 0 ≡ getD K (k + 2) 0 = f (k + 2) (omega arith) (omega arith) in
-    let d : getD K′ (k + 3) 0 ≡ getD K (k + 3) 0 = f (k + 3) (omega arith) (omega arith) in
-    λ x. record { value = a x; number = b x; has = c x; param = d x }
 
 -- ---- rows i and j, i ≤ j
 
@@ -118,30 +105,6 @@ module _ (K : List ℕ) (turned i j : ℕ) (h : turned + j * 4 + 4 ≤ length K)
   pub swap-over : (k : ℕ) → j < k → rowWords (swapRows K turned i j) (turned + k * 4) ≡ rowWords K (turned + k * 4)
   swap-over k m = row-same K (swapRows K turned i j) (turned + k * 4) (λ n a b. swap-behind n (omega arith))
 
--- ---- a row by its words
-
-abbrev pub rowOf : List ℕ → Layout → RowWords → Turned
-rowOf W lay r = record {
-  value = val (r .value);
-  use′ = useRow W (lay .uses .at + r .number * 6);
-  param = cond (eqb (r .has) 0) none (some (r .param));
-}
-
-pub row-by : (K : List ℕ) (turned : ℕ) (W : List ℕ) (lay : Layout) (k : ℕ) → turnedRowAt K turned W lay k ≡ rowOf W lay (rowWords K (turned + k * 4))
-unfolding turnedRowAt rowUse rowWords
-row-by K turned W lay k = refl
-
-pub row-use : (K : List ℕ) (turned : ℕ) (W : List ℕ) (lay : Layout) (k : ℕ) → turnedRowAt K turned W lay k .use′ ≡ rowUse K turned W lay k
-unfolding turnedRowAt
-row-use K turned W lay k = refl
-
-pub rows-equal : (K K′ : List ℕ) (turned : ℕ) (W : List ℕ) (lay : Layout) (k m : ℕ) → rowWords K′ (turned + k * 4) ≡ rowWords K (turned + m * 4) → turnedRowAt K′ turned W lay k ≡ turnedRowAt K turned W lay m
-rows-equal K K′ turned W lay k m e = row-by K′ turned W lay k ∙ ap (λ (r : RowWords). rowOf W lay r) e ∙ sym (row-by K turned W lay m)
-
-row-number : (K K′ : List ℕ) (turned k m : ℕ) → rowWords K′ (turned + k * 4) ≡ rowWords K (turned + m * 4) → getD K′ (turned + k * 4 + 1) 0 ≡ getD K (turned + m * 4 + 1) 0
-unfolding rowWords
-row-number K K′ turned k m e = ap (λ (r : RowWords). r .number) e
-
 -- ---- what stays
 
 -- the uses of the rows are uses of the job still
@@ -166,9 +129,6 @@ swap-known w K turned lay a b i j ew ha l hb r =
         by k i ha (omega arith) (ap (λ (n : ℕ). rowWords (swapRows K turned i j) (turned + n * 4)) (eqb-true k j ey) ∙ swap-second K turned i j h l)
     go k m o false eu false ev false ex false ey =
         by k k m o (swap-over K turned i j h l k (lt-of-le-of-ne (ltb-false k j ex) (λ z. eqb-false k j ey (sym z))))
-
-pub elsewhere-none : (turned a b : ℕ) (K : List ℕ) → Elsewhere turned a b K K
-elsewhere-none turned a b K = record { long = refl; before = λ n l. refl; behind = λ n l. refl }
 
 pub elsewhere-swap : (turned a b : ℕ) (K₀ K : List ℕ) (i j : ℕ) → Elsewhere turned a b K₀ K → a ≤ i → i ≤ j → j < b → turned + b * 4 ≤ length K → Elsewhere turned a b K₀ (swapRows K turned i j)
 elsewhere-swap turned a b K₀ K i j o ha l hb w =

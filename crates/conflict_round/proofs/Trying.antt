@@ -1,18 +1,13 @@
 -- The rows tried one after the other, in place. Assumes nothing.
 use mathlib.Core.Path.{_≡_, refl, sym, ap, _∙_, subst}
-use mathlib.Core.Bool.{Bool, true, false}
+use mathlib.Core.Bool.{true, false}
 use mathlib.Core.Option.{Option, none, some}
 use mathlib.Core.List.{List, [], _∷_, _++_, reverse, reverse-append, reverse-reverse}
-use Prim.Native.Nat.{ℕ, zero, suc, _+_, _-_, _*_, _/_, _≤_, _<_}
+use Prim.Native.Nat.{ℕ, zero, suc, _+_, _-_, _*_, _≤_, _<_}
 use native.Mathlib.Numerals.{add-one}
 use native.Mathlib.Omega.{arith}
 use lib.ListN.{length, getD}
-use lib.Ieee.{binary32, ofBits}
 use Rattle.rows.specs.Tab.{tab, length-tab, tab-more, tab-done, tab-snoc, tab-ext}
-use Rattle.rows.specs.RowsAt.{length-rows-at}
-use Rattle.words.specs.Words.{wordCount, wordsOf}
-use Rattle.words.specs.Laws.{length-words}
-use Rattle.definition.specs.declared.BlockData.{BlockData}
 use Rattle.definition.specs.declared.RegClass.{RegClass}
 use Rattle.definition.specs.declared.Use.{Use}
 use Rattle.definition.specs.Types.{Job, State, Turned}
@@ -20,22 +15,20 @@ use Rattle.definition.specs.Types as types
 use Rattle.definition.specs.Admit.{fresh, admit}
 use Rattle.definition.specs.Build.{lastFirst, lastFirst′, try}
 use Rattle.definition.specs.Build as build
-use Rattle.function.specs.Blocks.{blockRow, blocksAt, Starts}
-use Rattle.operands.proofs.Rows.{long}
 use Rattle.layout.specs.declared.Layout.{Layout}
 use Rattle.job.specs.Job.{jobOf}
-use Rattle.virt_regs.specs.declared.OutLayout.{OutLayout}
 use Rattle.constraints.specs.declared.Held.{Held}
 use Rattle.constraints.specs.declared.Admission.{Admission}
 use Rattle.constraints.specs.declared.WorkLayout.{WorkLayout}
 use Rattle.constraints.specs.Held.{heldOf, admissionOf}
-use Rattle.constraints.specs.Ready.{operandsIn, Mapping, Backed, Ready, Stands}
+use Rattle.constraints.specs.Ready.{Backed, Ready}
 use Rattle.constraints.proofs.Admitted.{answer-yes, answer-no}
 use Rattle.conflict_piece.proofs.Going.{backed-row}
 use Rattle.conflict_round.specs.declared.Round.{Round}
 use Rattle.conflict_piece.specs.Conflict.{rowUse, turnedRowAt, turnedRowsOf, RowsOk}
-use Rattle.conflict_round.specs.Rounds.{swapRows, TurnedApart, Elsewhere, tryFrom, tryAll, Tried}
-use Rattle.conflict_round.proofs.Swap.{row-use, rows-equal, swap-first, swap-second, swap-under, swap-inside, swap-over, swap-known, elsewhere-none, elsewhere-swap}
+use Rattle.conflict_round.specs.Rounds.{swapRows, Elsewhere, tryFrom, tryAll, Tried}
+use Rattle.conflict_round.proofs.Kept.{row-use, rows-equal, elsewhere-none}
+use Rattle.conflict_round.proofs.Swap.{swap-first, swap-second, swap-under, swap-inside, swap-over, swap-known, elsewhere-swap}
 
 -- ---- one step of `try`
 
@@ -112,53 +105,6 @@ module _ (job : Job) (st : State) (f : ℕ → Turned) (a b i j : ℕ) (h : type
         ∙ ap (λ (ts : List Turned). try (m - i) job st h ts (lastFirst (tab f (i + 1) (m - i))) (f i ∷ tab f j (b - j))) no-taken
         ∙ ap (λ (ts : List Turned). try (m - i) job st h (tab g a (i - a)) ts (f i ∷ tab f j (b - j))) (no-untried (m - i) z)
         ∙ ap (λ (ts : List Turned). try (m - i) job st h (tab g a (i - a)) (tab g i (m - i)) ts) no-left
-
--- ---- what admission reads is as it was
-
-blocks-long : (W : List ℕ) (at n : ℕ) → length (blocksAt W at n) ≡ n
-blocks-long W at n = length-rows-at blockRow W at 2 n
-
-module _ (lay : Layout) (wl : WorkLayout) (a b : ℕ) (K K′ : List ℕ) (o : Elsewhere (wl .turned) a b K K′) (m : TurnedApart lay wl) where
-  starts-kept : (bs : List BlockData) → length bs ≡ lay .blocks .n → Starts K (wl .starts) bs → Starts K′ (wl .starts) bs
-  starts-kept bs e s =
-      record {
-        first = λ j h. o .before (wl .starts + j * 2) (omega (arith, m .starts)) ∙ s .first j h;
-        bits = λ j h. ap (λ (x : ℕ). ofBits binary32 x) (o .before (wl .starts + j * 2 + 1) (omega (arith, m .starts))) ∙ s .bits j h;
-        finite = λ j h. omega (arith, s .finite j h, o .before (wl .starts + j * 2 + 1) (omega (arith, m .starts)));
-        filled = s .filled;
-      }
-
-  pub ready-kept : (t w : ℕ) (W : List ℕ) → Ready t w W K lay wl → Ready t w W K′ lay wl
-  ready-kept t w W r =
-      record {
-        fits = r .fits;
-        index = r .index;
-        chained =
-            record {
-              head = λ i h. o .before (wl .heads + i) (omega (arith, r .index .apart, m .index)) ∙ r .chained .head i h;
-              next = λ k h. o .before (wl .nexts + k) (omega (arith, m .index, long W (lay .operands .at) (lay .operands .n))) ∙ r .chained .next k h;
-            };
-        under = r .under;
-        single = r .single;
-        grouped = r .grouped;
-        width = r .width;
-        mapping = r .mapping;
-        some-block = r .some-block;
-        few-blocks = r .few-blocks;
-        few-insts = r .few-insts;
-        room = r .room;
-        starts = starts-kept (blocksAt W (lay .blocks .at) (lay .blocks .n)) (blocks-long W (lay .blocks .at) (lay .blocks .n)) (r .starts);
-        marks = r .marks;
-        within = r .within;
-        backed = r .backed;
-      }
-
-  pub stands-kept : (ol : OutLayout) (O W : List ℕ) (st : State) → Stands ol O W K lay wl st → Stands ol O W K′ lay wl st
-  stands-kept ol O W st s =
-      record {
-        tables = s .tables;
-        mapped = record { is = λ k h. o .before (wl .mapping + k) (omega (arith, m .mapping, long W (lay .operands .at) (lay .operands .n))) ∙ s .mapped .is k h };
-      }
 
 -- ---- the loop
 
@@ -263,20 +209,3 @@ pub admit-is : (t w : ℕ) (W K : List ℕ) (lay : Layout) (wl : WorkLayout) (k 
     → getD K (wl .turned + k * 4 + 1) 0 < lay .uses .n → u ≡ rowUse K (wl .turned) W lay k → (Backed (jobOf W lay) u → o ≡ admit (jobOf W lay) st h u)
     → o ≡ admit (jobOf W lay) st h (rowUse K (wl .turned) W lay k)
 admit-is t w W K lay wl k u st h o r l e f = f (backed-row t w W K lay wl k u r l e) ∙ ap (λ (x : Use). admit (jobOf W lay) st h x) e
-
--- ---- the slices along the loop
-
-pub ready-now : (t : ℕ) (W s₀ s : List ℕ) (lay : Layout) (wl : WorkLayout) (a b : ℕ) → Elsewhere (wl .turned) a b (wordsOf s₀) (wordsOf s) → TurnedApart lay wl → length s ≡ length s₀
-    → Ready t (wordCount s₀) W (wordsOf s₀) lay wl → Ready t (wordCount s) W (wordsOf s) lay wl
-ready-now t W s₀ s lay wl a b o m e r =
-    subst (λ (n : ℕ). Ready t (n / 4) W (wordsOf s) lay wl) (sym e) (ready-kept lay wl a b (wordsOf s₀) (wordsOf s) o m t (wordCount s₀) W r)
-
-pub rows-now : (s₀ s K : List ℕ) (turned : ℕ) (lay : Layout) (a b : ℕ) → length s ≡ length s₀ → RowsOk (wordCount s₀) K turned lay a b → RowsOk (wordCount s) K turned lay a b
-rows-now s₀ s K turned lay a b e r = subst (λ (n : ℕ). RowsOk (n / 4) K turned lay a b) (sym e) r
-
-pub count-is : (s₀ s : List ℕ) → length s ≡ length s₀ → wordCount s₀ ≡ length (wordsOf s)
-count-is s₀ s e = sym (length-words s ∙ ap (λ (n : ℕ). n / 4) e)
-
--- rows c to d - 1 of rows a to b - 1
-pub rows-part : (w : ℕ) (K : List ℕ) (turned : ℕ) (lay : Layout) (a b c d : ℕ) → RowsOk w K turned lay a b → a ≤ c → c ≤ d → d ≤ b → RowsOk w K turned lay c d
-rows-part w K turned lay a b c d r l m n = record { order = m; within = omega (arith, r .within); known = λ k x y. r .known k (omega arith) (omega arith) }

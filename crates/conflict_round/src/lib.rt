@@ -62,7 +62,16 @@ fn swap_rows(work: &mut [u8], turned: usize, i: usize, j: usize)
 }
 
 // Whether the use of row k is admitted.
-fn admit_row(job: &[u8], lay: Layout, out: &[u8], ol: OutLayout, work: &[u8], wl: WorkLayout, held: Held, k: usize) -> Admission
+fn admit_row(
+    job: &[u8],
+    lay: Layout,
+    out: &[u8],
+    ol: OutLayout,
+    work: &[u8],
+    wl: WorkLayout,
+    held: Held,
+    k: usize,
+) -> Admission
     requires { ⌜ Ready (wordCount (now job)) (wordCount (now work)) (wordsOf (now job)) (wordsOf (now work)) lay wl × (tablesEnd ol ≤ wordCount (now out)) × (wl .turned + k * 4 + 4 ≤ wordCount (now work)) × (getD (wordsOf (now work)) (wl .turned + k * 4 + 1) 0 < lay .uses .n) ⌝ }
     ensures { λ r. ⌜ ((st : State) → Stands ol (wordsOf (now (out .entry))) (wordsOf (now (job .entry))) (wordsOf (now (work .entry))) lay wl st → admissionOf r ≡ admit (jobOf (wordsOf (now (job .entry))) lay) st (heldOf held) (rowUse (wordsOf (now (work .entry))) (wl .turned) (wordsOf (now (job .entry))) lay k)) ⌝ }
 {
@@ -72,7 +81,17 @@ fn admit_row(job: &[u8], lay: Layout, out: &[u8], ol: OutLayout, work: &[u8], wl
 }
 
 // "From the top class, the turned uses are tried in the order turned; one not admitted trades places with the last untried one": rows a to b - 1.
-pub fn try_rows(job: &[u8], lay: Layout, out: &[u8], ol: OutLayout, work: &mut [u8], wl: WorkLayout, top: RegClass, a: usize, b: usize) -> Round
+pub fn try_rows(
+    job: &[u8],
+    lay: Layout,
+    out: &[u8],
+    ol: OutLayout,
+    work: &mut [u8],
+    wl: WorkLayout,
+    top: RegClass,
+    a: usize,
+    b: usize,
+) -> Round
     requires { ⌜ Ready (wordCount (now job)) (wordCount (now work)) (wordsOf (now job)) (wordsOf (now work)) lay wl × (tablesEnd ol ≤ wordCount (now out)) × TurnedApart lay wl × RowsOk (wordCount (now work)) (wordsOf (now work)) (wl .turned) lay a b ⌝ }
     ensures { λ r. ⌜ (a ≤ r .end) × (r .end ≤ b) × Elsewhere (wl .turned) a b (wordsOf (now (work .entry))) (wordsOf (now (work .exit))) × RowsOk (wordCount (now (work .exit))) (wordsOf (now (work .exit))) (wl .turned) lay a b ⌝ }
     ensures { λ r. ⌜ ((st : State) → Stands ol (wordsOf (now (out .entry))) (wordsOf (now (job .entry))) (wordsOf (now (work .entry))) lay wl st → Tried (wordsOf (now (work .exit))) (wl .turned) (wordsOf (now (job .entry))) lay a b r (tryAll (jobOf (wordsOf (now (job .entry))) lay) st top (turnedRowsOf (wordsOf (now (work .entry))) (wl .turned) (wordsOf (now (job .entry))) lay a b))) ⌝ }

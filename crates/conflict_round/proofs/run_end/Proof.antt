@@ -5,9 +5,6 @@ use Rattle.conflict_round.proofs.Runs.{Running, running-start, running-
 use borrow.Author.Needs.{needs}
 use Rattle.conflict_round.proofs.run_end.Statement.{statement}
 use Rattle.conflict_round.proofs.run_end.Tie as tie
-use Rattle.conflict_round.proofs.run_end.Reads as reads
-use Rattle.conflict_round.proofs.run_end.Lts as lts
-use Rattle.conflict_piece.proofs.turned_use.Reads as turned-use-reads
 
 abbrev Inv-loop : tie.InvT-loop
 Inv-loop job lay work turned a n first e₀ e = Running (wordsOf work) turned (wordsOf job) lay a n (first .pos .0) e
@@ -15,42 +12,24 @@ Inv-loop job lay work turned a n first e₀ e = Running (wordsOf work) turned (w
 abbrev μ-loop : tie.MeasureT-loop
 μ-loop job lay work turned a n first e₀ e = n - e
 
--- src/lib.rt:112:9
 turned-use-requires : tie.Need-turned-use-requires Inv-loop μ-loop
 turned-use-requires c κs = let s = c .before .before in (s .pre .0, omega (arith, s .pre .2, s .pre .1 .within), s .pre .1 .known (s .args .a) (omega arith) (s .pre .2))
 
--- src/lib.rt:113:17
-add-e : tie.Need-add-e Inv-loop μ-loop
-add-e c = search needs
-
--- src/lib.rt:114:5
 loop-holds : tie.Need-loop-holds Inv-loop μ-loop
 loop-holds c = running-start _ _ _ _ _ _ _ (c .turned-use .ensures) (c .before .before .before .pre .2)
 
--- src/lib.rt:115:13
 turned-use-requires-2 : tie.Need-turned-use-requires-2 Inv-loop μ-loop
 turned-use-requires-2 c κs =
     let s = c .before .before .before .before .before in
     let l = c .before .loop in
     (s .pre .0, omega (arith, c .loop-test .taken, s .pre .1 .within), s .pre .1 .known (l .e) (omega (arith, l .inv .some-row)) (c .loop-test .taken))
 
--- src/lib.rt:117:13
 returns : tie.Need-returns Inv-loop μ-loop
 returns c = running-stop _ _ _ _ _ _ _ _ (c .before .before .before .before .before .loop .inv) _ (c .before .before .before .turned-use2 .ensures) (c .if1 .taken)
 
--- src/lib.rt:119:9
-add-e-2 : tie.Need-add-e-2 Inv-loop μ-loop
-add-e-2 c = search needs
-
--- src/lib.rt:114:5
-loop-less : tie.Need-loop-less Inv-loop μ-loop
-loop-less c = search needs
-
--- src/lib.rt:114:5
 loop-again : tie.Need-loop-again Inv-loop μ-loop
 loop-again c = running-next _ _ _ _ _ _ _ _ (c .before .before .before .before .before .loop .inv) _ (c .before .before .before .turned-use2 .ensures) (c .if1 .left) (c .before .before .before .before .loop-test .taken)
 
--- src/lib.rt:108:1
 returns-2 : tie.Need-returns-2 Inv-loop μ-loop
 returns-2 c = running-end _ _ _ _ _ _ _ _ (c .before .loop .inv) (c .loop-test .left)
 
@@ -61,11 +40,11 @@ run-end-spec =
     Inv-loop
     μ-loop
     turned-use-requires
-    add-e
+    (λ c. search needs)
     loop-holds
     turned-use-requires-2
     returns
-    add-e-2
-    loop-less
+    (λ c. search needs)
+    (λ c. search needs)
     loop-again
     returns-2)

@@ -7,14 +7,11 @@ use Rattle.words.specs.Words.{wordsOf, wordCount}
 use Rattle.job.specs.Job.{jobOf}
 use Rattle.constraints.specs.Held.{heldOf}
 use Rattle.constraints.specs.Ready.{Stands}
-use Rattle.conflict_round.proofs.Trying.{Trying, trying-start, trying-yes, trying-no, trying-end, ready-now, rows-now, count-is, stands-kept}
+use Rattle.conflict_round.proofs.Kept.{stands-kept, ready-now, rows-now, count-is}
+use Rattle.conflict_round.proofs.Trying.{Trying, trying-start, trying-yes, trying-no, trying-end}
 use borrow.Author.Needs.{needs}
 use Rattle.conflict_round.proofs.try_rows.Statement.{statement}
 use Rattle.conflict_round.proofs.try_rows.Tie as tie
-use Rattle.conflict_round.proofs.try_rows.Reads as reads
-use Rattle.conflict_round.proofs.try_rows.Lts as lts
-use Rattle.conflict_round.proofs.admit_row.Reads as admit-row-reads
-use Rattle.conflict_round.proofs.swap_rows.Reads as swap-rows-reads
 
 abbrev Inv-loop : tie.InvT-loop
 Inv-loop job lay out ol work₀ wl a b turned held₀ i₀ j₀ work held i j =
@@ -24,11 +21,9 @@ Inv-loop job lay out ol work₀ wl a b turned held₀ i₀ j₀ work held i j =
 abbrev μ-loop : tie.MeasureT-loop
 μ-loop job lay out ol work₀ wl a b turned held₀ i₀ j₀ work held i j = j - i
 
--- src/lib.rt:94:5
 loop-holds : tie.Need-loop-holds Inv-loop μ-loop
 loop-holds c = (trying-start _ _ _ _ _ _ _ _ _ _ (c .before .before .before .before .pre .3), refl)
 
--- src/lib.rt:95:13
 admit-row-requires : tie.Need-admit-row-requires Inv-loop μ-loop
 admit-row-requires c κs =
     let s = c .before .before .before .before .before .before .before in
@@ -36,52 +31,45 @@ admit-row-requires c κs =
     let t = c .before .loop-test .taken in
     (ready-now _ _ _ _ _ _ _ _ (v .0 .elsewhere) (s .pre .2) (v .1) (s .pre .0), s .pre .1, omega (arith, t, v .0 .high, v .0 .rows .within, v .1), v .0 .rows .known (c .before .before .loop .i) (v .0 .low) (omega (arith, t, v .0 .high)))
 
--- src/lib.rt:98:13
 add-i : tie.Need-add-i Inv-loop μ-loop
 add-i c = omega (arith, c .before .before .before .before .loop-test .taken)
 
--- src/lib.rt:94:5
 loop-less : tie.Need-loop-less Inv-loop μ-loop
 loop-less c = omega (arith, c .before .before .before .before .loop-test .taken)
 
--- src/lib.rt:94:5
 loop-again : tie.Need-loop-again Inv-loop μ-loop
 loop-again c =
     let s = c .before .before .before .before .before .before .before .before .before .before in
-    let v = c .before .before .before .before .before .loop .inv in
-    (trying-yes _ _ _ _ _ _ _ _ _ _ _ _ _ _ (v .0) (c .before .before .before .before .loop-test .taken) _
-    (λ st hs. c .before .before .admit-row .ensures st (stands-kept _ _ _ _ _ _ (v .0 .elsewhere) (s .pre .2) _ _ _ st hs)) (c .before .if1 .taken),
-    v .1)
+    let v = c .before .before .before .before .before .loop .inv in (
+      trying-yes _ _ _ _ _ _ _ _ _ _ _ _ _ _ (v .0) (c .before .before .before .before .loop-test .taken) _
+          (λ st hs. c .before .before .admit-row .ensures st (stands-kept _ _ _ _ _ _ (v .0 .elsewhere) (s .pre .2) _ _ _ st hs)) (c .before .if1 .taken),
+      v .1,
+    )
 
--- src/lib.rt:100:13
 sub-j : tie.Need-sub-j Inv-loop μ-loop
 sub-j c = omega (arith, c .before .before .before .loop-test .taken)
 
--- src/lib.rt:101:13
 swap-rows-requires : tie.Need-swap-rows-requires Inv-loop μ-loop
 swap-rows-requires c κs =
     let v = c .before .before .before .before .before .loop .inv in
     let t = c .before .before .before .before .loop-test .taken in
     (omega (arith, t, v .0 .high, v .0 .rows .within, v .1), omega (arith, t, v .0 .high, v .0 .rows .within, v .1))
 
--- src/lib.rt:94:5
 loop-less-2 : tie.Need-loop-less-2 Inv-loop μ-loop
 loop-less-2 c = omega (arith, c .before .before .before .before .before .before .before .loop-test .taken)
 
--- src/lib.rt:94:5
 loop-again-2 : tie.Need-loop-again-2 Inv-loop μ-loop
 loop-again-2 c =
     let s = c .before .before .before .before .before .before .before .before .before .before .before .before .before in
-    let v = c .before .before .before .before .before .before .before .before .loop .inv in
-    (trying-no _ _ _ _ _ _ _ _ _ _ _ _ _ _ (v .0) (c .before .before .before .before .before .before .before .loop-test .taken) _
-    (λ st hs. c .before .before .before .before .before .admit-row .ensures st (stands-kept _ _ _ _ _ _ (v .0 .elsewhere) (s .pre .2) _ _ _ st hs)) (c .before .before .before .before .if1 .left) _ refl _ (c .before .before .swap-rows .ensures) (count-is (now (s .args .work)) (c .before .before .before .before .before .before .before .before .loop .work) (v .1)),
-    omega (arith, v .1, c .before .before .swap-rows .kept .0))
+    let v = c .before .before .before .before .before .before .before .before .loop .inv in (
+      trying-no _ _ _ _ _ _ _ _ _ _ _ _ _ _ (v .0) (c .before .before .before .before .before .before .before .loop-test .taken) _
+          (λ st hs. c .before .before .before .before .before .admit-row .ensures st (stands-kept _ _ _ _ _ _ (v .0 .elsewhere) (s .pre .2) _ _ _ st hs)) (c .before .before .before .before .if1 .left) _ refl _ (c .before .before .swap-rows .ensures) (count-is (now (s .args .work)) (c .before .before .before .before .before .before .before .before .loop .work) (v .1)),
+      omega (arith, v .1, c .before .before .swap-rows .kept .0),
+    )
 
--- src/lib.rt:85:1
 same-length : tie.Need-same-length Inv-loop μ-loop
 same-length c = omega (arith, c .before .loop .inv .1)
 
--- src/lib.rt:85:1
 returns : tie.Need-returns Inv-loop μ-loop
 returns c =
     let v = c .before .loop .inv in
