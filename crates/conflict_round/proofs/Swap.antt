@@ -7,7 +7,7 @@ use native.Mathlib.Nat.{add-zero}
 use native.Mathlib.Numerals.{lt-of-le-of-ne}
 use native.Mathlib.Omega.{arith}
 use lib.Dec.{eqb, ltb}
-use lib.ListN.{length, getD, drop}
+use lib.ListN.{length, getD}
 use lib.Seq.{getD-drop}
 use borrow.Author.Tests.{ltb-true, ltb-false, eqb-true, eqb-false}
 use Rattle.rows.specs.Parts.{splice, length-splice, getD-splice-before, getD-splice-in, drop-splice}

@@ -2,12 +2,12 @@
 use mathlib.Core.Path.{_≡_, refl, sym, ap, _∙_, subst}
 use mathlib.Core.Bool.{true, false}
 use mathlib.Core.Option.{Option, none, some}
-use mathlib.Core.List.{List, [], _∷_, _++_, reverse, reverse-append, reverse-reverse}
+use mathlib.Core.List.{List, [], _∷_, _++_, reverse-append, reverse-reverse}
 use Prim.Native.Nat.{ℕ, zero, suc, _+_, _-_, _*_, _≤_, _<_}
 use native.Mathlib.Numerals.{add-one}
 use native.Mathlib.Omega.{arith}
 use lib.ListN.{length, getD}
-use Rattle.rows.specs.Tab.{tab, length-tab, tab-more, tab-done, tab-snoc, tab-ext}
+use Rattle.rows.specs.Tab.{tab, length-tab, tab-more, tab-snoc, tab-ext}
 use Rattle.definition.specs.declared.RegClass.{RegClass}
 use Rattle.definition.specs.declared.Use.{Use}
 use Rattle.definition.specs.Types.{Job, State, Turned}

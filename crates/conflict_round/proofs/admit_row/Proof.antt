@@ -1,5 +1,4 @@
 use Rattle.conflict_round.proofs.Trying.{admit-is}
-use borrow.Author.Needs.{needs}
 use Rattle.conflict_round.proofs.admit_row.Statement.{statement}
 use Rattle.conflict_round.proofs.admit_row.Tie as tie
 
