@@ -205,7 +205,7 @@ module _ (S : State → Type 0) (J : Job) (w : ℕ) (K₀ : List ℕ) (turned : 
 
 -- ---- the use of a row
 
-pub admit-is : (t w : ℕ) (W K : List ℕ) (lay : Layout) (wl : WorkLayout) (k : ℕ) (u : Use) (st : State) (h : types.Held) (o : Option types.Held) → Ready t w W K lay wl
+pub admit-is : (t w : ℕ) (W K : List ℕ) (lay : Layout) (wl : WorkLayout) (k : ℕ) (u : Use) (st : State) (h : types.Held) (o : Option types.Held) → Ready t w W K lay wl → 0 < lay .segments .n
     → getD K (wl .turned + k * 4 + 1) 0 < lay .uses .n → u ≡ rowUse K (wl .turned) W lay k → (Backed (jobOf W lay) u → o ≡ admit (jobOf W lay) st h u)
     → o ≡ admit (jobOf W lay) st h (rowUse K (wl .turned) W lay k)
-admit-is t w W K lay wl k u st h o r l e f = f (backed-row t w W K lay wl k u r l e) ∙ ap (λ (x : Use). admit (jobOf W lay) st h x) e
+admit-is t w W K lay wl k u st h o r s l e f = f (backed-row t w W K lay wl k u r s l e) ∙ ap (λ (x : Use). admit (jobOf W lay) st h x) e

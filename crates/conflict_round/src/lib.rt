@@ -72,7 +72,7 @@ fn admit_row(
     held: Held,
     k: usize,
 ) -> Admission
-    requires { ⌜ Ready (wordCount (now job)) (wordCount (now work)) (wordsOf (now job)) (wordsOf (now work)) lay wl × (tablesEnd ol ≤ wordCount (now out)) × (wl .turned + k * 4 + 4 ≤ wordCount (now work)) × (getD (wordsOf (now work)) (wl .turned + k * 4 + 1) 0 < lay .uses .n) ⌝ }
+    requires { ⌜ Ready (wordCount (now job)) (wordCount (now work)) (wordsOf (now job)) (wordsOf (now work)) lay wl × (tablesEnd ol ≤ wordCount (now out)) × (wl .turned + k * 4 + 4 ≤ wordCount (now work)) × (getD (wordsOf (now work)) (wl .turned + k * 4 + 1) 0 < lay .uses .n) × (0 < lay .segments .n) ⌝ }
     ensures { λ r. ⌜ ((st : State) → Stands ol (wordsOf (now (out .entry))) (wordsOf (now (job .entry))) (wordsOf (now (work .entry))) lay wl st → admissionOf r ≡ admit (jobOf (wordsOf (now (job .entry))) lay) st (heldOf held) (rowUse (wordsOf (now (work .entry))) (wl .turned) (wordsOf (now (job .entry))) lay k)) ⌝ }
 {
     let turned = wl.turned;
@@ -92,7 +92,7 @@ pub fn try_rows(
     a: usize,
     b: usize,
 ) -> Round
-    requires { ⌜ Ready (wordCount (now job)) (wordCount (now work)) (wordsOf (now job)) (wordsOf (now work)) lay wl × (tablesEnd ol ≤ wordCount (now out)) × TurnedApart lay wl × RowsOk (wordCount (now work)) (wordsOf (now work)) (wl .turned) lay a b ⌝ }
+    requires { ⌜ Ready (wordCount (now job)) (wordCount (now work)) (wordsOf (now job)) (wordsOf (now work)) lay wl × (tablesEnd ol ≤ wordCount (now out)) × TurnedApart lay wl × RowsOk (wordCount (now work)) (wordsOf (now work)) (wl .turned) lay a b × (0 < lay .segments .n) ⌝ }
     ensures { λ r. ⌜ (a ≤ r .end) × (r .end ≤ b) × Elsewhere (wl .turned) a b (wordsOf (now (work .entry))) (wordsOf (now (work .exit))) × RowsOk (wordCount (now (work .exit))) (wordsOf (now (work .exit))) (wl .turned) lay a b ⌝ }
     ensures { λ r. ⌜ ((st : State) → Stands ol (wordsOf (now (out .entry))) (wordsOf (now (job .entry))) (wordsOf (now (work .entry))) lay wl st → Tried (wordsOf (now (work .exit))) (wl .turned) (wordsOf (now (job .entry))) lay a b r (tryAll (jobOf (wordsOf (now (job .entry))) lay) st top (turnedRowsOf (wordsOf (now (work .entry))) (wl .turned) (wordsOf (now (job .entry))) lay a b))) ⌝ }
 {

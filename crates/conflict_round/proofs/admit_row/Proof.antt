@@ -11,7 +11,7 @@ admit-requires c κs = let s = c .before .before .before .before in (s .pre .0, 
 returns : tie.Need-returns
 returns c st hs =
     let s = c .before .before .before .before .before in
-    admit-is _ _ _ _ _ _ _ _ _ _ _ (s .pre .0) (s .pre .3) (c .before .turned-use .ensures) (λ b. c .admit .ensures st hs b)
+    admit-is _ _ _ _ _ _ _ _ _ _ _ (s .pre .0) (s .pre .4) (s .pre .3) (c .before .turned-use .ensures) (λ b. c .admit .ensures st hs b)
 
 pub admit-row-spec : {M : Type 1} → statement M
 admit-row-spec = tie.close (tie.spec turned-use-requires admit-requires returns)

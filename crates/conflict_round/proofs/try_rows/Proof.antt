@@ -29,7 +29,7 @@ admit-row-requires c κs =
     let s = c .before .before .before .before .before .before .before in
     let v = c .before .before .loop .inv in
     let t = c .before .loop-test .taken in
-    (ready-now _ _ _ _ _ _ _ _ (v .0 .elsewhere) (s .pre .2) (v .1) (s .pre .0), s .pre .1, omega (arith, t, v .0 .high, v .0 .rows .within, v .1), v .0 .rows .known (c .before .before .loop .i) (v .0 .low) (omega (arith, t, v .0 .high)))
+    (ready-now _ _ _ _ _ _ _ _ (v .0 .elsewhere) (s .pre .2) (v .1) (s .pre .0), s .pre .1, omega (arith, t, v .0 .high, v .0 .rows .within, v .1), v .0 .rows .known (c .before .before .loop .i) (v .0 .low) (omega (arith, t, v .0 .high)), s .pre .4)
 
 add-i : tie.Need-add-i Inv-loop μ-loop
 add-i c = omega (arith, c .before .before .before .before .loop-test .taken)
