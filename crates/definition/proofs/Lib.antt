@@ -23,3 +23,4 @@ pub mod Sets
 pub mod Owned
 pub mod Marks
 pub mod Promises
+mod SheetCases

@@ -13,3 +13,6 @@ pub mod Build
 pub mod Entry
 pub mod Lines
 pub mod Promised
+pub mod Text
+pub mod JobSheet
+pub mod RegisterSheet

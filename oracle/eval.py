@@ -1,0 +1,235 @@
+#!/usr/bin/env python3
+"""Holds the definition to expected answers: the checker computes the register sheet of each job sheet.
+
+    eval.py MANIFEST [--bytes N] [--lemma N]
+
+A line of MANIFEST has four fields, parted by tabs:
+- the job sheet's path;
+- the path of the expected output (a register sheet, or a refusal's line), or `sheet` or `no-sheet` where only number 1 is compared;
+- the room as registers,segments,uses,groups, or - for that of `vregs`;
+- the stop's name (no-start, turned-def, values-differ, mapped-twice, overlap, none-admitted), or - where it is not compared.
+
+A temporary copy of crates/definition, without its proofs, gets a module of tables: sheets and expected outputs
+as texts, and an equation by computation for each lemma. A module holds about --bytes bytes of sheets, a lemma
+about --lemma. Where an equation is refused, or the checker gives no verdict on it, its sheets are tried one by one.
+Prints the counts, and the paths of the sheets that differ or got no verdict. Exit status 0 if all agree.
+"""
+import argparse
+import os
+import re
+import shutil
+import subprocess
+import sys
+import tempfile
+import time
+
+HERE = os.path.dirname(os.path.abspath(__file__))
+
+HEAD = """-- Sheets and their expected answers. Assumes nothing.
+use mathlib.Core.Path.{_≡_, refl}
+use Prim.Native.Nat.{ℕ}
+use Prim.Native.String.{String}
+use mathlib.Core.Option.{Option, none, some}
+use mathlib.Core.List.{List, [], _∷_, _++_, map}
+use Rattle.definition.specs.Types.{Room, Stop, NoStart, TurnedDef, ValuesDiffer, MappedTwice, Overlap, NoneAdmitted, Refusal, NotARecord, OverALimit, BadBook, BadFunction, BadHint, BadSegment, BadUse, Stopped, Full, Out, done, refused}
+use Rattle.definition.specs.Limits.{vregsRoom}
+use Rattle.definition.specs.Build.{Result}
+use Rattle.definition.specs.Text.{bytes}
+use Rattle.definition.specs.JobSheet.{Record, sheetOf, sheetAnswer}
+use Rattle.definition.specs.RegisterSheet.{registerSheet}
+
+text : List String → List ℕ
+text [] = []
+text (l ∷ ls) = bytes l ++ text ls
+
+room : ℕ → ℕ → ℕ → ℕ → Room
+room r s u g = record { registers = r; segments = s; uses = u; groups = g }
+
+stopName : Stop → String
+stopName NoStart = "no-start"
+stopName TurnedDef = "turned-def"
+stopName ValuesDiffer = "values-differ"
+stopName MappedTwice = "mapped-twice"
+stopName Overlap = "overlap"
+stopName NoneAdmitted = "none-admitted"
+
+stopOf : Refusal → String
+unfolding stopName
+stopOf NotARecord = "-"
+stopOf OverALimit = "-"
+stopOf BadBook = "-"
+stopOf BadFunction = "-"
+stopOf BadHint = "-"
+stopOf BadSegment = "-"
+stopOf BadUse = "-"
+stopOf (Stopped s) = stopName s
+stopOf Full = "-"
+
+stopText : Out Result → List ℕ
+unfolding stopOf
+stopText (done r) = bytes "-"
+stopText (refused r) = bytes (stopOf r)
+
+abbrev isSheet : Option (List Record) → String
+isSheet none = "no-sheet"
+isSheet (some rs) = "sheet"
+
+-- what is compared: whether it is a sheet; the register sheet; the stop's name behind it
+data Ask : Type 0 where
+  whether answered stopped : Ask
+
+told : Ask → List ℕ → Room → List ℕ
+unfolding stopText registerSheet sheetAnswer sheetOf
+told whether bs r = bytes (isSheet (sheetOf bs))
+told answered bs r = registerSheet (sheetAnswer bs r)
+told stopped bs r = let a = sheetAnswer bs r in registerSheet a ++ stopText a
+
+abbrev Case : Type 0
+Case = List String × Room × Ask × List String
+
+got : Case → List ℕ
+unfolding told text
+got c = told (c .2) (text (c .0)) (c .1)
+
+want : Case → List ℕ
+unfolding text
+want c = text (c .3)
+"""
+
+ESCAPES = {9: '\\t', 10: '\\n', 13: '\\r', 34: '\\"', 92: '\\\\'}
+
+
+def literal(data):
+    return '"' + ''.join(ESCAPES.get(b) or (chr(b) if 32 <= b < 127 else '\\u{%x}' % b) for b in data) + '"'
+
+
+def lines(data):
+    """With their line feeds. A text for each: opening a text copies the rest of it."""
+    out, at = [], 0
+    while at < len(data):
+        end = data.find(b'\n', at)
+        end = len(data) if end < 0 else end + 1
+        out.append(data[at:end])
+        at = end
+    return out
+
+
+class Case:
+    def __init__(self, row):
+        self.path, self.room = row[0], row[2]
+        with open(row[0], 'rb') as f:
+            self.sheet = f.read()
+        self.ask = 'answered'
+        if row[1] in ('sheet', 'no-sheet'):
+            self.ask, self.expected = 'whether', row[1].encode()
+            return
+        with open(row[1], 'rb') as f:
+            self.expected = f.read()
+        if row[3] != '-':
+            self.ask, self.expected = 'stopped', self.expected + row[3].encode()
+
+    def size(self):
+        return len(self.sheet) + len(self.expected)
+
+    def term(self):
+        room = 'vregsRoom' if self.room == '-' else 'room ' + self.room.replace(',', ' ')
+        sheet, expected = (' ∷ '.join([literal(l) for l in lines(t)] + ['[]']) for t in (self.sheet, self.expected))
+        return f'({sheet}, {room}, {self.ask}, {expected})'
+
+
+def lemma(name, cases):
+    table = '\n    ∷ '.join([c.term() for c in cases] + ['[]'])
+    return (f'\n{name} : List Case\nunfolding room\n{name} =\n    {table}\n'
+            f'\n{name}-holds : map got {name} ≡ map want {name}\nunfolding got want {name}\n{name}-holds = refl\n')
+
+
+def grouped(cases, size):
+    """Neighbours, each group of about `size` bytes."""
+    group, held = [], 0
+    for c in cases:
+        if group and held + c.size() > size:
+            yield group
+            group, held = [], 0
+        group.append(c)
+        held += c.size()
+    if group:
+        yield group
+
+
+class Checker:
+    def __init__(self, root):
+        self.folder = tempfile.mkdtemp(prefix='eval-')
+        crate = os.path.join(self.folder, 'crates', 'definition')
+        for part in ('src', 'specs'):
+            shutil.copytree(os.path.join(root, 'crates', 'definition', part), os.path.join(crate, part))
+        self.proofs = os.path.join(crate, 'proofs')
+        os.mkdir(self.proofs)
+        with open(os.path.join(self.folder, 'crates.txt'), 'w') as f:
+            f.write('definition:\n')
+        self.seconds = 0.0
+
+    def refused(self, groups):
+        """The numbers of the groups that are not proved; None where the check itself failed."""
+        with open(os.path.join(self.proofs, 'Lib.antt'), 'w') as f:
+            f.write('mod Eval\n')
+        module = HEAD + ''.join(lemma(f'c{i}', g) for i, g in enumerate(groups))
+        with open(os.path.join(self.proofs, 'Eval.antt'), 'w') as f:
+            f.write(module)
+        start = time.time()
+        run = subprocess.run(['rt', 'dev', 'definition'], cwd=self.folder, capture_output=True, text=True,
+                             env=dict(os.environ, RT_CUT='400'))
+        self.seconds += time.time() - start
+        self.log = run.stdout + run.stderr
+        if run.returncode == 0 and 'logic=proved' in self.log:
+            return []
+        bad = sorted({int(n) for n in re.findall(r'`c(\d+)-holds`', self.log)})
+        return bad or None
+
+    def close(self):
+        shutil.rmtree(self.folder, ignore_errors=True)
+
+
+def hold(checker, groups, found):
+    """Sorts the cases of the groups into found; a refused group is tried case by case."""
+    bad = checker.refused(groups)
+    if bad is None:
+        print(checker.log[-2000:], file=sys.stderr)
+        found['no verdict'] += [c for g in groups for c in g]
+        return
+    alone = []
+    for i, group in enumerate(groups):
+        if i not in bad:
+            found['agrees'] += group
+        elif len(group) == 1:
+            found['differs'] += group
+        else:
+            alone += [[c] for c in group]
+    if alone:
+        hold(checker, alone, found)
+
+
+def main():
+    args = argparse.ArgumentParser(description='Holds the definition to expected answers.')
+    args.add_argument('manifest')
+    args.add_argument('--bytes', type=int, default=100000, help='of sheets and expected outputs in a module')
+    args.add_argument('--lemma', type=int, default=5000, help='of sheets and expected outputs under a lemma')
+    args = args.parse_args()
+    with open(args.manifest) as f:
+        cases = [Case(l.rstrip('\n').split('\t')) for l in f if l.strip()]
+    found = {'agrees': [], 'differs': [], 'no verdict': []}
+    checker = Checker(os.path.dirname(HERE))
+    try:
+        for chunk in grouped(cases, args.bytes):
+            hold(checker, list(grouped(chunk, args.lemma)), found)
+            counts = [len(found[word]) for word in ('agrees', 'differs', 'no verdict')]
+            print('{} agreed, {} differed, {} without a verdict ({:.0f} s)'.format(*counts, checker.seconds), flush=True)
+    finally:
+        checker.close()
+    for word in ('differs', 'no verdict'):
+        for c in found[word]:
+            print(word, c.path, sep='\t')
+    sys.exit(0 if len(found['agrees']) == len(cases) else 1)
+
+
+if __name__ == '__main__':
+    main()
