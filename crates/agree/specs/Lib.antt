@@ -1,2 +1,5 @@
 pub mod Fields
 pub mod Words
+pub mod Split
+pub mod Table
+pub mod Values
