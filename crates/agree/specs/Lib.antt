@@ -3,3 +3,4 @@ pub mod Words
 pub mod Split
 pub mod Table
 pub mod Values
+pub mod Records
