@@ -4,3 +4,5 @@ pub mod Split
 pub mod Table
 pub mod Values
 pub mod Records
+pub mod Order
+pub mod Agree
