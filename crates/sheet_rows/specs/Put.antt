@@ -97,3 +97,215 @@ module _ (key row : ℕ) (hk : key ≤ 11) (hrow : row + widthOf key ≤ tableWo
       let ne : a ≡ placeOf key row n → ⊥ = λ q. omega (arith, q, p, e, h) in
       puts-in vs (upOf n) m a (set out (placeOf key row n) (lowOf v)) (length-set out (placeOf key row n) (lowOf v) ∙ l) (omega arith) (omega arith) (omega arith) (s .1)
       ∙ ap (λ (d : ℕ). getD vs m d) (getD-set-other out (placeOf key row n) a (lowOf v) 0 ne)
+
+-- ---- the other words of a record
+
+-- how many records of a kind the table has
+abbrev pub cnt : List ℕ → ℕ → ℕ
+cnt T k = getD T (countAt k) 0
+
+count-cases : (key : ℕ) (P : ℕ → Type 0) → ((a : ℕ) → a < 10 → P a) → P nowhere → P (countAt key)
+unfolding countAt
+count-cases key P p q = go (ltb key 1) (ltb 10 key) refl
+  where
+    go : (s t : Bool) → ltb 10 key ≡ t → P (cond s nowhere (cond t nowhere (key - 1)))
+    go true t e = q
+    go false true e = q
+    go false false e = p (key - 1) (let h : key ≤ 10 = ltb-false 10 key e in omega arith)
+
+tail-cases : (key row : ℕ) (P : ℕ → Type 0) → (key ≡ 6 → P row) → (key ≡ 9 → P (row + 4)) → P nowhere → P (tailAt key row)
+unfolding tailAt
+tail-cases key row P p q z = go (ltb row nowhere) (eqb key 6) refl (eqb key 9) refl
+  where
+    go : (s t : Bool) → eqb key 6 ≡ t → (u : Bool) → eqb key 9 ≡ u → P (cond s (cond t row (cond u (row + 4) nowhere)) nowhere)
+    go false t e u f = z
+    go true true e u f = p (eqb-true key 6 e)
+    go true false e true f = q (eqb-true key 9 f)
+    go true false e false f = z
+
+width-6 : (key : ℕ) → key ≡ 6 → (widthOf key ≡ 9) × ((firstOf key ≡ 1) × (storedOf key ≡ 8))
+unfolding widthOf Rattle.sheet_places.specs.Places.widths storedOf storedFields
+width-6 key e = (ap widthOf e, (ap (λ (k : ℕ). firstOf k) e, ap storedOf e))
+
+width-9 : (key : ℕ) → key ≡ 9 → (widthOf key ≡ 5) × ((firstOf key ≡ 0) × (storedOf key ≡ 4))
+unfolding widthOf Rattle.sheet_places.specs.Places.widths storedOf storedFields
+width-9 key e = (ap widthOf e, (ap (λ (k : ℕ). firstOf k) e, ap storedOf e))
+
+tail-6 : (key row : ℕ) → key ≡ 6 → row < nowhere → tailAt key row ≡ row
+unfolding tailAt
+tail-6 key row e h = rw (lt-ltb row nowhere h, eq-eqb key 6 e)
+
+tail-9 : (key row : ℕ) → key ≡ 9 → row < nowhere → tailAt key row ≡ row + 4
+unfolding tailAt
+tail-9 key row e h = rw (lt-ltb row nowhere h, ap (λ (k : ℕ). eqb k 6) e, eq-eqb key 9 e)
+
+tail-few : (key n uses : ℕ) → key ≡ 6 → tailOf key n uses ≡ n - 1
+unfolding tailOf
+tail-few key n uses e = rw (ap (λ (k : ℕ). eqb k 9) e) (go (ltb n 1) refl)
+  where
+    go : (t : Bool) → ltb n 1 ≡ t → cond t 0 (n - 1) ≡ n - 1
+    go true q = let h : n < 1 = ltb-true n 1 q in omega arith
+    go false q = refl
+
+tail-uses : (key n uses : ℕ) → key ≡ 9 → tailOf key n uses ≡ uses
+unfolding tailOf
+tail-uses key n uses e = rw (eq-eqb key 9 e)
+
+-- two kinds have two counts
+count-ne : (key k : ℕ) → 1 ≤ k → k ≤ 10 → (key ≡ k → ⊥) → countAt k ≡ countAt key → ⊥
+unfolding countAt
+count-ne key k h g ne e = go (ltb key 1) refl (ltb 10 key) refl (sym (count-is k h g) ∙ e)
+  where
+    go : (s : Bool) → ltb key 1 ≡ s → (t : Bool) → ltb 10 key ≡ t → k - 1 ≡ cond s nowhere (cond t nowhere (key - 1)) → ⊥
+    go true p t q f = omega (arith, f, g)
+    go false p true q f = omega (arith, f, g)
+    go false p false q f =
+        let l : 1 ≤ key = ltb-false key 1 p in
+        let f′ : k - 1 ≡ key - 1 = f in
+        ne (omega arith)
+
+module _ (f : Filled) (r : Record) (long : length (f .out) ≡ tableWords) (room : cnt (f .out) (keyed r) < limitOf (keyed r)) where
+  theRow : ℕ
+  theRow = rowOf (f .out) (keyed r)
+
+  fieldsIn : List ℕ
+  fieldsIn = puts (keyed r) (rowOf (f .out) (keyed r)) 1 (r .fields) (f .out)
+
+  hk : keyed r ≤ 11
+  hk = key-most (r .word)
+
+  is-row : theRow ≡ baseOf (keyed r) + cnt (f .out) (keyed r) * widthOf (keyed r)
+  unfolding theRow
+  is-row = row-is (keyed r) (cnt (f .out) (keyed r)) room
+
+  row-fits : theRow + widthOf (keyed r) ≤ tableWords
+  row-fits =
+      let p : (cnt (f .out) (keyed r) + 1) * widthOf (keyed r) ≤ limitOf (keyed r) * widthOf (keyed r) = native.Mathlib.Nat.mul-le-mul-right (widthOf (keyed r)) (let q : cnt (f .out) (keyed r) + 1 ≤ limitOf (keyed r) = omega (arith, room) in q) in
+      let e : (cnt (f .out) (keyed r) + 1) * widthOf (keyed r) ≡ cnt (f .out) (keyed r) * widthOf (keyed r) + widthOf (keyed r) = native.Mathlib.Nat.add-mul (cnt (f .out) (keyed r)) 1 (widthOf (keyed r)) ∙ ap (λ (k : ℕ). cnt (f .out) (keyed r) * widthOf (keyed r) + k) (native.Mathlib.Nat.one-mul (widthOf (keyed r))) in
+      omega (arith, p, e, is-row, sizes (keyed r) hk .end)
+
+  row-low′ : 10 ≤ theRow
+  row-low′ = omega (arith, is-row, sizes (keyed r) hk .low)
+
+  -- a word before the rows
+  puts-count : (a : ℕ) → a < 10 → getD fieldsIn a 0 ≡ getD (f .out) a 0
+  unfolding fieldsIn theRow
+  puts-count a h = puts-other (keyed r) theRow hk row-fits (r .fields) 1 a (f .out) (omega arith) (omega arith) (omega arith) (λ m p q e. omega (arith, e, row-low′, h))
+
+  long-fieldsIn : length fieldsIn ≡ tableWords
+  unfolding fieldsIn theRow
+  long-fieldsIn = puts-long (keyed r) (rowOf (f .out) (keyed r)) hk row-fits (r .fields) 1 (f .out) ∙ long
+
+  count-fieldsIn : getD fieldsIn (countAt (keyed r)) 0 ≡ cnt (f .out) (keyed r)
+  count-fieldsIn =
+      count-cases (keyed r) (λ a. getD fieldsIn a 0 ≡ getD (f .out) a 0) puts-count
+      (lib.ListN.List·getD-eq-default fieldsIn 0 (omega (arith, long-fieldsIn)) ∙ sym (lib.ListN.List·getD-eq-default (f .out) 0 (omega (arith, long))))
+
+  lastWord : ℕ
+  lastWord = tailOf (keyed r) (ups 1 (r .fields)) (getD fieldsIn 9 0)
+
+  put-is : put f r ≡ filled (f .over) (set (set fieldsIn (tailAt (keyed r) theRow) lastWord) (countAt (keyed r)) (cnt (f .out) (keyed r) + 1))
+  unfolding put counted fieldsIn theRow lastWord
+  put-is =
+      ap (λ (n : ℕ). cond (ltb n (limitOf (keyed r))) (filled (f .over) (set (set fieldsIn (tailAt (keyed r) theRow) lastWord) (countAt (keyed r)) (n + 1))) (filled true (set fieldsIn (tailAt (keyed r) theRow) lastWord))) count-fieldsIn
+      ∙ rw (lt-ltb (cnt (f .out) (keyed r)) (limitOf (keyed r)) room)
+
+  rowIn : List ℕ
+  rowIn = set fieldsIn (tailAt (keyed r) theRow) lastWord
+
+  long-rowIn : length rowIn ≡ tableWords
+  unfolding rowIn
+  long-rowIn = length-set fieldsIn (tailAt (keyed r) theRow) lastWord ∙ long-fieldsIn
+
+  pub put-long : length (put f r .out) ≡ tableWords
+  unfolding rowIn
+  put-long = ap (λ (g : Filled). length (g .out)) put-is ∙ length-set rowIn (countAt (keyed r)) (cnt (f .out) (keyed r) + 1) ∙ long-rowIn
+
+  pub put-over : put f r .over ≡ f .over
+  put-over = ap (λ (g : Filled). g .over) put-is
+
+  -- a word behind the counts
+  put-row : (a : ℕ) → 10 ≤ a → a < tableWords → getD (put f r .out) a 0 ≡ getD rowIn a 0
+  unfolding rowIn
+  put-row a h l =
+      ap (λ (g : Filled). getD (g .out) a 0) put-is
+      ∙ getD-set-other rowIn (countAt (keyed r)) a (cnt (f .out) (keyed r) + 1) 0
+      (count-cases (keyed r) (λ b. a ≡ b → ⊥) (λ b g e. omega (arith, g, e, h)) (λ e. omega (arith, e, l)))
+
+  pub put-other : (a : ℕ) → 10 ≤ a → a < tableWords → ((m : ℕ) → m < widthOf (keyed r) → a ≡ cell (keyed r) (cnt (f .out) (keyed r)) m → ⊥) → getD (put f r .out) a 0 ≡ getD (f .out) a 0
+  unfolding rowIn fieldsIn theRow
+  put-other a h l away =
+      put-row a h l
+      ∙ getD-set-other fieldsIn (tailAt (keyed r) theRow) a lastWord 0
+      (tail-cases (keyed r) theRow (λ b. a ≡ b → ⊥)
+      (λ e q. away 0 (omega (arith, width-6 (keyed r) e .0)) (omega (arith, q, is-row)))
+      (λ e q. away 4 (omega (arith, width-9 (keyed r) e .0)) (omega (arith, q, is-row)))
+      (λ e. omega (arith, e, l)))
+      ∙ puts-other (keyed r) theRow hk row-fits (r .fields) 1 a (f .out) (omega arith) (omega arith) l
+      (λ m p q e. away (firstOf (keyed r) + (m - 1)) (omega (arith, p, q, sizes (keyed r) hk .fits)) (omega (arith, e, is-row)))
+
+  pub put-field : (j : ℕ) → j < storedOf (keyed r) → Small (r .fields)
+      → getD (put f r .out) (cell (keyed r) (cnt (f .out) (keyed r)) (firstOf (keyed r) + j)) 0 ≡ getD (r .fields) j (getD (f .out) (cell (keyed r) (cnt (f .out) (keyed r)) (firstOf (keyed r) + j)) 0)
+  unfolding rowIn fieldsIn theRow
+  put-field j h s =
+      let a : ℕ = cell (keyed r) (cnt (f .out) (keyed r)) (firstOf (keyed r) + j) in
+      let ea : a ≡ theRow + firstOf (keyed r) + (1 + j - 1) = omega (arith, is-row) in
+      let low : a < tableWords = omega (arith, is-row, row-fits, sizes (keyed r) hk .fits, h) in
+      put-row a (omega (arith, row-low′, ea)) low
+      ∙ getD-set-other fieldsIn (tailAt (keyed r) theRow) a lastWord 0
+      (tail-cases (keyed r) theRow (λ b. a ≡ b → ⊥)
+      (λ e q. omega (arith, q, ea, width-6 (keyed r) e .1 .0))
+      (λ e q. omega (arith, q, ea, width-9 (keyed r) e .1 .0, width-9 (keyed r) e .1 .1, h))
+      (λ e. omega (arith, e, low)))
+      ∙ puts-in (keyed r) theRow hk row-fits (r .fields) 1 j a (f .out) long (omega arith) (omega (arith, h)) ea s
+
+  pub put-members : keyed r ≡ 6 → getD (put f r .out) (cell (keyed r) (cnt (f .out) (keyed r)) 0) 0 ≡ ups 1 (r .fields) - 1
+  unfolding rowIn fieldsIn lastWord
+  put-members e =
+      let a : ℕ = cell (keyed r) (cnt (f .out) (keyed r)) 0 in
+      let ea : a ≡ theRow = omega (arith, is-row) in
+      let low : a < tableWords = omega (arith, is-row, row-fits, width-6 (keyed r) e .0) in
+      let at : tailAt (keyed r) theRow ≡ a = tail-6 (keyed r) theRow e (omega (arith, ea, low)) ∙ sym ea in
+      put-row a (omega (arith, row-low′, ea)) low
+      ∙ ap (λ (b : ℕ). getD (set fieldsIn b lastWord) a 0) at
+      ∙ getD-set-same fieldsIn a lastWord 0 (omega (arith, low, long-fieldsIn))
+      ∙ tail-few (keyed r) (ups 1 (r .fields)) (getD fieldsIn 9 0) e
+
+  pub put-before : keyed r ≡ 9 → getD (put f r .out) (cell (keyed r) (cnt (f .out) (keyed r)) 4) 0 ≡ getD (f .out) 9 0
+  unfolding rowIn fieldsIn lastWord
+  put-before e =
+      let a : ℕ = cell (keyed r) (cnt (f .out) (keyed r)) 4 in
+      let ea : a ≡ theRow + 4 = omega (arith, is-row) in
+      let low : a < tableWords = omega (arith, is-row, row-fits, width-9 (keyed r) e .0) in
+      let at : tailAt (keyed r) theRow ≡ a = tail-9 (keyed r) theRow e (omega (arith, ea, low)) ∙ sym ea in
+      put-row a (omega (arith, row-low′, ea)) low
+      ∙ ap (λ (b : ℕ). getD (set fieldsIn b lastWord) a 0) at
+      ∙ getD-set-same fieldsIn a lastWord 0 (omega (arith, low, long-fieldsIn))
+      ∙ tail-uses (keyed r) (ups 1 (r .fields)) (getD fieldsIn 9 0) e
+      ∙ puts-count 9 (omega arith)
+
+  -- the counts
+  count-in : (a : ℕ) → a < 10 → getD rowIn a 0 ≡ getD (f .out) a 0
+  unfolding rowIn
+  count-in a h =
+      getD-set-other fieldsIn (tailAt (keyed r) theRow) a lastWord 0
+      (tail-cases (keyed r) theRow (λ b. a ≡ b → ⊥) (λ e q. omega (arith, q, h, row-low′)) (λ e q. omega (arith, q, h, row-low′)) (λ e. omega (arith, e, h)))
+      ∙ puts-count a h
+
+  pub put-count : (k : ℕ) → 1 ≤ k → k ≤ 10 → cnt (put f r .out) k ≡ cond (eqb (keyed r) k) (cnt (f .out) k + 1) (cnt (f .out) k)
+  unfolding rowIn
+  put-count k h g =
+      ap (λ (q : Filled). getD (q .out) (countAt k) 0) put-is ∙ go (eqb (keyed r) k) refl
+    where
+      ck : countAt k ≡ k - 1
+      ck = count-is k h g
+
+      go : (t : Bool) → eqb (keyed r) k ≡ t → getD (set rowIn (countAt (keyed r)) (cnt (f .out) (keyed r) + 1)) (countAt k) 0 ≡ cond t (cnt (f .out) k + 1) (cnt (f .out) k)
+      go true e =
+          let s : keyed r ≡ k = eqb-true (keyed r) k e in
+          ap (λ (i : ℕ). getD (set rowIn (countAt i) (cnt (f .out) i + 1)) (countAt k) 0) s
+          ∙ getD-set-same rowIn (countAt k) (cnt (f .out) k + 1) 0 (omega (arith, ck, long-rowIn, g))
+      go false e =
+          let s : keyed r ≡ k → ⊥ = λ q. mathlib.Core.Bool.false≢true (sym e ∙ eq-eqb (keyed r) k q) in
+          getD-set-other rowIn (countAt (keyed r)) (countAt k) (cnt (f .out) (keyed r) + 1) 0 (count-ne (keyed r) k h g s)
+          ∙ count-in (countAt k) (omega (arith, ck, g, h))
