@@ -1,2 +1,3 @@
 pub mod Regions
 pub mod Put
+pub mod Stands
