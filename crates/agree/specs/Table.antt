@@ -6,7 +6,7 @@ use lib.ListN.{getD, set, replicate}
 use lib.Dec.{ltb}
 use Rattle.definition.specs.JobSheet.{Record, wordNumber}
 use Rattle.sheet_rules.specs.Rules.{lowOf}
-use Rattle.sheet_places.specs.Places.{limitOf, countAt, rowAt, placeOf, tailAt, tailOf, upOf, tableWords}
+use Rattle.sheet_places.specs.Places.{limitOf, countAt, rowAt, placeOf, tailAt, tailOf, upOf}
 
 pub record Filled : Type 0 where
   pub over : Bool
@@ -51,7 +51,3 @@ fill f (r ∷ rs) = fill (put f r) rs
 -- nothing yet
 abbrev pub blank : ℕ → Filled
 blank n = filled false (replicate n 0)
-
--- the table of a sheet's records
-unfoldable pub tableOf : List Record → Filled
-tableOf rs = fill (blank tableWords) rs
