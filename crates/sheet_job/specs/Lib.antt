@@ -1,2 +1,4 @@
 pub mod Fixed
 pub mod Decode
+pub mod Groups
+pub mod Segments
