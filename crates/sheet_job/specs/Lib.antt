@@ -2,3 +2,4 @@ pub mod Fixed
 pub mod Decode
 pub mod Groups
 pub mod Segments
+pub mod Jobs
