@@ -3,3 +3,4 @@ pub mod Decode
 pub mod Groups
 pub mod Segments
 pub mod Jobs
+pub mod Answers
