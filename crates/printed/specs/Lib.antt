@@ -1,1 +1,3 @@
 pub mod Round
+pub mod Clean
+pub mod Unprint

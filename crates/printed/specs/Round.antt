@@ -71,7 +71,7 @@ module _ (b : ℕ) (z : 0 < b) (h : b ≤ 16) where
       let e : n % b < b = mod-lt n z in
       rw (map-snoc (digits b k (n / b)) (glyph (n % b)), last-digit n) (below-snoc b (map digitOf (digits b k (n / b))) (n % b) (round-below k (n / b)) (lt-ltb (n % b) b e))
 
-  digits-cons : (k n : ℕ) → digits b (suc k) n ≡ glyph (n / b ^ k % b) ∷ digits b k n
+  pub digits-cons : (k n : ℕ) → digits b (suc k) n ≡ glyph (n / b ^ k % b) ∷ digits b k n
   digits-cons zero n = rw (pow-zero, div-one)
   digits-cons (suc k) n =
       let e : n / b / b ^ k ≡ n / b ^ suc k = div-div-eq-div-mul n b (b ^ k) ∙ ap (λ (m : ℕ). n / m) (mul-comm b (b ^ k) ∙ sym (pow-suc b k)) in
