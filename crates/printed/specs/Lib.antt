@@ -1,3 +1,4 @@
 pub mod Round
 pub mod Clean
 pub mod Unprint
+pub mod Results

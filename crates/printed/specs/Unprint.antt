@@ -87,7 +87,7 @@ clean-texts (end-line r g) = (clean-decimal r, (clean-decimal g, tt))
 
 -- ---- reading a line
 
-number : List ℕ → ℕ
+pub number : List ℕ → ℕ
 number f = valueFrom 10 0 (map digitOf f)
 
 bits : List ℕ → ℕ
@@ -127,7 +127,7 @@ lineOf r =
 
 -- ---- what was printed is read
 
-number-back : (n : ℕ) → number (decimal n) ≡ n
+pub number-back : (n : ℕ) → number (decimal n) ≡ n
 unfolding number
 number-back n = spells n
 
