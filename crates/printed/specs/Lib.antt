@@ -1,0 +1,4 @@
+pub mod Round
+pub mod Clean
+pub mod Unprint
+pub mod Results

@@ -1,0 +1,5 @@
+pub mod Regions
+pub mod Put
+pub mod Stands
+pub mod Counts
+pub mod Sheets

@@ -1,0 +1,1 @@
+// What stands where in the table that the records of a job sheet fill. The laws are in specs.
