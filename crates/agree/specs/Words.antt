@@ -245,9 +245,33 @@ key-found v =
     (eqb v 1751740020) (eqb v 7562599) (eqb v 7697253) (eqb v 6647396)
   where
     go : (a b c d e f g h i j k l : Bool)
-        → elim a [ true ↦ some opt | false ↦ elim b [ true ↦ some bank | false ↦ elim c [ true ↦ some class | false ↦ elim d [ true ↦ some reg | false ↦
-        elim e [ true ↦ some block | false ↦ elim f [ true ↦ some value | false ↦ elim g [ true ↦ some vgroup | false ↦ elim h [ true ↦ some operand | false ↦
-        elim i [ true ↦ some hint | false ↦ elim j [ true ↦ some seg | false ↦ elim k [ true ↦ some use′ | false ↦ elim l [ true ↦ some end | false ↦ none ] ] ] ] ] ] ] ] ] ] ] ]
+        → elim a [
+          | true ↦ some opt
+          | false ↦ elim b [
+            | true ↦ some bank
+            | false ↦ elim c [
+              | true ↦ some class
+              | false ↦ elim d [
+                | true ↦ some reg
+                | false ↦
+                    elim e [
+                      | true ↦ some block
+                      | false ↦ elim f [
+                        | true ↦ some value
+                        | false ↦ elim g [
+                          | true ↦ some vgroup
+                          | false ↦ elim h [
+                            | true ↦ some operand
+                            | false ↦
+                                elim i [ true ↦ some hint | false ↦ elim j [ true ↦ some seg | false ↦ elim k [ true ↦ some use′ | false ↦ elim l [ true ↦ some end | false ↦ none ] ] ] ]
+                          ]
+                        ]
+                      ]
+                    ]
+              ]
+            ]
+          ]
+        ]
         ≡ wordOf (cond a 0 (cond b 1 (cond c 2 (cond d 3 (cond e 4 (cond f 5 (cond g 6 (cond h 7 (cond i 8 (cond j 9 (cond k 10 (cond l 11 12))))))))))))
     go true b c d e f g h i j k l = refl
     go false true c d e f g h i j k l = refl

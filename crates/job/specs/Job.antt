@@ -38,4 +38,3 @@ rawJob W lay = jobBy rawRow W lay
 -- the same with the fields of its uses modulo their UseKind types, which is what code reads: the same job where the fields fit
 unfoldable pub jobOf : List ℕ → Layout → Job
 jobOf W lay = jobBy useRow W lay
-

@@ -73,19 +73,24 @@ step T seg ns rs c s p q ih = own (s .0 (omega arith) (omega arith)) (ih (bump 9
     own : Row T 9 (c 9) ns (c 10) → Claim T (bump 9 c) rs → Claim T c (rec seg ns ∷ rs)
     own r k =
         let e : nextFirst T (c 9) ≡ c 10 = next-here T (c 9) (c 10) ns r (omega (arith, p)) in
-        let z : nextFirst T (c 9) - c 10 ≡ 0 = omega arith in
-        (ap (λ (x : Segment). x ∷ tab (segmentOf rawRow T (fixedLayout T)) (c 9 + 1) (length (only seg rs))) (segment-read T (c 9) (c 10) ns (segmentsOf rs .waiting) r (k .1 .0))
-        ∙ ap (λ (l : List Segment). segmentIn ns (segmentsOf rs .waiting) ∷ l) (k .0),
-        (ap (λ (n : ℕ). rowsAt rawRow T (19094 + c 10 * 6) 6 n) z, omega arith))
+        let z : nextFirst T (c 9) - c 10 ≡ 0 = omega arith in (
+          ap (λ (x : Segment). x ∷ tab (segmentOf rawRow T (fixedLayout T)) (c 9 + 1) (length (only seg rs))) (segment-read T (c 9) (c 10) ns (segmentsOf rs .waiting) r (k .1 .0))
+              ∙ ap (λ (l : List Segment). segmentIn ns (segmentsOf rs .waiting) ∷ l) (k .0),
+          (ap (λ (n : ℕ). rowsAt rawRow T (19094 + c 10 * 6) 6 n) z, omega arith),
+        )
 step T use′ ns rs c s p q ih = own (s .0 (omega arith) (omega arith)) (ih (bump 10 c) (s .1) p (omega (arith, q)))
   where
     own : Row T 10 (c 10) ns (c 10) → Claim T (bump 10 c) rs → Claim T c (rec use′ ns ∷ rs)
     own r k =
-        let h : c 10 + 1 ≤ nextFirst T (c 9) = k .1 .1 in
-        (k .0,
-        (rows-at-more rawRow T 19094 6 (nextFirst T (c 9)) (c 10) (omega arith)
-        ∙ ap (λ (x : Use). x ∷ rowsAt rawRow T (19094 + (c 10 + 1) * 6) 6 (nextFirst T (c 9) - (c 10 + 1))) (use-read T (c 10) ns (c 10) r)
-        ∙ ap (λ (l : List Use). useOf ns ∷ l) (k .1 .0), omega arith))
+        let h : c 10 + 1 ≤ nextFirst T (c 9) = k .1 .1 in (
+          k .0,
+          (
+            rows-at-more rawRow T 19094 6 (nextFirst T (c 9)) (c 10) (omega arith)
+                ∙ ap (λ (x : Use). x ∷ rowsAt rawRow T (19094 + (c 10 + 1) * 6) 6 (nextFirst T (c 9) - (c 10 + 1))) (use-read T (c 10) ns (c 10) r)
+                ∙ ap (λ (l : List Use). useOf ns ∷ l) (k .1 .0),
+            omega arith,
+          ),
+        )
 
 claim : (T : List ℕ) (rs : List Record) (c : ℕ → ℕ) → Stands T c rs → getD T 8 0 ≡ c 9 + length (only seg rs) → getD T 9 0 ≡ c 10 + length (only use′ rs) → Claim T c rs
 unfolding only segmentsOf rowsAt
