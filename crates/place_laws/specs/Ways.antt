@@ -68,6 +68,29 @@ pub ready-fair : (J : Job) (ol : OutLayout) (O O₁ : List ℕ) (c : Counts) (np
 ready-fair J ol O O₁ c np nu hint st ps h ec w ep eu eh f =
     record { holds = h; counts = ec; written = w; pieces = ep; uses = eu; hinted = eh; typed = fair-stored J 4096 ps f; weighed = fair-weighed J ps f }
 
+-- ---- the place of pieces that are merged into register v
+
+module _ (st : State) (ps : List Piece) (v : VirtReg) (x : Place) (ex : x ≡ placeOf (firstFrom ps) (lastTo ps) (registerAt st v .pieces)) where
+  pub place-over : x ≡ found.Overlap → overlaps (firstFrom ps) (lastTo ps) (registerAt st v .pieces) ≡ true
+  unfolding placeOf
+  place-over e = go (overlaps (firstFrom ps) (lastTo ps) (registerAt st v .pieces)) (sym ex ∙ e)
+    where
+      go : (b : Bool) → pickPlace b (endsBy (firstFrom ps) (registerAt st v .pieces)) ≡ found.Overlap → b ≡ true
+      go true e = refl
+      go false e = absurd (let z : _≡_ {A = ℕ} 0 1 = cc in omega arith)
+
+  pub place-at : (k : ℕ) → x ≡ found.At k → (overlaps (firstFrom ps) (lastTo ps) (registerAt st v .pieces) ≡ false) × (k ≡ endsBy (firstFrom ps) (registerAt st v .pieces))
+  unfolding placeOf
+  place-at k e = go (overlaps (firstFrom ps) (lastTo ps) (registerAt st v .pieces)) (sym ex ∙ e)
+    where
+      go : (b : Bool) → pickPlace b (endsBy (firstFrom ps) (registerAt st v .pieces)) ≡ found.At k → (b ≡ false) × (k ≡ endsBy (firstFrom ps) (registerAt st v .pieces))
+      go true e = absurd (let z : _≡_ {A = ℕ} 0 1 = cc in omega arith)
+      go false e = (refl, cc)
+
+  -- the pieces of v then
+  pub merge-fair : (J : Job) (k : ℕ) → x ≡ found.At k → Sane J st → v .0 < length (st .registers) → Fair J 4096 ps → Fair J 4096 (allOf v ps st)
+  merge-fair J k e n l f = fair-inserted J 4096 ps (registerAt st v .pieces) f (sane-at J st v n l) (place-at k e .0)
+
 -- ---- how it ends
 
 module _ (J : Job) (ol : OutLayout) (W : List ℕ) (lay : Layout) (wl : WorkLayout) (K O₂ : List ℕ) (st : State) (ps : List Piece) (h : Held) (r : PlaceEnd) where
@@ -139,43 +162,20 @@ module _ (J : Job) (ol : OutLayout) (W : List ℕ) (lay : Layout) (wl : WorkLayo
 
   -- merged into register v
   module _ (hg : HeldGroup) (g : VirtRegGroup) (v : VirtReg) (x : Place) (ex : x ≡ placeOf (firstFrom ps) (lastTo ps) (registerAt st v .pieces)) where
-    abbrev over : Bool
-    over = overlaps (firstFrom ps) (lastTo ps) (registerAt st v .pieces)
-
-    pub place-over : x ≡ found.Overlap → over ≡ true
-    unfolding placeOf
-    place-over e = go over (sym ex ∙ e)
-      where
-        go : (b : Bool) → pickPlace b (endsBy (firstFrom ps) (registerAt st v .pieces)) ≡ found.Overlap → b ≡ true
-        go true e = refl
-        go false e = absurd (let z : _≡_ {A = ℕ} 0 1 = cc in omega arith)
-
-    pub place-at : (k : ℕ) → x ≡ found.At k → (over ≡ false) × (k ≡ endsBy (firstFrom ps) (registerAt st v .pieces))
-    unfolding placeOf
-    place-at k e = go over (sym ex ∙ e)
-      where
-        go : (b : Bool) → pickPlace b (endsBy (firstFrom ps) (registerAt st v .pieces)) ≡ found.At k → (b ≡ false) × (k ≡ endsBy (firstFrom ps) (registerAt st v .pieces))
-        go true e = absurd (let z : _≡_ {A = ℕ} 0 1 = cc in omega arith)
-        go false e = (refl, cc)
-
     pub merge-stopped : x ≡ found.Overlap → r .end ≡ ended.Stopped Overlap → Ends J ol W lay wl K O₂ K r (merge J (roomOf ol) h hg g v ps st)
     unfolding merge
-    merge-stopped e q = gate-stopped J ol W lay wl K O₂ K r (outside-none lay wl K) over Overlap (hasRoom (roomOf ol) st 0 0 ps) (mergeState J h hg g v ps st) (place-over e) q
+    merge-stopped e q = gate-stopped J ol W lay wl K O₂ K r (outside-none lay wl K) _ Overlap (hasRoom (roomOf ol) st 0 0 ps) (mergeState J h hg g v ps st) (place-over st ps v x ex e) q
 
     pub merge-full : (k : ℕ) → x ≡ found.At k → hasRoom (roomOf ol) st 0 0 ps ≡ false → r .end ≡ ended.Full → Ends J ol W lay wl K O₂ K r (merge J (roomOf ol) h hg g v ps st)
     unfolding merge
-    merge-full k e f q = gate-full J ol W lay wl K O₂ K r (outside-none lay wl K) over Overlap (hasRoom (roomOf ol) st 0 0 ps) (mergeState J h hg g v ps st) (place-at k e .0) f q
-
-    -- the pieces of v then
-    pub merge-fair : (k : ℕ) → x ≡ found.At k → Sane J st → v .0 < length (st .registers) → Fair J 4096 ps → Fair J 4096 (allOf v ps st)
-    merge-fair k e n l f = fair-inserted J 4096 ps (registerAt st v .pieces) f (sane-at J st v n l) (place-at k e .0)
+    merge-full k e f q = gate-full J ol W lay wl K O₂ K r (outside-none lay wl K) _ Overlap (hasRoom (roomOf ol) st 0 0 ps) (mergeState J h hg g v ps st) (place-at st ps v x ex k e .0) f q
 
     pub merge-done : (k : ℕ) (O : List ℕ) → x ≡ found.At k → Stands ol O W K lay wl st → Sane J st → v .0 < length (st .registers) → Fair J 4096 ps → hasRoom (roomOf ol) st 0 0 ps ≡ true
         → Left ol O₂ (r .counts) (mergeState J h hg g v ps st) → r .end ≡ ended.Done → Ends J ol W lay wl K O₂ K r (merge J (roomOf ol) h hg g v ps st)
     unfolding merge mergeState Sane
     merge-done k O e s n here f t l q =
-        let fair = merge-fair k e n here f in
-        gate-done J ol W lay wl K O₂ K r (outside-none lay wl K) over Overlap (hasRoom (roomOf ol) st 0 0 ps) (mergeState J h hg g v ps st) (place-at k e .0) t
+        let fair = merge-fair st ps v x ex J k e n here f in
+        gate-done J ol W lay wl K O₂ K r (outside-none lay wl K) _ Overlap (hasRoom (roomOf ol) st 0 0 ps) (mergeState J h hg g v ps st) (place-at st ps v x ex k e .0) t
         (record {
           end = q;
           counts = l .counts;

@@ -1,0 +1,113 @@
+-- What placing a conflict piece asks, and what follows from room in the tables. Assumes nothing.
+use mathlib.Core.Path.{_≡_, refl, sym, ap, _∙_}
+use mathlib.Core.Bool.{Bool, true, false, not, cond}
+use mathlib.Core.List.{List, [], _∷_}
+use Prim.Native.Nat.{ℕ, _+_, _-_, _*_, _^_, _≤_, _<_}
+use native.Mathlib.Nat.{zero-add}
+use native.Mathlib.Omega.{arith}
+use lib.ListN.{length}
+use borrow.Author.Tests.{not-true, not-false}
+use Rattle.definition.specs.declared.Value.{Value}
+use Rattle.definition.specs.declared.Inst.{Inst}
+use Rattle.definition.specs.declared.VirtReg.{VirtReg}
+use Rattle.definition.specs.declared.VirtRegGroup.{VirtRegGroup}
+use Rattle.definition.specs.Types.{Piece, State}
+use Rattle.definition.specs.Entry.{instsOf}
+use Rattle.definition.specs.Admit.{membersAt}
+use Rattle.definition.specs.Build.{conflictPiece}
+use Rattle.definition.specs.Lines.{hintIn}
+use Rattle.definition.specs.Place.{hasRoom, usesOfPieces, usesOf, segsOf}
+use Rattle.layout.specs.declared.Layout.{Layout}
+use Rattle.job.specs.Job.{jobOf}
+use Rattle.conflict_piece.specs.declared.Param.{Param}
+use Rattle.virt_regs.specs.declared.OutLayout.{OutLayout}
+use Rattle.virt_regs.specs.declared.Counts.{Counts}
+use Rattle.virt_regs.specs.Encoding.{tablesEnd, roomOf, countsOf, Holds}
+use Rattle.vreg_put.specs.Written.{Written}
+use Rattle.constraints.specs.declared.WorkLayout.{WorkLayout}
+use Rattle.constraints.specs.Ready as constraints
+use Rattle.part_maps.specs.Maps.{MapApart}
+use Rattle.vreg_weight.specs.Fair.{Fair}
+use Rattle.conflict_piece.specs.Conflict.{turnedRowsOf, RowsOk, paramBy, openCount}
+use Rattle.conflict_piece.proofs.Rows.{count-conflict, hint-conflict}
+use Rattle.place.specs.Ready.{Space, Ready}
+use Rattle.place.specs.Room.{room-counts, space}
+use Rattle.place_conflict.specs.Piece.{insts-in, fair-rows}
+use Rattle.place_laws.specs.Ways.{ready-fair}
+
+-- the piece of turned rows a to b - 1
+abbrev pub piecesOf : List ℕ → ℕ → List ℕ → Layout → ℕ → ℕ → Value → Inst → Param → List Piece
+piecesOf K turned W lay a b v p q = conflictPiece v p (paramBy q) (turnedRowsOf K turned W lay a b) ∷ []
+
+-- The job and the work slice are ready, the rows a to b - 1 are turned uses of the job, p is one of its instructions, and the tables, of n words, hold some state with these counts, of which F is so.
+pub record Asks (t w n : ℕ) (W K O : List ℕ) (lay : Layout) (wl : WorkLayout) (ol : OutLayout) (a b : ℕ) (p : Inst) (c : Counts) (F : State → Type 0) : Type 0 where
+  pub ready : constraints.Ready t w W K lay wl
+  pub apart : MapApart lay wl
+  pub rows : RowsOk w K (wl .turned) lay a b
+  pub segments : 0 < lay .segments .n
+  pub inst : p .0 < instsOf (jobOf W lay .blocks)
+  pub long : tablesEnd ol ≤ n
+  pub small : (ol .regs < 2 ^ 32) × (ol .segs < 2 ^ 32) × (ol .uses < 2 ^ 32) × (ol .groups + 1 < 2 ^ 32)
+  pub st : State
+  pub holds : Holds ol O st
+  pub counts : c ≡ countsOf st
+  pub more : F st
+
+-- how many uses it has, by whether it has a parameter
+pub count-param : (q : Param) (n : ℕ) → q .has ≡ true → 1 + n ≡ openCount q + n
+count-param q n e = ap (λ (x : Bool). cond x 1 0 + n) (sym e)
+
+pub count-rows : (q : Param) (n : ℕ) → q .has ≡ false → n ≡ openCount q + n
+count-rows q n e = sym (zero-add n) ∙ ap (λ (x : Bool). cond x 1 0 + n) (sym e)
+
+-- nothing more; group g has a place i; it is a group, and v a register
+abbrev pub Nothing : State → Type 0
+Nothing st = Unit {0}
+
+abbrev pub InGroup : VirtRegGroup → ℕ → State → Type 0
+InGroup g i st = (g .0 < length (st .groups)) × (i < length (membersAt st g))
+
+abbrev pub InRegister : VirtRegGroup → VirtReg → State → Type 0
+InRegister g v st = (g .0 < length (st .groups)) × (v .0 < length (st .registers))
+
+-- what is known of a test for room
+abbrev pub RoomBy : OutLayout → Counts → ℕ → ℕ → ℕ → ℕ → Bool → Type 0
+RoomBy ol c r g np nu b = (st : State) (ps : List Piece) → c ≡ countsOf st → np ≡ length ps → nu ≡ usesOfPieces ps → b ≡ hasRoom (roomOf ol) st r g ps
+
+module _ (t w n : ℕ) (W K O : List ℕ) (lay : Layout) (wl : WorkLayout) (ol : OutLayout) (a b : ℕ) (p : Inst) (c : Counts) (F : State → Type 0) (k : Asks t w n W K O lay wl ol a b p c F) (v : Value) (q : Param) where
+  abbrev pieces : List Piece
+  pieces = piecesOf K (wl .turned) W lay a b v p q
+
+  pub asks-count : (nu : ℕ) → nu ≡ openCount q + (b - a) → nu ≡ usesOfPieces pieces
+  asks-count nu e = e ∙ sym (count-conflict v p q K (wl .turned) W lay a b)
+
+  pub asks-fair : Fair (jobOf W lay) 4096 pieces
+  asks-fair = fair-rows t w W K lay wl a b v p (paramBy q) (k .ready) (k .segments) (k .rows) (k .inst)
+
+  -- an instruction of the job
+  pub asks-inst : p .0 < 4096
+  asks-inst = omega (arith, k .inst, asks-insts)
+    where
+      asks-insts : instsOf (jobOf W lay .blocks) ≤ 4096
+      asks-insts = insts-in t w W K lay wl (k .ready)
+
+  module _ (r g nu : ℕ) (m : Bool) (room : RoomBy ol c r g 1 nu m) (en : nu ≡ openCount q + (b - a)) where
+    pub asks-full : not m ≡ true → (st : State) → c ≡ countsOf st → hasRoom (roomOf ol) st r g pieces ≡ false
+    asks-full e st ec = sym (room st pieces ec refl (asks-count nu en)) ∙ not-true m e
+
+    pub asks-room : not m ≡ false → (st : State) → c ≡ countsOf st → hasRoom (roomOf ol) st r g pieces ≡ true
+    asks-room e st ec = sym (room st pieces ec refl (asks-count nu en)) ∙ not-false m e
+
+    -- room for the rows
+    pub asks-fit : not m ≡ false → (c .regs + r ≤ ol .regs) × (c .segs + 1 ≤ ol .segs) × (c .uses + nu ≤ ol .uses) × (c .groups + g ≤ ol .groups)
+    asks-fit e = room-counts ol (k .st) c r g 1 nu pieces (k .counts) refl (sym (asks-count nu en)) (asks-room e (k .st) (k .counts))
+
+  pub asks-space : (g nu : ℕ) (m : Bool) → RoomBy ol c 1 g 1 nu m → nu ≡ openCount q + (b - a) → not m ≡ false → Space ol c 1 nu
+  asks-space g nu m room en e =
+      space ol (k .st) c g 1 nu pieces (k .counts) refl (sym (asks-count nu en)) (asks-room 1 g nu m room en e (k .st) (k .counts)) (k .small .0) (k .small .1) (k .small .2)
+
+  -- written behind the rows in use
+  pub asks-ready : (O₁ : List ℕ) (nu : ℕ) (st : State) → Holds ol O st → c ≡ countsOf st → Written ol O (c .segs) (c .uses) pieces (usesOf (segsOf pieces)) O₁ → nu ≡ openCount q + (b - a)
+      → Ready (jobOf W lay) ol O c 1 nu false st pieces O₁
+  asks-ready O₁ nu st h ec wr en =
+      ready-fair (jobOf W lay) ol O O₁ c 1 nu false st pieces h ec wr refl (sym (asks-count nu en)) (sym (hint-conflict v p (paramBy q) (turnedRowsOf K (wl .turned) W lay a b))) asks-fair

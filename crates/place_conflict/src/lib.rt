@@ -1,0 +1,125 @@
+// builder.rs: the register of a conflict piece is placed: in no group, in a new group, in a group's empty place, or merged into a member.
+use conflict_piece::Param;
+use conflict_piece::write_conflict;
+use constraints::WorkLayout;
+use definition::Inst;
+use definition::RegClass;
+use definition::Value;
+use definition::ValueSet;
+use definition::VirtRegGroup;
+use layout::Layout;
+use place_end::Ended;
+use place_end::PlaceEnd;
+use virt_regs::Counts;
+use virt_regs::OutLayout;
+use vreg_put::has_room;
+ghost use mathlib.Core.Path.{_≡_};
+ghost use mathlib.Core.List.{List, [], _∷_};
+ghost use Prim.Native.Nat.{ℕ, _+_, _-_, _*_, _^_, _≤_, _<_};
+ghost use Rattle.words.specs.Words.{wordCount, wordsOf};
+ghost use Rattle.definition.specs.Types.{State};
+ghost use Rattle.definition.specs.Types as types;
+ghost use Rattle.definition.specs.Build.{conflictPiece};
+ghost use Rattle.definition.specs.Place.{alone, join};
+ghost use Rattle.virt_regs.specs.Encoding.{roomOf, countsOf};
+ghost use Rattle.constraints.specs.Ready.{Stands};
+ghost use Rattle.vreg_weight.specs.Weighed.{jobIn, Weighable};
+ghost use Rattle.conflict_piece.specs.Conflict.{turnedRowsOf, paramBy, openCount};
+ghost use Rattle.place_end.specs.Ends.{Sane, Ends};
+ghost use Rattle.place_conflict.specs.Asks.{Asks, piecesOf, Nothing, InGroup};
+
+// How many uses the piece of rows a to b - 1 has.
+fn use_count(param: Param, a: usize, b: usize) -> usize
+    requires { ⌜ (a ≤ b) × (b < 2 ^ 62) ⌝ }
+    ensures { λ r. ⌜ r ≡ openCount param + (b - a) ⌝ }
+{
+    if param.has {
+        return 1 + (b - a);
+    }
+    b - a
+}
+
+// In no group.
+fn conflict_alone(
+    job: &[u8],
+    lay: Layout,
+    out: &mut [u8],
+    ol: OutLayout,
+    work: &[u8],
+    wl: WorkLayout,
+    a: usize,
+    b: usize,
+    value: Value,
+    pos: Inst,
+    param: Param,
+    set: ValueSet,
+    class: RegClass,
+    c: Counts,
+) -> PlaceEnd
+    requires { ⌜ Weighable (now job) lay (now work) (wl .starts) × Asks (wordCount (now job)) (wordCount (now work)) (wordCount (now out)) (wordsOf (now job)) (wordsOf (now work)) (wordsOf (now out)) lay wl ol a b pos c Nothing ⌝ }
+    ensures { λ r. ⌜ ((st : State) (h : types.Held) → Stands ol (wordsOf (now (out .entry))) (wordsOf (now (job .entry))) (wordsOf (now (work .entry))) lay wl st → c ≡ countsOf st → Sane (jobIn (now (job .entry)) lay) st → h .class ≡ class
+        → Ends (jobIn (now (job .entry)) lay) ol (wordsOf (now (job .entry))) lay wl (wordsOf (now (work .entry))) (wordsOf (now (out .exit))) (wordsOf (now (work .entry))) r
+        (alone (jobIn (now (job .entry)) lay) (roomOf ol) set h (piecesOf (wordsOf (now (work .entry))) (wl .turned) (wordsOf (now (job .entry))) lay a b value pos param) st)) ⌝ }
+{
+    let nu = use_count(param, a, b);
+    if !has_room(ol, c, 1, 0, 1, nu) {
+        return PlaceEnd {
+            end: Ended::Full,
+            counts: c,
+        };
+    }
+    let turned = wl.turned;
+    let starts = wl.starts;
+    let p = c.segs;
+    let u = c.uses;
+    write_conflict(job, lay, work, turned, a, b, value, pos, param, out, ol, p, u);
+    let n = place::finish_alone(job, lay, out, ol, work, starts, c, set, class, 1, nu, false);
+    PlaceEnd {
+        end: Ended::Done,
+        counts: n,
+    }
+}
+
+// In place `index` of group g, which is empty.
+fn conflict_join(
+    job: &[u8],
+    lay: Layout,
+    out: &mut [u8],
+    ol: OutLayout,
+    work: &[u8],
+    wl: WorkLayout,
+    a: usize,
+    b: usize,
+    value: Value,
+    pos: Inst,
+    param: Param,
+    set: ValueSet,
+    class: RegClass,
+    g: VirtRegGroup,
+    index: u32,
+    c: Counts,
+) -> PlaceEnd
+    requires { ⌜ Weighable (now job) lay (now work) (wl .starts) × Asks (wordCount (now job)) (wordCount (now work)) (wordCount (now out)) (wordsOf (now job)) (wordsOf (now work)) (wordsOf (now out)) lay wl ol a b pos c (InGroup g index) ⌝ }
+    ensures { λ r. ⌜ ((st : State) (h : types.Held) (hg : types.HeldGroup) → Stands ol (wordsOf (now (out .entry))) (wordsOf (now (job .entry))) (wordsOf (now (work .entry))) lay wl st → c ≡ countsOf st → Sane (jobIn (now (job .entry)) lay) st → h .class ≡ class
+        → hg .index ≡ index → InGroup g index st
+        → Ends (jobIn (now (job .entry)) lay) ol (wordsOf (now (job .entry))) lay wl (wordsOf (now (work .entry))) (wordsOf (now (out .exit))) (wordsOf (now (work .entry))) r
+        (join (jobIn (now (job .entry)) lay) (roomOf ol) set h hg g (piecesOf (wordsOf (now (work .entry))) (wl .turned) (wordsOf (now (job .entry))) lay a b value pos param) st)) ⌝ }
+{
+    let nu = use_count(param, a, b);
+    if !has_room(ol, c, 1, 0, 1, nu) {
+        return PlaceEnd {
+            end: Ended::Full,
+            counts: c,
+        };
+    }
+    let turned = wl.turned;
+    let starts = wl.starts;
+    let p = c.segs;
+    let u = c.uses;
+    write_conflict(job, lay, work, turned, a, b, value, pos, param, out, ol, p, u);
+    let n = place::finish_join(job, lay, out, ol, work, starts, c, set, class, g, index, 1, nu, false);
+    PlaceEnd {
+        end: Ended::Done,
+        counts: n,
+    }
+}
