@@ -1,5 +1,5 @@
 -- What placing a conflict piece asks, and what follows from room in the tables. Assumes nothing.
-use mathlib.Core.Path.{_≡_, refl, sym, ap, _∙_}
+use mathlib.Core.Path.{_≡_, refl, sym, ap, _∙_, subst}
 use mathlib.Core.Bool.{Bool, true, false, not, cond}
 use mathlib.Core.List.{List, [], _∷_}
 use Prim.Native.Nat.{ℕ, _+_, _-_, _*_, _^_, _≤_, _<_}
@@ -14,7 +14,7 @@ use Rattle.definition.specs.declared.Value.{Value}
 use Rattle.definition.specs.declared.Inst.{Inst}
 use Rattle.definition.specs.declared.VirtReg.{VirtReg}
 use Rattle.definition.specs.declared.VirtRegGroup.{VirtRegGroup}
-use Rattle.definition.specs.Types.{Job, Piece, State, Turned, point}
+use Rattle.definition.specs.Types.{Job, Piece, State, Out, point}
 use Rattle.definition.specs.Entry.{instsOf}
 use Rattle.definition.specs.Admit.{registerAt, membersAt}
 use Rattle.definition.specs.Build.{conflictPiece}
@@ -33,6 +33,7 @@ use Rattle.vreg_find.specs.Ends.{placeOf, ends-le}
 use Rattle.vreg_insert.specs.Ask.{Ask, first-use-le}
 use Rattle.vreg_insert.specs.Opened.{Opened}
 use Rattle.vreg_put.specs.Written.{Written}
+use Rattle.constraints.specs.declared.Held.{Held}
 use Rattle.constraints.specs.declared.WorkLayout.{WorkLayout}
 use Rattle.constraints.specs.Ready as constraints
 use Rattle.part_maps.specs.Maps.{MapApart, Outside}
@@ -44,8 +45,10 @@ use Rattle.conflict_piece.proofs.Going.{row-kept, known-kept}
 use Rattle.place.specs.Ready.{Space, Ready, Filled, allOf}
 use Rattle.place.specs.Laws.{filled}
 use Rattle.place.specs.Room.{room-counts, space}
+use Rattle.place_laws.specs.Held.{HeldFits}
 use Rattle.place_conflict.specs.Piece.{insts-in, fair-rows}
-use Rattle.place_end.specs.Ends.{Sane}
+use Rattle.place_end.specs.declared.PlaceEnd.{PlaceEnd}
+use Rattle.place_end.specs.Ends.{Sane, Ends}
 use Rattle.place_laws.specs.Ways.{fair-stored, fair-weighed, ready-fair, place-at, merge-fair}
 
 -- the piece of turned rows a to b - 1
@@ -82,6 +85,30 @@ InGroup g i st = (g .0 < length (st .groups)) × (i < length (membersAt st g))
 
 abbrev pub InRegister : Job → VirtRegGroup → VirtReg → State → Type 0
 InRegister J g v st = (g .0 < length (st .groups)) × (v .0 < length (st .registers)) × Sane J st
+
+-- what is held fits, and all pieces can be weighed
+abbrev pub HeldIn : Job → Held → State → Type 0
+HeldIn J h st = HeldFits J st h × Sane J st
+
+pub ends-by : (J : Job) (ol : OutLayout) (W : List ℕ) (lay : Layout) (wl : WorkLayout) (K₀ O K : List ℕ) (r : PlaceEnd) (o o′ : Out State) → o ≡ o′ → Ends J ol W lay wl K₀ O K r o → Ends J ol W lay wl K₀ O K r o′
+ends-by J ol W lay wl K₀ O K r o o′ e x = subst (λ (y : Out State). Ends J ol W lay wl K₀ O K r y) e x
+
+pub asks-more : (t w n : ℕ) (W K O : List ℕ) (lay : Layout) (wl : WorkLayout) (ol : OutLayout) (a b : ℕ) (p : Inst) (c : Counts) (F G : State → Type 0) → ((st : State) → F st → G st)
+    → Asks t w n W K O lay wl ol a b p c F → Asks t w n W K O lay wl ol a b p c G
+asks-more t w n W K O lay wl ol a b p c F G f k =
+    record {
+      ready = k .ready;
+      apart = k .apart;
+      rows = k .rows;
+      segments = k .segments;
+      inst = k .inst;
+      long = k .long;
+      small = k .small;
+      st = k .st;
+      holds = k .holds;
+      counts = k .counts;
+      more = f (k .st) (k .more);
+    }
 
 -- what is known of a test for room
 abbrev pub RoomBy : OutLayout → Counts → ℕ → ℕ → ℕ → ℕ → Bool → Type 0

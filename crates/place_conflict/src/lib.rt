@@ -2,6 +2,7 @@
 use conflict_piece::Param;
 use conflict_piece::map_conflict;
 use conflict_piece::write_conflict;
+use constraints::Held;
 use constraints::WorkLayout;
 use definition::Inst;
 use definition::LiveRangePoint;
@@ -29,13 +30,15 @@ ghost use Rattle.definition.specs.Types.{State};
 ghost use Rattle.definition.specs.Types as types;
 ghost use Rattle.definition.specs.RegInfo.{classAt};
 ghost use Rattle.definition.specs.Build.{conflictPiece};
-ghost use Rattle.definition.specs.Place.{alone, lead, join, merge};
+ghost use Rattle.definition.specs.Place.{alone, lead, join, merge, place};
 ghost use Rattle.virt_regs.specs.Encoding.{roomOf, countsOf};
+ghost use Rattle.constraints.specs.Held.{heldOf};
 ghost use Rattle.constraints.specs.Ready.{Stands};
 ghost use Rattle.vreg_weight.specs.Weighed.{jobIn, Weighable};
 ghost use Rattle.conflict_piece.specs.Conflict.{turnedRowsOf, paramBy, openCount};
 ghost use Rattle.place_end.specs.Ends.{Sane, Ends};
-ghost use Rattle.place_conflict.specs.Asks.{Asks, piecesOf, Nothing, InGroup, InRegister};
+ghost use Rattle.place_laws.specs.Held.{HeldFits};
+ghost use Rattle.place_conflict.specs.Asks.{Asks, piecesOf, Nothing, InGroup, InRegister, HeldIn};
 
 // How many uses the piece of rows a to b - 1 has.
 fn use_count(param: Param, a: usize, b: usize) -> usize
@@ -233,4 +236,42 @@ fn conflict_merge(
         end: Ended::Done,
         counts: n,
     }
+}
+
+// The register of the conflict piece of rows a to b - 1, by what is held.
+pub fn place_conflict(
+    job: &[u8],
+    lay: Layout,
+    out: &mut [u8],
+    ol: OutLayout,
+    work: &mut [u8],
+    wl: WorkLayout,
+    a: usize,
+    b: usize,
+    value: Value,
+    pos: Inst,
+    param: Param,
+    set: ValueSet,
+    held: Held,
+    c: Counts,
+) -> PlaceEnd
+    requires { ⌜ Weighable (now job) lay (now work) (wl .starts) × Asks (wordCount (now job)) (wordCount (now work)) (wordCount (now out)) (wordsOf (now job)) (wordsOf (now work)) (wordsOf (now out)) lay wl ol a b pos c (HeldIn (jobIn (now job) lay) held) ⌝ }
+    ensures { λ r. ⌜ ((st : State) → Stands ol (wordsOf (now (out .entry))) (wordsOf (now (job .entry))) (wordsOf (now (work .entry))) lay wl st → c ≡ countsOf st → Sane (jobIn (now (job .entry)) lay) st → HeldFits (jobIn (now (job .entry)) lay) st held
+        → Ends (jobIn (now (job .entry)) lay) ol (wordsOf (now (job .entry))) lay wl (wordsOf (now (work .entry))) (wordsOf (now (out .exit))) (wordsOf (now (work .exit))) r
+        (place (jobIn (now (job .entry)) lay) (roomOf ol) set (heldOf held) (piecesOf (wordsOf (now (work .entry))) (wl .turned) (wordsOf (now (job .entry))) lay a b value pos param) st)) ⌝ }
+{
+    let class = held.class;
+    let i = held.index;
+    if !held.grouped {
+        return conflict_alone(job, lay, out, ol, work, wl, a, b, value, pos, param, set, class, c);
+    }
+    if held.mapped == 0 {
+        return conflict_lead(job, lay, out, ol, work, wl, a, b, value, pos, param, set, class, i, c);
+    }
+    let g = VirtRegGroup(held.mapped - 1);
+    if held.target == 0 {
+        return conflict_join(job, lay, out, ol, work, wl, a, b, value, pos, param, set, class, g, i, c);
+    }
+    let v = VirtReg(held.target - 1);
+    conflict_merge(job, lay, out, ol, work, wl, a, b, value, pos, param, class, g, v, i, c)
 }
