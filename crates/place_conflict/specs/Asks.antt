@@ -8,7 +8,7 @@ use native.Mathlib.Omega.{arith}
 use lib.Dec.{eqb}
 use lib.ListN.{length, getD}
 use mathlib.Core.Option.{none, some}
-use Rattle.rows.specs.Tab.{tab, tab-ext}
+use Rattle.rows.specs.Tab.{tab-ext}
 use borrow.Author.Tests.{not-true, not-false}
 use Rattle.definition.specs.declared.Value.{Value}
 use Rattle.definition.specs.declared.Inst.{Inst}
@@ -18,7 +18,6 @@ use Rattle.definition.specs.Types.{Job, Piece, State, Out, point}
 use Rattle.definition.specs.Entry.{instsOf}
 use Rattle.definition.specs.Admit.{registerAt, membersAt}
 use Rattle.definition.specs.Build.{conflictPiece}
-use Rattle.definition.specs.Lines.{hintIn}
 use Rattle.definition.specs.Place.{piecesIn, usesIn, hasRoom, usesOfPieces, usesOf, segsOf, firstFrom, lastTo}
 use Rattle.layout.specs.declared.Layout.{Layout}
 use Rattle.job.specs.Job.{jobOf}
@@ -26,7 +25,7 @@ use Rattle.conflict_piece.specs.declared.Param.{Param}
 use Rattle.virt_regs.specs.declared.OutLayout.{OutLayout}
 use Rattle.virt_regs.specs.declared.Counts.{Counts}
 use Rattle.virt_regs.specs.Encoding.{tablesEnd, roomOf, countsOf, Holds}
-use Rattle.virt_regs.specs.Reads.{pieces-in, span-in}
+use Rattle.virt_regs.specs.Reads.{pieces-in}
 use Rattle.vreg_find.specs.declared.Place.{Place}
 use Rattle.vreg_find.specs.declared.Place.the-variants.{At}
 use Rattle.vreg_find.specs.Ends.{placeOf, ends-le}
@@ -37,9 +36,8 @@ use Rattle.constraints.specs.declared.Held.{Held}
 use Rattle.constraints.specs.declared.WorkLayout.{WorkLayout}
 use Rattle.constraints.specs.Ready as constraints
 use Rattle.part_maps.specs.Maps.{MapApart, Outside}
-use Rattle.part_maps.proofs.Kept.{ready-kept}
 use Rattle.vreg_weight.specs.Fair.{Fair}
-use Rattle.conflict_piece.specs.Conflict.{rowUse, turnedRowAt, turnedRowsOf, RowsOk, paramBy, openCount}
+use Rattle.conflict_piece.specs.Conflict.{turnedRowAt, turnedRowsOf, RowsOk, paramBy, openCount}
 use Rattle.conflict_piece.proofs.Rows.{count-conflict, hint-conflict}
 use Rattle.conflict_piece.proofs.Going.{row-kept, known-kept}
 use Rattle.place.specs.Ready.{Space, Ready, Filled, allOf}

@@ -1,7 +1,7 @@
 -- A conflict piece can be weighed. Assumes nothing.
-use mathlib.Core.Path.{_≡_, sym, ap, _∙_, subst}
+use mathlib.Core.Path.{sym, subst}
 use mathlib.Core.Option.{Option, none, some}
-use mathlib.Core.List.{List, [], _∷_, _++_, map}
+use mathlib.Core.List.{List, [], _∷_, map}
 use Prim.Native.Nat.{ℕ, zero, suc, _+_, _-_, _*_, _≤_, _<_}
 use native.Mathlib.Omega.{arith}
 use lib.ListN.{getD}
@@ -9,10 +9,10 @@ use Rattle.rows.specs.Tab.{tab}
 use Rattle.definition.specs.declared.Value.{Value}
 use Rattle.definition.specs.declared.Inst.{Inst}
 use Rattle.definition.specs.declared.Use.{Use}
-use Rattle.definition.specs.Types.{Job, Piece, Turned}
+use Rattle.definition.specs.Types.{Job, Turned}
 use Rattle.definition.specs.Entry.{instsOf}
 use Rattle.definition.specs.Build.{opening, conflictPiece}
-use Rattle.definition.specs.Place.{usesOf, segsOf}
+use Rattle.definition.specs.Place.{segsOf}
 use Rattle.function.specs.Blocks.{blocksAt}
 use Rattle.uses.specs.Rows.{useRow}
 use Rattle.layout.specs.declared.Layout.{Layout}

@@ -22,20 +22,18 @@ use vreg_find::find_place;
 use vreg_insert::open_gaps;
 use vreg_put::has_room;
 ghost use mathlib.Core.Path.{_≡_};
-ghost use mathlib.Core.List.{List, [], _∷_};
-ghost use Prim.Native.Nat.{ℕ, _+_, _-_, _*_, _^_, _≤_, _<_};
+ghost use Prim.Native.Nat.{_+_, _-_, _*_, _^_, _≤_, _<_};
 ghost use lib.ListN.{length};
 ghost use Rattle.words.specs.Words.{wordCount, wordsOf};
 ghost use Rattle.definition.specs.Types.{State};
 ghost use Rattle.definition.specs.Types as types;
 ghost use Rattle.definition.specs.RegInfo.{classAt};
-ghost use Rattle.definition.specs.Build.{conflictPiece};
 ghost use Rattle.definition.specs.Place.{alone, lead, join, merge, place};
 ghost use Rattle.virt_regs.specs.Encoding.{roomOf, countsOf};
 ghost use Rattle.constraints.specs.Held.{heldOf};
 ghost use Rattle.constraints.specs.Ready.{Stands};
 ghost use Rattle.vreg_weight.specs.Weighed.{jobIn, Weighable};
-ghost use Rattle.conflict_piece.specs.Conflict.{turnedRowsOf, paramBy, openCount};
+ghost use Rattle.conflict_piece.specs.Conflict.{openCount};
 ghost use Rattle.place_end.specs.Ends.{Sane, Ends};
 ghost use Rattle.place_laws.specs.Held.{HeldFits};
 ghost use Rattle.place_conflict.specs.Asks.{Asks, piecesOf, Nothing, InGroup, InRegister, HeldIn};
@@ -84,7 +82,21 @@ fn conflict_alone(
     let starts = wl.starts;
     let p = c.segs;
     let u = c.uses;
-    write_conflict(job, lay, work, turned, a, b, value, pos, param, out, ol, p, u);
+    write_conflict(
+        job,
+        lay,
+        work,
+        turned,
+        a,
+        b,
+        value,
+        pos,
+        param,
+        out,
+        ol,
+        p,
+        u,
+    );
     let n = place::finish_alone(job, lay, out, ol, work, starts, c, set, class, 1, nu, false);
     PlaceEnd {
         end: Ended::Done,
@@ -128,8 +140,37 @@ fn conflict_join(
     let starts = wl.starts;
     let p = c.segs;
     let u = c.uses;
-    write_conflict(job, lay, work, turned, a, b, value, pos, param, out, ol, p, u);
-    let n = place::finish_join(job, lay, out, ol, work, starts, c, set, class, g, index, 1, nu, false);
+    write_conflict(
+        job,
+        lay,
+        work,
+        turned,
+        a,
+        b,
+        value,
+        pos,
+        param,
+        out,
+        ol,
+        p,
+        u,
+    );
+    let n = place::finish_join(
+        job,
+        lay,
+        out,
+        ol,
+        work,
+        starts,
+        c,
+        set,
+        class,
+        g,
+        index,
+        1,
+        nu,
+        false,
+    );
     PlaceEnd {
         end: Ended::Done,
         counts: n,
@@ -156,7 +197,7 @@ fn conflict_lead(
 ) -> PlaceEnd
     requires { ⌜ Weighable (now job) lay (now work) (wl .starts) × Asks (wordCount (now job)) (wordCount (now work)) (wordCount (now out)) (wordsOf (now job)) (wordsOf (now work)) (wordsOf (now out)) lay wl ol a b pos c Nothing × (index < classAt (jobIn (now job) lay) class .size) × (classAt (jobIn (now job) lay) class .size ≤ 8) ⌝ }
     ensures { λ r. ⌜ ((st : State) (h : types.Held) (hg : types.HeldGroup) → Stands ol (wordsOf (now (out .entry))) (wordsOf (now (job .entry))) (wordsOf (now (work .entry))) lay wl st → c ≡ countsOf st → Sane (jobIn (now (job .entry)) lay) st → h .class ≡ class
-        → hg .index ≡ index 
+        → hg .index ≡ index
         → Ends (jobIn (now (job .entry)) lay) ol (wordsOf (now (job .entry))) lay wl (wordsOf (now (work .entry))) (wordsOf (now (out .exit))) (wordsOf (now (work .exit))) r
         (lead (jobIn (now (job .entry)) lay) (roomOf ol) set h hg (piecesOf (wordsOf (now (work .entry))) (wl .turned) (wordsOf (now (job .entry))) lay a b value pos param) st)) ⌝ }
 {
@@ -178,8 +219,36 @@ fn conflict_lead(
     let starts = wl.starts;
     let p = c.segs;
     let u = c.uses;
-    write_conflict(job, lay, work, turned, a, b, value, pos, param, out, ol, p, u);
-    let n = place::finish_lead(job, lay, out, ol, work, starts, c, set, class, index, 1, nu, false);
+    write_conflict(
+        job,
+        lay,
+        work,
+        turned,
+        a,
+        b,
+        value,
+        pos,
+        param,
+        out,
+        ol,
+        p,
+        u,
+    );
+    let n = place::finish_lead(
+        job,
+        lay,
+        out,
+        ol,
+        work,
+        starts,
+        c,
+        set,
+        class,
+        index,
+        1,
+        nu,
+        false,
+    );
     PlaceEnd {
         end: Ended::Done,
         counts: n,
@@ -230,8 +299,36 @@ fn conflict_merge(
     let gaps = open_gaps(out, ol, c, v, k, 1, nu, false);
     let p = gaps.pieces;
     let u = gaps.uses;
-    write_conflict(job, lay, work, turned, a, b, value, pos, param, out, ol, p, u);
-    let n = place::finish_merge(job, lay, out, ol, work, starts, c, class, g, v, index, 1, nu);
+    write_conflict(
+        job,
+        lay,
+        work,
+        turned,
+        a,
+        b,
+        value,
+        pos,
+        param,
+        out,
+        ol,
+        p,
+        u,
+    );
+    let n = place::finish_merge(
+        job,
+        lay,
+        out,
+        ol,
+        work,
+        starts,
+        c,
+        class,
+        g,
+        v,
+        index,
+        1,
+        nu,
+    );
     PlaceEnd {
         end: Ended::Done,
         counts: n,
@@ -263,15 +360,80 @@ pub fn place_conflict(
     let class = held.class;
     let i = held.index;
     if !held.grouped {
-        return conflict_alone(job, lay, out, ol, work, wl, a, b, value, pos, param, set, class, c);
+        return conflict_alone(
+            job,
+            lay,
+            out,
+            ol,
+            work,
+            wl,
+            a,
+            b,
+            value,
+            pos,
+            param,
+            set,
+            class,
+            c,
+        );
     }
     if held.mapped == 0 {
-        return conflict_lead(job, lay, out, ol, work, wl, a, b, value, pos, param, set, class, i, c);
+        return conflict_lead(
+            job,
+            lay,
+            out,
+            ol,
+            work,
+            wl,
+            a,
+            b,
+            value,
+            pos,
+            param,
+            set,
+            class,
+            i,
+            c,
+        );
     }
     let g = VirtRegGroup(held.mapped - 1);
     if held.target == 0 {
-        return conflict_join(job, lay, out, ol, work, wl, a, b, value, pos, param, set, class, g, i, c);
+        return conflict_join(
+            job,
+            lay,
+            out,
+            ol,
+            work,
+            wl,
+            a,
+            b,
+            value,
+            pos,
+            param,
+            set,
+            class,
+            g,
+            i,
+            c,
+        );
     }
     let v = VirtReg(held.target - 1);
-    conflict_merge(job, lay, out, ol, work, wl, a, b, value, pos, param, class, g, v, i, c)
+    conflict_merge(
+        job,
+        lay,
+        out,
+        ol,
+        work,
+        wl,
+        a,
+        b,
+        value,
+        pos,
+        param,
+        class,
+        g,
+        v,
+        i,
+        c,
+    )
 }

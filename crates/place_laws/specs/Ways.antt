@@ -1,9 +1,9 @@
 -- How placing pieces ends, in each of the four ways: by what is left in the tables. Assumes nothing.
-use mathlib.Core.Path.{_≡_, refl, sym, ap, _∙_, subst}
+use mathlib.Core.Path.{_≡_, refl, sym, _∙_, subst}
 use mathlib.Core.Bool.{Bool, true, false}
 use mathlib.Core.Option.{Option, none, some}
-use mathlib.Core.List.{List, [], _∷_, _++_}
-use Prim.Native.Nat.{ℕ, _+_, _≤_, _<_}
+use mathlib.Core.List.{List, []}
+use Prim.Native.Nat.{ℕ, _<_}
 use native.Mathlib.Omega.{arith}
 use lib.ListN.{length}
 use Rattle.definition.specs.declared.ValueSet.{ValueSet}
@@ -16,7 +16,7 @@ use Rattle.definition.specs.declared.UseKind.the-variants.{FixedDef, FixedUse, 
 use Rattle.definition.specs.Types.{Job, HeldGroup, Held, Piece, Mapped, State, vrgroup}
 use Rattle.definition.specs.Lines.{hintIn}
 use Rattle.definition.specs.Admit.{registerAt, membersAt}
-use Rattle.definition.specs.Place.{usesOfPieces, usesOf, segsOf, hasRoom, gate, mapUses, isNone, orElse, withPieces, update, spread, groupWeight, firstFrom, lastTo, overlaps, aloneState, leadState, joinState, mergeState, alone, lead, join, merge}
+use Rattle.definition.specs.Place.{usesOfPieces, usesOf, segsOf, hasRoom, gate, mapUses, isNone, orElse, withPieces, groupWeight, firstFrom, lastTo, overlaps, aloneState, leadState, joinState, mergeState, alone, lead, join, merge}
 use Rattle.layout.specs.declared.Layout.{Layout}
 use Rattle.virt_regs.specs.declared.OutLayout.{OutLayout}
 use Rattle.virt_regs.specs.declared.Counts.{Counts}
@@ -28,14 +28,14 @@ use Rattle.vreg_find.specs.declared.Place.the-variants as found
 use Rattle.vreg_find.specs.Ends.{endsBy, pickPlace, placeOf}
 use Rattle.constraints.specs.declared.WorkLayout.{WorkLayout}
 use Rattle.constraints.specs.Ready.{operandsIn, Mapping, Stands}
-use Rattle.part_maps.specs.Maps.{Outside, MapsTo, Maps}
+use Rattle.part_maps.specs.Maps.{MapsTo, Maps}
 use Rattle.part_maps.proofs.Kept.{outside-none}
 use Rattle.vreg_weight.specs.Typed as weighed
 use Rattle.vreg_weight.specs.Fair.{Fair, fair-insts, fair-typed, fair-inside, fair-inserted}
 use Rattle.place.specs.Ready.{Weighed, Ready, Left, allOf}
 use Rattle.place_end.specs.declared.PlaceEnd.{PlaceEnd}
 use Rattle.place_end.specs.declared.Ended.the-variants as ended
-use Rattle.place_end.specs.Ends.{FairAt, Sane, DoneAs, Ends, gate-stopped, gate-full, gate-done, sane-at, sane-added, sane-update, sane-spread}
+use Rattle.place_end.specs.Ends.{Sane, Ends, gate-stopped, gate-full, gate-done, sane-at, sane-added, sane-update, sane-spread}
 
 -- ---- pieces that can be weighed
 
