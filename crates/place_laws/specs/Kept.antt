@@ -8,7 +8,7 @@ use Rattle.layout.specs.declared.Layout.{Layout}
 use Rattle.job.specs.Job.{jobBy, jobOf}
 use Rattle.constraints.specs.declared.WorkLayout.{WorkLayout}
 use Rattle.constraints.specs.Ready.{Ready}
-use Rattle.vreg_weight.specs.Weighed.{jobIn, Weighable}
+use Rattle.vreg_weight.specs.Weighed.{Weighable}
 
 pub weighable-kept : (t w : ℕ) (job work work₁ : List ℕ) (lay : Layout) (wl : WorkLayout) → Weighable job lay work (wl .starts) → Ready t w (wordsOf job) (wordsOf work₁) lay wl → wordCount work₁ ≡ wordCount work
     → Weighable job lay work₁ (wl .starts)

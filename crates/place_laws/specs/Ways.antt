@@ -1,9 +1,9 @@
 -- How placing pieces ends, in each of the four ways: by what is left in the tables. Assumes nothing.
-use mathlib.Core.Path.{_≡_, refl, sym, ap, _∙_, subst}
+use mathlib.Core.Path.{_≡_, refl, sym, _∙_, subst}
 use mathlib.Core.Bool.{Bool, true, false}
 use mathlib.Core.Option.{Option, none, some}
-use mathlib.Core.List.{List, [], _∷_, _++_}
-use Prim.Native.Nat.{ℕ, _+_, _≤_, _<_}
+use mathlib.Core.List.{List, []}
+use Prim.Native.Nat.{ℕ, _<_}
 use native.Mathlib.Omega.{arith}
 use lib.ListN.{length}
 use Rattle.definition.specs.declared.ValueSet.{ValueSet}
@@ -16,7 +16,7 @@ use Rattle.definition.specs.declared.UseKind.the-variants.{FixedDef, FixedUse, 
 use Rattle.definition.specs.Types.{Job, HeldGroup, Held, Piece, Mapped, State, vrgroup}
 use Rattle.definition.specs.Lines.{hintIn}
 use Rattle.definition.specs.Admit.{registerAt, membersAt}
-use Rattle.definition.specs.Place.{usesOfPieces, usesOf, segsOf, hasRoom, gate, mapUses, isNone, orElse, withPieces, update, spread, groupWeight, firstFrom, lastTo, overlaps, aloneState, leadState, joinState, mergeState, alone, lead, join, merge}
+use Rattle.definition.specs.Place.{usesOfPieces, usesOf, segsOf, hasRoom, gate, mapUses, isNone, orElse, withPieces, groupWeight, firstFrom, lastTo, overlaps, aloneState, leadState, joinState, mergeState, alone, lead, join, merge}
 use Rattle.layout.specs.declared.Layout.{Layout}
 use Rattle.virt_regs.specs.declared.OutLayout.{OutLayout}
 use Rattle.virt_regs.specs.declared.Counts.{Counts}
@@ -28,14 +28,14 @@ use Rattle.vreg_find.specs.declared.Place.the-variants as found
 use Rattle.vreg_find.specs.Ends.{endsBy, pickPlace, placeOf}
 use Rattle.constraints.specs.declared.WorkLayout.{WorkLayout}
 use Rattle.constraints.specs.Ready.{operandsIn, Mapping, Stands}
-use Rattle.part_maps.specs.Maps.{Outside, MapsTo, Maps}
+use Rattle.part_maps.specs.Maps.{MapsTo, Maps}
 use Rattle.part_maps.proofs.Kept.{outside-none}
 use Rattle.vreg_weight.specs.Typed as weighed
 use Rattle.vreg_weight.specs.Fair.{Fair, fair-insts, fair-typed, fair-inside, fair-inserted}
 use Rattle.place.specs.Ready.{Weighed, Ready, Left, allOf}
 use Rattle.place_end.specs.declared.PlaceEnd.{PlaceEnd}
 use Rattle.place_end.specs.declared.Ended.the-variants as ended
-use Rattle.place_end.specs.Ends.{FairAt, Sane, DoneAs, Ends, gate-stopped, gate-full, gate-done, sane-at, sane-added, sane-update, sane-spread}
+use Rattle.place_end.specs.Ends.{Sane, Ends, gate-stopped, gate-full, gate-done, sane-at, sane-added, sane-update, sane-spread}
 
 -- ---- pieces that can be weighed
 
@@ -67,6 +67,29 @@ pub ready-fair : (J : Job) (ol : OutLayout) (O O₁ : List ℕ) (c : Counts) (np
     → Written ol O (c .segs) (c .uses) ps (usesOf (segsOf ps)) O₁ → length ps ≡ np → usesOfPieces ps ≡ nu → hint ≡ hintIn ps → Fair J 4096 ps → Ready J ol O c np nu hint st ps O₁
 ready-fair J ol O O₁ c np nu hint st ps h ec w ep eu eh f =
     record { holds = h; counts = ec; written = w; pieces = ep; uses = eu; hinted = eh; typed = fair-stored J 4096 ps f; weighed = fair-weighed J ps f }
+
+-- ---- the place of pieces that are merged into register v
+
+module _ (st : State) (ps : List Piece) (v : VirtReg) (x : Place) (ex : x ≡ placeOf (firstFrom ps) (lastTo ps) (registerAt st v .pieces)) where
+  pub place-over : x ≡ found.Overlap → overlaps (firstFrom ps) (lastTo ps) (registerAt st v .pieces) ≡ true
+  unfolding placeOf
+  place-over e = go (overlaps (firstFrom ps) (lastTo ps) (registerAt st v .pieces)) (sym ex ∙ e)
+    where
+      go : (b : Bool) → pickPlace b (endsBy (firstFrom ps) (registerAt st v .pieces)) ≡ found.Overlap → b ≡ true
+      go true e = refl
+      go false e = absurd (let z : _≡_ {A = ℕ} 0 1 = cc in omega arith)
+
+  pub place-at : (k : ℕ) → x ≡ found.At k → (overlaps (firstFrom ps) (lastTo ps) (registerAt st v .pieces) ≡ false) × (k ≡ endsBy (firstFrom ps) (registerAt st v .pieces))
+  unfolding placeOf
+  place-at k e = go (overlaps (firstFrom ps) (lastTo ps) (registerAt st v .pieces)) (sym ex ∙ e)
+    where
+      go : (b : Bool) → pickPlace b (endsBy (firstFrom ps) (registerAt st v .pieces)) ≡ found.At k → (b ≡ false) × (k ≡ endsBy (firstFrom ps) (registerAt st v .pieces))
+      go true e = absurd (let z : _≡_ {A = ℕ} 0 1 = cc in omega arith)
+      go false e = (refl, cc)
+
+  -- the pieces of v then
+  pub merge-fair : (J : Job) (k : ℕ) → x ≡ found.At k → Sane J st → v .0 < length (st .registers) → Fair J 4096 ps → Fair J 4096 (allOf v ps st)
+  merge-fair J k e n l f = fair-inserted J 4096 ps (registerAt st v .pieces) f (sane-at J st v n l) (place-at k e .0)
 
 -- ---- how it ends
 
@@ -139,43 +162,20 @@ module _ (J : Job) (ol : OutLayout) (W : List ℕ) (lay : Layout) (wl : WorkLayo
 
   -- merged into register v
   module _ (hg : HeldGroup) (g : VirtRegGroup) (v : VirtReg) (x : Place) (ex : x ≡ placeOf (firstFrom ps) (lastTo ps) (registerAt st v .pieces)) where
-    abbrev over : Bool
-    over = overlaps (firstFrom ps) (lastTo ps) (registerAt st v .pieces)
-
-    pub place-over : x ≡ found.Overlap → over ≡ true
-    unfolding placeOf
-    place-over e = go over (sym ex ∙ e)
-      where
-        go : (b : Bool) → pickPlace b (endsBy (firstFrom ps) (registerAt st v .pieces)) ≡ found.Overlap → b ≡ true
-        go true e = refl
-        go false e = absurd (let z : _≡_ {A = ℕ} 0 1 = cc in omega arith)
-
-    pub place-at : (k : ℕ) → x ≡ found.At k → (over ≡ false) × (k ≡ endsBy (firstFrom ps) (registerAt st v .pieces))
-    unfolding placeOf
-    place-at k e = go over (sym ex ∙ e)
-      where
-        go : (b : Bool) → pickPlace b (endsBy (firstFrom ps) (registerAt st v .pieces)) ≡ found.At k → (b ≡ false) × (k ≡ endsBy (firstFrom ps) (registerAt st v .pieces))
-        go true e = absurd (let z : _≡_ {A = ℕ} 0 1 = cc in omega arith)
-        go false e = (refl, cc)
-
     pub merge-stopped : x ≡ found.Overlap → r .end ≡ ended.Stopped Overlap → Ends J ol W lay wl K O₂ K r (merge J (roomOf ol) h hg g v ps st)
     unfolding merge
-    merge-stopped e q = gate-stopped J ol W lay wl K O₂ K r (outside-none lay wl K) over Overlap (hasRoom (roomOf ol) st 0 0 ps) (mergeState J h hg g v ps st) (place-over e) q
+    merge-stopped e q = gate-stopped J ol W lay wl K O₂ K r (outside-none lay wl K) _ Overlap (hasRoom (roomOf ol) st 0 0 ps) (mergeState J h hg g v ps st) (place-over st ps v x ex e) q
 
     pub merge-full : (k : ℕ) → x ≡ found.At k → hasRoom (roomOf ol) st 0 0 ps ≡ false → r .end ≡ ended.Full → Ends J ol W lay wl K O₂ K r (merge J (roomOf ol) h hg g v ps st)
     unfolding merge
-    merge-full k e f q = gate-full J ol W lay wl K O₂ K r (outside-none lay wl K) over Overlap (hasRoom (roomOf ol) st 0 0 ps) (mergeState J h hg g v ps st) (place-at k e .0) f q
-
-    -- the pieces of v then
-    pub merge-fair : (k : ℕ) → x ≡ found.At k → Sane J st → v .0 < length (st .registers) → Fair J 4096 ps → Fair J 4096 (allOf v ps st)
-    merge-fair k e n l f = fair-inserted J 4096 ps (registerAt st v .pieces) f (sane-at J st v n l) (place-at k e .0)
+    merge-full k e f q = gate-full J ol W lay wl K O₂ K r (outside-none lay wl K) _ Overlap (hasRoom (roomOf ol) st 0 0 ps) (mergeState J h hg g v ps st) (place-at st ps v x ex k e .0) f q
 
     pub merge-done : (k : ℕ) (O : List ℕ) → x ≡ found.At k → Stands ol O W K lay wl st → Sane J st → v .0 < length (st .registers) → Fair J 4096 ps → hasRoom (roomOf ol) st 0 0 ps ≡ true
         → Left ol O₂ (r .counts) (mergeState J h hg g v ps st) → r .end ≡ ended.Done → Ends J ol W lay wl K O₂ K r (merge J (roomOf ol) h hg g v ps st)
     unfolding merge mergeState Sane
     merge-done k O e s n here f t l q =
-        let fair = merge-fair k e n here f in
-        gate-done J ol W lay wl K O₂ K r (outside-none lay wl K) over Overlap (hasRoom (roomOf ol) st 0 0 ps) (mergeState J h hg g v ps st) (place-at k e .0) t
+        let fair = merge-fair st ps v x ex J k e n here f in
+        gate-done J ol W lay wl K O₂ K r (outside-none lay wl K) _ Overlap (hasRoom (roomOf ol) st 0 0 ps) (mergeState J h hg g v ps st) (place-at st ps v x ex k e .0) t
         (record {
           end = q;
           counts = l .counts;
