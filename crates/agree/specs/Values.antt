@@ -95,7 +95,7 @@ abbrev pub Small : List ℕ → Type 0
 Small [] = Unit {0}
 Small (n ∷ ns) = (n ≤ 4294967295) × Small ns
 
-abbrev OneSmall : ℕ → Option ℕ → Type 0
+abbrev pub OneSmall : ℕ → Option ℕ → Type 0
 OneSmall most none = Unit {0}
 OneSmall most (some n) = n ≤ most
 
