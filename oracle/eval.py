@@ -169,7 +169,7 @@ class Checker:
         self.seconds = 0.0
 
     def refused(self, groups):
-        """The numbers of the groups that are not proved; None where the check itself failed."""
+        """For each group that is not proved its number, and whether it stopped at a limit; None where the check itself failed."""
         with open(os.path.join(self.proofs, 'Lib.antt'), 'w') as f:
             f.write('mod Eval\n')
         module = HEAD + ''.join(lemma(f'c{i}', g) for i, g in enumerate(groups))
@@ -181,9 +181,9 @@ class Checker:
         self.seconds += time.time() - start
         self.log = run.stdout + run.stderr
         if run.returncode == 0 and 'logic=proved' in self.log:
-            return []
-        bad = sorted({int(n) for n in re.findall(r'`c(\d+)-holds`', self.log)})
-        return bad or None
+            return {}
+        errors = re.findall(r'error: `c(\d+)-holds`(.*)', self.log)
+        return {int(n): 'step limit' in text for n, text in errors} or None
 
     def close(self):
         shutil.rmtree(self.folder, ignore_errors=True)
@@ -201,7 +201,7 @@ def hold(checker, groups, found):
         if i not in bad:
             found['agrees'] += group
         elif len(group) == 1:
-            found['differs'] += group
+            found['no verdict' if bad[i] else 'differs'] += group
         else:
             alone += [[c] for c in group]
     if alone:

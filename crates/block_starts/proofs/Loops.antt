@@ -1,10 +1,10 @@
 -- One turn of each loop over the table of block starts. Assumes nothing.
-use Prim.Native.Nat.{ℕ, zero, suc, _+_, _-_, _*_, _/_, _≤_, _<_}
+use Prim.Native.Nat.{ℕ, zero, suc, _+_, _-_, _*_, _≤_, _<_}
 use native.Mathlib.Omega.{arith}
 use native.Mathlib.Numerals.{add-one}
 use mathlib.Core.Path.{_≡_, refl, sym, ap, _∙_, subst}
 use mathlib.Core.List.{List, [], _∷_, _++_}
-use lib.ListN.{length, getD, set, take, drop, length-append, take-append-drop}
+use lib.ListN.{length, getD, set, length-append, take-append-drop}
 use Rattle.definition.specs.declared.BlockData.{BlockData}
 use Rattle.definition.specs.Entry.{instsOf}
 use Rattle.rows.specs.Parts.{splice, splice-splice, length-splice}

@@ -2,20 +2,20 @@
 use Prim.Native.Nat.{ℕ, zero, suc, _+_, _-_, _*_, _≤_, _<_}
 use native.Mathlib.Omega.{arith}
 use native.Mathlib.Nat.{eq-or-lt-of-le}
-use mathlib.Core.Path.{_≡_, refl, sym, ap, _∙_, subst}
+use mathlib.Core.Path.{_≡_, sym, ap, _∙_, subst}
 use mathlib.Core.Logic.{_⊎_, inl, inr}
-use mathlib.Core.Bool.{Bool, true, false, _&&_}
+use mathlib.Core.Bool.{true}
 use mathlib.Core.List.{List, [], _∷_, _++_}
-use lib.Dec.{T, leb, ltb}
 use lib.ListN.{length, getD, length-append, List·getD-append}
-use lib.Ieee.{Float, binary32, ofBits}
-use borrow.Author.Tests.{leb-true, ltb-true}
+use lib.Ieee.{binary32, ofBits}
+use borrow.Author.Tests.{ltb-true}
 use Rattle.definition.specs.declared.BlockData.{BlockData}
-use Rattle.definition.specs.Entry.{instsOf, blockOk, every, plain}
+use Rattle.definition.specs.Entry.{blockOk, every, plain}
 use Rattle.rows.specs.Parts.{splice, getD-splice-in, getD-past}
-use Rattle.rows.specs.RowsAt.{rowsAt, length-rows-at, getD-rows-at}
+use Rattle.rows.specs.RowsAt.{length-rows-at, getD-rows-at}
 use Rattle.floats.proofs.Bits.{plain-test}
 use Rattle.function.specs.Blocks.{blockRow, blocksAt, blockAt, noBlock, startOf, startRows, startWords, Starts}
+use Rattle.function.specs.BlockLaws.{block-filled, block-plain, each-passes}
 use Rattle.block_starts.proofs.Loops.{length-start-rows}
 
 -- ---- a word of the table
@@ -53,38 +53,6 @@ unfolding startWords
 length-start-words W from n =
     length-append (startRows W from n n) (startOf (blocksAt W from n) n ∷ 0 ∷ []) ∙ ap (λ (k : ℕ). k + 2) (length-start-rows W from n n)
 
--- ---- a test over a list holds of each element
-
-every-at : (bs : List BlockData) (j : ℕ) → every blockOk bs ≡ true → j < length bs → blockOk (blockAt bs j) ≡ true
-unfolding every blockAt
-every-at [] j e h = absurd (omega arith)
-every-at (b ∷ bs) zero e h = and-l (blockOk b) (every blockOk bs) e
-  where
-    and-l : (p q : Bool) → p && q ≡ true → p ≡ true
-    and-l true q e = refl
-    and-l false q e = e
-every-at (b ∷ bs) (suc j) e h = every-at bs j (and-r (blockOk b) (every blockOk bs) e) (omega arith)
-  where
-    and-r : (p q : Bool) → p && q ≡ true → q ≡ true
-    and-r true q e = e
-    and-r false q e = absurd (let z : _≡_ {A = ℕ} 0 1 = cc in omega arith)
-
-ok-insts : (b : BlockData) → blockOk b ≡ true → 1 ≤ b .insts
-unfolding blockOk
-ok-insts b e = leb-true 1 (b .insts) (and-l (leb 1 (b .insts)) (plain (b .frequency)) e)
-  where
-    and-l : (p q : Bool) → p && q ≡ true → p ≡ true
-    and-l true q e = refl
-    and-l false q e = e
-
-ok-plain : (b : BlockData) → blockOk b ≡ true → plain (b .frequency) ≡ true
-unfolding blockOk
-ok-plain b e = and-r (leb 1 (b .insts)) (plain (b .frequency)) e
-  where
-    and-r : (p q : Bool) → p && q ≡ true → q ≡ true
-    and-r true q e = e
-    and-r false q e = absurd (let z : _≡_ {A = ℕ} 0 1 = cc in omega arith)
-
 -- ---- the table
 
 module _ (T₀ W : List ℕ) (at from n : ℕ) (room : at + n * 2 + 2 ≤ length T₀) where
@@ -109,11 +77,11 @@ module _ (T₀ W : List ℕ) (at from n : ℕ) (room : at + n * 2 + 2 ≤ length
     block-is j h = getD-rows-at blockRow W from 2 n j noBlock h
 
     row-ok : (j : ℕ) → j < n → blockOk (blockAt (blocksAt W from n) j) ≡ true
-    row-ok j h = every-at (blocksAt W from n) j ok (omega (arith, length-rows-at blockRow W from 2 n))
+    row-ok j h = each-passes (blocksAt W from n) j ok (omega (arith, length-rows-at blockRow W from 2 n))
 
     row-plain : (j : ℕ) → j < n → plain (ofBits binary32 (getD W (from + j * 2 + 1) 0)) ≡ true
     unfolding blockRow
-    row-plain j h = sym (ap (λ (b : BlockData). plain (b .frequency)) (block-is j h)) ∙ ok-plain (blockAt (blocksAt W from n) j) (row-ok j h)
+    row-plain j h = sym (ap (λ (b : BlockData). plain (b .frequency)) (block-is j h)) ∙ block-plain (blockAt (blocksAt W from n) j) (row-ok j h)
 
     pub starts-made : Starts (splice T₀ at (startWords W from n)) at (blocksAt W from n)
     unfolding blockRow
@@ -127,5 +95,5 @@ module _ (T₀ W : List ℕ) (at from n : ℕ) (room : at + n * 2 + 2 ≤ length
               let w = getD W (from + j * 2 + 1) 0 in
               let b : w < 2139095040 = ltb-true w 2139095040 (plain-test w (small (from + j * 2 + 1)) ∙ row-plain j l) in
               omega (arith, read-bits j l);
-          filled = λ j h. ok-insts (blockAt (blocksAt W from n) j) (row-ok j (omega (arith, long)));
+          filled = λ j h. block-filled (blockAt (blocksAt W from n) j) (row-ok j (omega (arith, long)));
         }

@@ -4,7 +4,7 @@ use definition::Block;
 use definition::Inst;
 ghost use mathlib.Core.Path.{_≡_};
 ghost use mathlib.Core.List.{List, [], _∷_};
-ghost use Prim.Native.Nat.{ℕ, _+_, _*_, _≤_, _<_};
+ghost use Prim.Native.Nat.{_+_, _*_, _≤_, _<_};
 ghost use lib.ListN.{length, getD};
 ghost use Rattle.definition.specs.declared.BlockData.{BlockData};
 ghost use Rattle.definition.specs.Entry.{instsOf};

@@ -12,7 +12,8 @@ use Rattle.definition.specs.declared.ValueSet.{ValueSet}
 use Rattle.definition.specs.declared.ValueData.{ValueData}
 use Rattle.definition.specs.Types.{Job, val}
 use Rattle.definition.specs.RegInfo.{valueAt, setOf}
-use Rattle.coalescing.specs.Rows.{memberRow, vgroupRow, vgroupsAt, setIn, setsOf, reserved}
+use Rattle.definition.specs.Admit.{setsOf, reserved}
+use Rattle.coalescing.specs.Rows.{memberRow, vgroupRow, vgroupsAt, setIn}
 
 pub groups-long : (W : List ℕ) (at n : ℕ) → length (vgroupsAt W at n) ≡ n
 unfolding vgroupsAt

@@ -1,17 +1,16 @@
--- The rows of the value and value group tables, and the value sets of a group's members. Assumes nothing.
-use Prim.Native.Nat.{ℕ, _+_, _-_}
+-- The rows of the value and value group tables. Assumes nothing.
+use Prim.Native.Nat.{ℕ, _+_}
 use mathlib.Core.Bool.{Bool, true, false}
-use mathlib.Core.List.{List, _++_, map}
+use mathlib.Core.List.{List}
 use lib.Dec.{eqb}
-use lib.ListN.{length, getD, replicate}
+use lib.ListN.{getD}
 use Rattle.rows.specs.RowsAt.{rowsAt}
 use Rattle.definition.specs.declared.Value.{Value}
 use Rattle.definition.specs.declared.ValueSet.{ValueSet}
 use Rattle.definition.specs.declared.ValueData.{ValueData}
 use Rattle.definition.specs.declared.Remat.{Remat}
 use Rattle.definition.specs.declared.Remat.the-variants.{Never, CheaperThanMove, CheaperThanLoad, Indirect}
-use Rattle.definition.specs.Types.{Job, val, vset}
-use Rattle.definition.specs.Limits.{maxGroup}
+use Rattle.definition.specs.Types.{val, vset}
 use Rattle.definition.specs.RegInfo.{noValue, setOf}
 
 abbrev pub pickR : Bool → Remat → Remat → Remat
@@ -43,12 +42,3 @@ vgroupRow W i = rowsAt memberRow W (i + 1) 1 (getD W i 0)
 -- n value groups from word `at` on
 unfoldable pub vgroupsAt : List ℕ → ℕ → ℕ → List (List Value)
 vgroupsAt W at n = rowsAt vgroupRow W at 9 n
-
--- the reserved value, which is no value's number
-abbrev pub reserved : ValueSet
-reserved = vset 4294967295
-
--- the members' value sets in eight places, the reserved value filling the rest
-unfoldable pub setsOf : Job → List Value → List ValueSet
-unfolding setOf
-setsOf job ms = map (λ v. setOf job v) ms ++ replicate (maxGroup - length ms) reserved

@@ -11,8 +11,8 @@ ghost use lib.ListN.{length, getD};
 ghost use Rattle.words.specs.Words.{wordCount, wordsOf};
 ghost use Rattle.definition.specs.Types.{Job, val};
 ghost use Rattle.definition.specs.RegInfo.{setOf};
-ghost use Rattle.definition.specs.Admit.{sameSets};
-ghost use Rattle.coalescing.specs.Rows.{rematOf, valueRow, valuesAt, setIn, vgroupRow, setsOf};
+ghost use Rattle.definition.specs.Admit.{sameSets, setsOf};
+ghost use Rattle.coalescing.specs.Rows.{rematOf, valueRow, valuesAt, setIn, vgroupRow};
 
 // The remat choice of a number; one above 3 is no choice and gives Never.
 fn remat_of(w: u32) -> Remat

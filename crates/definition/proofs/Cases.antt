@@ -1,4 +1,4 @@
--- The marked cases A to J, and jobs for what none of them shows: tables of jobs, cuts and counts with their answers, and one lemma each. Assumes nothing.
+-- The marked cases A to J: one table, one lemma, computed. Behind them jobs for what none of the marked ones shows. Assumes nothing.
 use Prim.Native.Nat.{ℕ, _/_, _%_}
 use mathlib.Core.Path.{_≡_, refl}
 use mathlib.Core.Bool.{Bool, true, false, cond}
@@ -129,7 +129,7 @@ accept rs gs = done (record { registers = rs; groups = gs })
 stop : Stop → Out Result
 stop s = refused (Stopped s)
 
--- ---- A to E, I and J: jobs
+-- ---- the marked cases: one table, one lemma
 
 caseA : Job
 unfolding single bookA seg uses defines
@@ -139,40 +139,6 @@ caseE : Job
 unfolding single bookA seg uses
 caseE = single bookA (seg 0 0 6 1 (uses 1 0 1 ∷ uses 1 1 2 ∷ []) ∷ [])
 
-cases : List (Job × Out Result)
-unfolding caseA caseE single bookA class seg uses defines mark plain own added accept stop
-cases =
-    -- A
-    (caseA, accept (plain 1 0x3f000000 (own (seg 0 2 8 2 (defines 0 1 ∷ [])) ∷ []) ∷ plain 2 0x3e800000 (own (seg 0 8 14 1 (uses 3 0 2 ∷ [])) ∷ []) ∷ []) [])
-    -- B, C: the class shares nothing with the top
-    ∷ (single (class 3 ∷ class 2 ∷ class 4 ∷ []) (seg 0 0 6 0 (uses 1 0 2 ∷ []) ∷ []), stop NoneAdmitted)
-    ∷ (single (class 3 ∷ class 2 ∷ class 4 ∷ []) (seg 0 2 6 0 (defines 0 2 ∷ []) ∷ []), stop TurnedDef)
-    -- D: subclassing is not transitive, so the backward scan finds no start
-    ∷ (single (class 0x1f ∷ class 2 ∷ class 4 ∷ class 0xe ∷ class 0x14 ∷ []) (seg 0 0 14 0 (uses 1 0 3 ∷ uses 3 0 4 ∷ []) ∷ []), stop NoStart)
-    -- E: two uses of one instruction
-    ∷ (
-      caseE,
-      accept (plain 1 0x3f400000 (own (seg 0 0 6 1 (uses 1 0 1 ∷ mark 1 ∷ [])) ∷ []) ∷ plain 2 0x7f800000 (added (seg 0 4 6 1 (uses 1 1 2 ∷ [])) ∷ []) ∷ []) [],
-    )
-    -- I: [0,8) and [0,4)
-    ∷ (single bookA (seg 0 0 8 2 (uses 0 0 1 ∷ []) ∷ []), accept (plain 1 0x3f000000 (own (seg 0 0 8 2 (uses 0 0 1 ∷ [])) ∷ []) ∷ []) [])
-    ∷ (single bookA (seg 0 0 4 2 (uses 0 0 1 ∷ []) ∷ []), accept (plain 1 0x7f800000 (own (seg 0 0 4 2 (uses 0 0 1 ∷ [])) ∷ []) ∷ []) [])
-    -- J
-    ∷ (single bookA [], accept [] [])
-    ∷ []
-
-cases-hold : map (λ c. answer (c .0) vregsRoom) cases ≡ map (λ c. c .1) cases
-unfolding answer cases
-cases-hold = refl
-
--- ---- F and G: cuts. Frequencies 3, 2, 2; and a cheaper block at `before`
-
-record Cut : Type 0 where
-  blocks : List BlockData
-  after : Inst
-  before : Inst
-  side : Side
-
 blocksF : List BlockData
 unfolding block
 blocksF = block 4 0x40400000 ∷ block 4 0x40000000 ∷ block 4 0x40000000 ∷ []
@@ -181,29 +147,58 @@ blocksG : List BlockData
 unfolding block
 blocksG = block 4 0x40400000 ∷ block 4 0x40000000 ∷ block 4 0x3f800000 ∷ []
 
-cuts : List (Cut × Out Inst)
-unfolding blocksF blocksG
-cuts =
-    (record { blocks = blocksF; after = inst 1; before = inst 10; side = Early }, done (inst 4))
-    ∷ (record { blocks = blocksF; after = inst 1; before = inst 10; side = Late }, done (inst 10))
-    ∷ (record { blocks = blocksG; after = inst 1; before = inst 8; side = Early }, done (inst 8))
-    ∷ (record { blocks = blocksG; after = inst 8; before = inst 8; side = Early }, refused BadFunction)
-    ∷ (record { blocks = blocksG; after = inst 8; before = inst 12; side = Early }, refused BadFunction)
+-- what a marked case asks: the answer to a job, a cut, or the instructions that segments touch
+data Question : Type 0 where
+  answer-to : Job → Question
+  cut-in : List BlockData → (after before : ℕ) → Side → Question
+  insts-of : List Segment → Question
+
+data Reply : Type 0 where
+  answered : Out Result → Reply
+  cut-at : Out Inst → Reply
+  counted : ℕ → Reply
+
+reply : Question → Reply
+unfolding answer findCut liveInsts
+reply (answer-to j) = answered (answer j vregsRoom)
+reply (cut-in bs after before side) = cut-at (findCut bs (inst after) (inst before) side)
+reply (insts-of ss) = counted (liveInsts ss)
+
+marked : List (Question × Reply)
+unfolding caseA caseE single bookA blocksF blocksG class seg uses defines mark plain own added accept stop
+marked =
+    -- A
+    (answer-to caseA, answered (accept (plain 1 0x3f000000 (own (seg 0 2 8 2 (defines 0 1 ∷ [])) ∷ []) ∷ plain 2 0x3e800000 (own (seg 0 8 14 1 (uses 3 0 2 ∷ [])) ∷ []) ∷ []) []))
+    -- B, C: the class shares nothing with the top
+    ∷ (answer-to (single (class 3 ∷ class 2 ∷ class 4 ∷ []) (seg 0 0 6 0 (uses 1 0 2 ∷ []) ∷ [])), answered (stop NoneAdmitted))
+    ∷ (answer-to (single (class 3 ∷ class 2 ∷ class 4 ∷ []) (seg 0 2 6 0 (defines 0 2 ∷ []) ∷ [])), answered (stop TurnedDef))
+    -- D: forward the first use leaves class 1, which shares nothing with class 4; backward class 2 serves both, so there is no start
+    ∷ (answer-to (single (class 0x1f ∷ class 2 ∷ class 4 ∷ class 0xe ∷ class 0x14 ∷ []) (seg 0 0 14 0 (uses 1 0 3 ∷ uses 3 0 4 ∷ []) ∷ [])), answered (stop NoStart))
+    -- E: two uses of one instruction
+    ∷ (
+      answer-to caseE,
+      answered (accept (plain 1 0x3f400000 (own (seg 0 0 6 1 (uses 1 0 1 ∷ mark 1 ∷ [])) ∷ []) ∷ plain 2 0x7f800000 (added (seg 0 4 6 1 (uses 1 1 2 ∷ [])) ∷ []) ∷ []) []),
+    )
+    -- F: frequencies 3, 2, 2; early and late
+    ∷ (cut-in blocksF 1 10 Early, cut-at (done (inst 4)))
+    ∷ (cut-in blocksF 1 10 Late, cut-at (done (inst 10)))
+    -- G: a cheaper block at `before`; and ends that are refused
+    ∷ (cut-in blocksG 1 8 Early, cut-at (done (inst 8)))
+    ∷ (cut-in blocksG 8 8 Early, cut-at (refused BadFunction))
+    ∷ (cut-in blocksG 8 12 Early, cut-at (refused BadFunction))
+    -- H: [2,4),[4,6) and [0,1),[1,2)
+    ∷ (insts-of (seg 0 2 4 0 [] ∷ seg 0 4 6 0 [] ∷ []), counted 2)
+    ∷ (insts-of (seg 0 0 1 0 [] ∷ seg 0 1 2 0 [] ∷ []), counted 1)
+    -- I: [0,8) and [0,4)
+    ∷ (answer-to (single bookA (seg 0 0 8 2 (uses 0 0 1 ∷ []) ∷ [])), answered (accept (plain 1 0x3f000000 (own (seg 0 0 8 2 (uses 0 0 1 ∷ [])) ∷ []) ∷ []) []))
+    ∷ (answer-to (single bookA (seg 0 0 4 2 (uses 0 0 1 ∷ []) ∷ [])), answered (accept (plain 1 0x7f800000 (own (seg 0 0 4 2 (uses 0 0 1 ∷ [])) ∷ []) ∷ []) []))
+    -- J: no segments
+    ∷ (answer-to (single bookA []), answered (accept [] []))
     ∷ []
 
-cuts-hold : map (λ c. findCut (c .0 .blocks) (c .0 .after) (c .0 .before) (c .0 .side)) cuts ≡ map (λ c. c .1) cuts
-unfolding findCut cuts
-cuts-hold = refl
-
--- ---- H: the two counts
-
-counts : List (List Segment × ℕ)
-unfolding seg
-counts = (seg 0 2 4 0 [] ∷ seg 0 4 6 0 [] ∷ [], 2) ∷ (seg 0 0 1 0 [] ∷ seg 0 1 2 0 [] ∷ [], 1) ∷ []
-
-counts-hold : map (λ c. liveInsts (c .0)) counts ≡ map (λ c. c .1) counts
-unfolding liveInsts counts
-counts-hold = refl
+marked-hold : map (λ c. reply (c .0)) marked ≡ map (λ c. c .1) marked
+unfolding reply marked
+marked-hold = refl
 
 -- ---- traps that A to J do not show
 

@@ -10,16 +10,10 @@ use Rattle.definition.specs.Types.{Value, UseKind, Use, Segment}
 use Rattle.definition.specs.Uses.{isClassUse}
 use Rattle.definition.specs.Place.{total}
 use Rattle.definition.specs.Build.{one, turnedUse}
-use Rattle.definition.specs.Promised.{Listed, StandsFor, had, isMark, sameUse, under, valued}
+use Rattle.definition.specs.Promised.{Listed, StandsFor, had, isMark, markedFor, sameUse, under, valued}
 use Rattle.definition.proofs.Places.{total-append}
 use Rattle.definition.proofs.ReadBack.{Test}
 use Rattle.definition.proofs.Same.{class-test, mark-is, same-use}
-
--- how many places have the use w of value v in the first list and a mark in the second
-abbrev pub markedFor : Value → Use → List (Value × Use) → List (Value × Use) → ℕ
-markedFor v w [] ys = 0
-markedFor v w (x ∷ xs) [] = 0
-markedFor v w (x ∷ xs) (y ∷ ys) = one (eqb (x .0 .0) (v .0) && sameUse w (x .1) && isMark (y .1 .kind)) + markedFor v w xs ys
 
 module _ (v : Value) (w : Use) where
   abbrev isIt : Value × Use → ℕ

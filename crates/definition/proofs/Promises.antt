@@ -14,7 +14,7 @@ use Rattle.definition.specs.Place.{total}
 use Rattle.definition.specs.Build.{Result, build, one, runs, sameSet}
 use Rattle.definition.specs.Entry.{answer, entry, entryTests, every, usesOk}
 use Rattle.definition.specs.Lines.{Line, printed}
-use Rattle.definition.specs.Promised.{Follows, In, Listed, Transitive, addedIn, byFirst, classUsesAt, covered, had, held, inputOf, isMark, marksAt, ofSet, ownIn, ownOf, sameUse, valued}
+use Rattle.definition.specs.Promised.{Follows, In, Listed, Transitive, addedIn, byFirst, classUsesAt, covered, had, held, inputOf, isMark, marksAt, ofSet, ownIn, ownOf, sameUse, valued, markedFor}
 use Rattle.definition.proofs.Places.{All}
 use Rattle.definition.proofs.Points.{Additive, points-additive, ofOwn, ownUses, built-same}
 use Rattle.definition.proofs.Entries.{lowest-none}
@@ -24,7 +24,7 @@ use Rattle.definition.proofs.Order.{ledBy, InOrder, built-in-order, of-
 use Rattle.definition.proofs.Same.{class-test, other-test, first-total, first-is}
 use Rattle.definition.proofs.Printed.{readPoint, readUse, usesIn, points-read, uses-read}
 use Rattle.definition.proofs.Sets.{InSet, built-in-set, runs-in}
-use Rattle.definition.proofs.Marks.{markedFor, valued-had, listed-marked}
+use Rattle.definition.proofs.Marks.{valued-had, listed-marked}
 use Rattle.definition.proofs.Owned.{both-counted, led-counted, led-additive, covered-additive, covered-once, held-covered, counted-same, of-led, own-led, accepted-rise, no-mark-had, marks-turned}
 
 -- ---- what an accepted job is known to be

@@ -12,7 +12,8 @@ use Rattle.definition.specs.Uses.{isClassUse}
 use Rattle.definition.specs.Place.{total}
 use Rattle.definition.specs.Build.{one, turnedUse}
 use Rattle.definition.specs.Lines.{numbersOf, useNumbers}
-use Rattle.definition.specs.Promised.{Follows, byFirst, isMark, putIn, same, sameUse}
+use Rattle.definition.specs.Promised.{Follows, byFirst, isMark, putIn, sameUse}
+use Rattle.definition.specs.Text.{same}
 use Rattle.definition.proofs.Entries.{and-both}
 use Rattle.definition.proofs.Points.{Steady}
 use Rattle.definition.proofs.ReadBack.{Test}

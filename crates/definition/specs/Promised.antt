@@ -1,4 +1,4 @@
--- The words of the promises on accepted jobs: a value's points and uses, a set's ranges and own pieces, their order, the lines of a result, classes.
+-- The words of the promises on accepted jobs: a value's points and uses, a set's ranges and own pieces, their order, classes.
 -- Assumes nothing.
 use mathlib.Core.Path.{_≡_}
 use mathlib.Core.Logic.{_⊎_}
@@ -13,9 +13,10 @@ use Rattle.definition.specs.RegInfo.{classAt, setOf}
 use Rattle.definition.specs.Uses.{isClassUse}
 use Rattle.definition.specs.Place.{total}
 use Rattle.definition.specs.Lines.{useNumbers}
+use Rattle.definition.specs.Text.{same}
 use Rattle.definition.specs.Build.{one, turnedUse}
 
--- ---- points: those of the seg records, `to` excluded
+-- ---- "A value's points are those of its seg records, `to` excluded"
 
 -- how many of the segments are of value v and hold the point x
 abbrev pub holds : Value → ℕ → Segment → Bool
@@ -33,13 +34,7 @@ unfoldable pub covered : ℕ → List Segment → ℕ
 unfolding total
 covered x ss = total (λ s. one (covers x s)) ss
 
--- ---- uses: the use lines under the seg records, the same if kind and all fields are
-
-abbrev pub same : List ℕ → List ℕ → Bool
-same [] [] = true
-same [] (y ∷ ys) = false
-same (x ∷ xs) [] = false
-same (x ∷ xs) (y ∷ ys) = eqb x y && same xs ys
+-- ---- "its uses, the use lines under them, the same if kind and all fields are"
 
 unfoldable pub sameUse : Use → Use → Bool
 sameUse w u = same (useNumbers w) (useNumbers u)
@@ -70,7 +65,7 @@ unfoldable pub marksAt : Value → Inst → List Segment → ℕ
 unfolding total
 marksAt v p ss = total (λ s. cond (eqb (s .value .0) (v .0)) (total (λ u. one (isMark (u .kind) && eqb (u .pos .0) (p .0))) (s .uses)) 0) ss
 
--- ---- a set is the values of one leader
+-- ---- "A set is the values of one leader."
 
 unfoldable pub ofSet : Job → ValueSet → List Segment → List Segment
 ofSet job s [] = []
@@ -142,6 +137,12 @@ Listed [] (y ∷ ys) = ⊥
 Listed (x ∷ xs) [] = ⊥
 Listed (x ∷ xs) (y ∷ ys) = StandsFor x y × Listed xs ys
 
+-- how many places have the use w of value v in the first list and a mark in the second
+abbrev pub markedFor : Value → Use → List (Value × Use) → List (Value × Use) → ℕ
+markedFor v w [] ys = 0
+markedFor v w (x ∷ xs) [] = 0
+markedFor v w (x ∷ xs) (y ∷ ys) = one (eqb (x .0 .0) (v .0) && sameUse w (x .1) && isMark (y .1 .kind)) + markedFor v w xs ys
+
 -- ---- classes
 
 -- bit k of m
@@ -149,10 +150,10 @@ abbrev pub bitAt : ℕ → ℕ → ℕ
 bitAt zero m = m % 2
 bitAt (suc k) m = bitAt k (m / 2)
 
--- class k is a member of class c's mask: c admits k
+-- "A class *admits* the members of its mask" (a term that document 01 coins): c admits k
 abbrev pub In : Job → RegClass → RegClass → Type 0
 In job k c = bitAt (k .0) (classAt job c .mask) ≡ 1
 
--- every class's mask contains its members' masks
+-- "subclassing is *transitive* if every class's mask contains its members' masks" (a term that document 01 coins)
 abbrev pub Transitive : Job → Type 0
 Transitive job = (c k j : RegClass) → In job k c → In job j k → In job j c

@@ -13,7 +13,7 @@ abbrev pub bytes : String → List ℕ
 bytes none′ = []
 bytes (c then s) = code c ∷ bytes s
 
--- the same bytes
+-- the same numbers, place by place
 abbrev pub same : List ℕ → List ℕ → Bool
 same [] [] = true
 same [] (c ∷ cs) = false

@@ -1,13 +1,12 @@
 -- A block row read, and one turn of each loop over block rows. Assumes nothing.
-use Prim.Native.Nat.{ℕ, zero, suc, _+_, _-_, _*_, _≤_, _<_}
+use Prim.Native.Nat.{ℕ, _+_, _-_, _*_, _≤_, _<_}
 use native.Mathlib.Omega.{arith}
 use native.Mathlib.Nat.{sub-zero}
 use native.Mathlib.Numerals.{add-one}
 use mathlib.Core.Path.{_≡_, refl, sym, ap, _∙_}
-use mathlib.Core.Bool.{Bool, true, false, _&&_}
-use mathlib.Core.List.{List, [], _∷_}
-use lib.Dec.{leb}
-use lib.ListN.{length, getD}
+use mathlib.Core.Bool.{Bool, true, false}
+use mathlib.Core.List.{List}
+use lib.ListN.{getD}
 use lib.Ieee.{binary32, ofBits}
 use borrow.Author.Tests.{le-leb, lt-leb}
 use Rattle.definition.specs.declared.BlockData.{BlockData}

@@ -2,7 +2,7 @@
 use definition::Block;
 use definition::BlockData;
 ghost use mathlib.Core.Path.{_≡_};
-ghost use Prim.Native.Nat.{ℕ, _+_, _*_, _≤_, _<_};
+ghost use Prim.Native.Nat.{_+_, _*_, _≤_, _<_};
 ghost use lib.ListN.{getD};
 ghost use Rattle.definition.specs.Entry.{instsOf, blockOk, every};
 ghost use Rattle.words.specs.Words.{wordCount, wordsOf};

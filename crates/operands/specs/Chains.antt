@@ -16,7 +16,7 @@ abbrev pub pickN : Bool → ℕ → ℕ → ℕ
 pickN true x y = x
 pickN false x y = y
 
--- of the first n operands, the last one at instruction i
+-- of the first n operands, the last one at instruction i: its number plus 1, or 0 where there is none
 unfoldable pub lastBefore : List Operand → ℕ → ℕ → ℕ
 lastBefore os zero i = 0
 lastBefore os (suc k) i = pickN (eqb (opAt os k .inst .0) i) (suc k) (lastBefore os k i)

@@ -1,44 +1,34 @@
 -- The place that the code answers is the definition's: `early-next`, `early-start`, `late-before`, `late-end`. Assumes nothing.
-use Prim.Native.Nat.{ℕ, zero, suc, _+_, _-_, _*_, _≤_, _<_}
+use Prim.Native.Nat.{ℕ, suc, _+_, _-_, _*_, _≤_, _<_}
 use native.Mathlib.Omega.{arith}
 use native.Mathlib.Numerals.{add-one}
 use mathlib.Core.Path.{_≡_, refl, sym, ap, _∙_, subst}
 use mathlib.Core.Logic.{_⊎_, inl, inr}
-use mathlib.Core.Bool.{Bool, true, false, _&&_, cond}
-use mathlib.Core.List.{List, [], _∷_}
-use lib.Dec.{T, leb, ltb}
+use mathlib.Core.Bool.{Bool, true, false}
+use mathlib.Core.List.{List}
+use lib.Dec.{ltb}
 use lib.ListN.{length, getD}
 use lib.Ieee.{Float, lt, binary32, ofBits}
 use lib.Ieee.Bits.{is-true}
-use borrow.Author.Tests.{lt-ltb, le-ltb, ltb-true, ltb-false, le-leb}
+use borrow.Author.Tests.{lt-ltb, le-ltb, ltb-true, ltb-false}
 use Rattle.definition.specs.declared.BlockData.{BlockData}
 use Rattle.definition.specs.Entry.{plain, every, blockOk, instsOf}
 use Rattle.definition.specs.SplitPlacement.{freqAt, earlyCut, lateCut}
 use Rattle.floats.proofs.Bits.{lt-bits, bits-plain}
 use Rattle.function.specs.Blocks.{startOf, blockOf, blockAt, Starts}
-use Rattle.function.specs.BlockLaws.{start-next, start-mono, start-last, block-frequency, Holding, block-holds}
-use Rattle.split_placement.specs.Places.{IsStart, IsEnd, EarlyPlace, next, start, LatePlace, last, end, EarliestLeast, LatestLeast, bitsOf, firstLeast, lastLeast}
+use Rattle.function.specs.BlockLaws.{start-next, start-mono, block-passes, all-pass, starts-frequency, Holding, block-holds}
+use Rattle.split_placement.specs.Places.{EarlyPlace, next, start, LatePlace, last, end, bitsOf, firstLeast, lastLeast}
 use Rattle.split_placement.proofs.Walks.{FirstOf, LastOf, first-of, last-of}
 use Rattle.split_placement.proofs.Rules.{early-rule, late-rule, one-earliest, one-latest}
 
 -- ---- the blocks of a table of starts
 
-every-of : (bs : List BlockData) → ((j : ℕ) → j < length bs → blockOk (blockAt bs j) ≡ true) → every blockOk bs ≡ true
-unfolding every blockAt
-every-of [] f = refl
-every-of (b ∷ bs) f = both (blockOk b) (every blockOk bs) (f 0 (omega arith)) (every-of bs (λ j h. f (suc j) (omega arith)))
-  where
-    both : (p q : Bool) → p ≡ true → q ≡ true → p && q ≡ true
-    both true q e g = g
-    both false q e g = e
-
-block-ok : (b : BlockData) (w : ℕ) → 1 ≤ b .insts → ofBits binary32 w ≡ b .frequency → w < 2139095040 → blockOk b ≡ true
-unfolding blockOk
-block-ok b w h e l = rw (le-leb 1 (b .insts) h) (ap plain (sym e) ∙ is-true (plain (ofBits binary32 w)) (bits-plain w l))
+row-passes : (b : BlockData) (w : ℕ) → 1 ≤ b .insts → ofBits binary32 w ≡ b .frequency → w < 2139095040 → blockOk b ≡ true
+row-passes b w h e l = block-passes b h (ap plain (sym e) ∙ is-true (plain (ofBits binary32 w)) (bits-plain w l))
 
 module _ (W : List ℕ) (at : ℕ) (bs : List BlockData) (s : Starts W at bs) where
   blocks-ok : every blockOk bs ≡ true
-  blocks-ok = every-of bs (λ j h. block-ok (blockAt bs j) (bitsOf W at j) (s .filled j h) (s .bits j h) (s .finite j h))
+  blocks-ok = all-pass bs (λ j h. row-passes (blockAt bs j) (bitsOf W at j) (s .filled j h) (s .bits j h) (s .finite j h))
 
   start-below : (k : ℕ) → k < length bs → startOf bs k < startOf bs (suc k)
   start-below k h = omega (arith, start-next bs k h, s .filled k h)
@@ -52,7 +42,7 @@ module _ (W : List ℕ) (at : ℕ) (bs : List BlockData) (s : Starts W at bs) wh
       go false e = absurd (omega (arith, l, start-mono bs k j (ltb-false j k e) h))
 
   price-of : (k i : ℕ) → k < length bs → startOf bs k ≤ i → i < startOf bs (suc k) → freqAt bs i ≡ ofBits binary32 (bitsOf W at k)
-  price-of k i h l u = block-frequency bs k i h l u ∙ sym (s .bits k h)
+  price-of k i h l u = starts-frequency s (record { there = h; low = l; high = u })
 
   -- prices compare as bits
   compare-prices : (x y : Float) (j k : ℕ) (t : Bool) → j < length bs → k < length bs → x ≡ ofBits binary32 (bitsOf W at j) → y ≡ ofBits binary32 (bitsOf W at k)

@@ -1,17 +1,14 @@
 -- The order of floats that are finite and not negative. Assumes nothing.
-use Prim.Native.Nat.{ℕ, _*_, _≤_, _<_}
+use Prim.Native.Nat.{_*_, _≤_}
 use native.Mathlib.Nat.{le-refl, le-of-lt}
-use native.Mathlib.Omega.{arith}
-use mathlib.Core.Path.{_≡_, refl, sym, ap, _∙_}
+use mathlib.Core.Path.{_≡_, refl, sym, _∙_}
 use mathlib.Core.Bool.{Bool, true, false}
-use lib.Dec.{T, ltb}
+use lib.Dec.{ltb}
 use lib.Ieee.{Float, nan, inf, fin, lt}
 use lib.Ieee.Positive.{num, den, den-pos, through}
-use borrow.Author.Tests.{ltb-true, ltb-false, lt-ltb, le-ltb}
+use borrow.Author.Tests.{ltb-true, ltb-false, le-ltb}
 use Rattle.definition.specs.Entry.{plain}
-
-clash : {A : Type 0} → true ≡ false → A
-clash e = absurd (let z : _≡_ {A = ℕ} 0 1 = cc in omega arith)
+use Rattle.function.specs.Bools.{clash}
 
 no-clash : {A : Type 0} → false ≡ true → A
 no-clash e = clash (sym e)

@@ -1,20 +1,21 @@
 -- The definition's cuts are document 01's: `early-rule` and `late-rule`. And there is one such place: `one-earliest`, `one-latest`. Assumes nothing.
 use Prim.Native.Nat.{ℕ, zero, suc, _+_, _-_, _≤_, _<_}
 use native.Mathlib.Omega.{arith}
-use mathlib.Core.Path.{_≡_, refl, sym, ap, _∙_, subst}
+use mathlib.Core.Path.{_≡_, refl, ap, _∙_}
 use mathlib.Core.Logic.{_⊎_, inl, inr}
 use mathlib.Core.Bool.{Bool, true, false, _&&_, cond}
 use mathlib.Core.List.{List, [], _∷_, _++_}
 use lib.Dec.{leb, ltb}
 use lib.ListN.{length}
-use lib.Ieee.{Float, lt}
-use borrow.Author.Tests.{ltb-true, ltb-false, leb-true, lt-ltb, le-ltb, le-leb}
+use lib.Ieee.{Float}
+use borrow.Author.Tests.{ltb-true, ltb-false, leb-true, lt-ltb, le-leb}
 use Rattle.definition.specs.declared.BlockData.{BlockData}
-use Rattle.definition.specs.RegInfo.{zeroF}
 use Rattle.definition.specs.Entry.{plain, every, blockOk}
-use Rattle.definition.specs.SplitPlacement.{freqAt, starts, ends, keep, earliest, latest, lateFrom, earlyCut, lateCut}
+use Rattle.definition.specs.SplitPlacement.{freqAt, starts, ends, keep, earliest, latest, earlyCut, lateCut}
+use Rattle.function.specs.Bools.{and-l, and-r, both}
 use Rattle.function.specs.Blocks.{startOf}
-use Rattle.split_placement.specs.Places.{IsStart, IsEnd, EarlyPlace, next, start, LatePlace, last, end, EarliestLeast, LatestLeast}
+use Rattle.function.specs.BlockLaws.{block-plain}
+use Rattle.split_placement.specs.Places.{EarlyPlace, next, start, LatePlace, last, end, EarliestLeast, LatestLeast}
 use Rattle.split_placement.proofs.Folds.{In, Rising, earliest-least, late-from}
 
 -- ---- one place is wanted
@@ -49,18 +50,6 @@ same-latest : (P Q : ℕ → Type 0) (price : ℕ → Float) (c : ℕ) → ((p :
 same-latest P Q price c f g e = record { place = f c (e .place); least = λ p q. e .least p (g p q); latest = λ p q. e .latest p (g p q) }
 
 -- ---- every frequency is finite and not negative
-
-and-l : (p q : Bool) → p && q ≡ true → p ≡ true
-and-l true q e = refl
-and-l false q e = e
-
-and-r : (p q : Bool) → p && q ≡ true → q ≡ true
-and-r true q e = e
-and-r false q e = absurd (let z : _≡_ {A = ℕ} 0 1 = cc in omega arith)
-
-block-plain : (b : BlockData) → blockOk b ≡ true → plain (b .frequency) ≡ true
-unfolding blockOk
-block-plain b e = and-r (leb 1 (b .insts)) (plain (b .frequency)) e
 
 pub frequency-plain : (bs : List BlockData) → every blockOk bs ≡ true → (i : ℕ) → plain (freqAt bs i) ≡ true
 unfolding every freqAt
@@ -155,24 +144,25 @@ unfolding ends
 ends-rise i [] = tt
 ends-rise i (b ∷ bs) = ((λ x m. omega (arith, in-ends (i + b .insts) bs x m .is)), ends-rise (i + b .insts) bs)
 
--- ---- early
+-- ---- the places that the definition keeps
 
-and-i : (p q : Bool) → p ≡ true → q ≡ true → p && q ≡ true
-and-i true q e f = f
-and-i false q e f = e
+abbrev early-open : ℕ → ℕ → ℕ → Bool
+early-open after before i = ltb (suc after) i && leb i before
+
+abbrev late-open : ℕ → ℕ → ℕ → Bool
+late-open after before i = ltb after i && leb i before
 
 module _ (bs : List BlockData) (after before : ℕ) where
-  open-early : ℕ → Bool
-  open-early i = ltb (suc after) i && leb i before
+  -- ---- early
 
   early-list : List ℕ
-  early-list = keep (λ i. ltb (suc after) i && leb i before) (starts 0 bs)
+  early-list = keep (early-open after before) (starts 0 bs)
 
   to-early : (p : ℕ) → In p (suc after ∷ early-list) → EarlyPlace bs after before p
   unfolding early-list
   to-early p (inl e) = next e
   to-early p (inr m) =
-      let k = kept (λ i. ltb (suc after) i && leb i before) (starts 0 bs) p m in
+      let k = kept (early-open after before) (starts 0 bs) p m in
       let b = in-starts 0 bs p (k .0) in
       start (record { block = b .block; there = b .there; is = omega (arith, b .is) })
       (ltb-true (suc after) p (and-l (ltb (suc after) p) (leb p before) (k .1)))
@@ -182,16 +172,16 @@ module _ (bs : List BlockData) (after before : ℕ) where
   unfolding early-list
   from-early p (next e) = inl e
   from-early p (start s h l) =
-      inr (keeps (λ i. ltb (suc after) i && leb i before) (starts 0 bs) p (starts-in 0 bs p (s .block) (s .there) (omega (arith, s .is)))
-      (and-i (ltb (suc after) p) (leb p before) (lt-ltb (suc after) p h) (le-leb p before l)))
+      inr (keeps (early-open after before) (starts 0 bs) p (starts-in 0 bs p (s .block) (s .there) (omega (arith, s .is)))
+      (both (ltb (suc after) p) (leb p before) (lt-ltb (suc after) p h) (le-leb p before l)))
 
   early-rises : Rising (suc after ∷ early-list)
   unfolding early-list
-  early-rises = (above, keep-rises (λ i. ltb (suc after) i && leb i before) (starts 0 bs) (starts-rise 0 bs))
+  early-rises = (above, keep-rises (early-open after before) (starts 0 bs) (starts-rise 0 bs))
     where
-      above : (x : ℕ) → In x (keep (λ i. ltb (suc after) i && leb i before) (starts 0 bs)) → suc after ≤ x
+      above : (x : ℕ) → In x (keep (early-open after before) (starts 0 bs)) → suc after ≤ x
       above x m =
-          let h : suc after < x = ltb-true (suc after) x (and-l (ltb (suc after) x) (leb x before) (kept (λ i. ltb (suc after) i && leb i before) (starts 0 bs) x m .1)) in
+          let h : suc after < x = ltb-true (suc after) x (and-l (ltb (suc after) x) (leb x before) (kept (early-open after before) (starts 0 bs) x m .1)) in
           omega arith
 
   -- "Early: among `after`+1 and the block starts above it up to `before`, the earliest whose block frequency is least."
@@ -204,7 +194,7 @@ module _ (bs : List BlockData) (after before : ℕ) where
   -- ---- late
 
   late-list : List ℕ
-  late-list = keep (λ i. ltb after i && leb i before) (ends 0 bs)
+  late-list = keep (late-open after before) (ends 0 bs)
 
   in-last : (xs : List ℕ) (b p : ℕ) → In p (xs ++ (b ∷ [])) → In p xs ⊎ (p ≡ b)
   in-last [] b p (inl e) = inr e
@@ -235,7 +225,7 @@ module _ (bs : List BlockData) (after before : ℕ) where
 
   late-kept : (p : ℕ) → In p late-list → In p (ends 0 bs) × (ltb after p && leb p before ≡ true)
   unfolding late-list
-  late-kept p m = kept (λ i. ltb after i && leb i before) (ends 0 bs) p m
+  late-kept p m = kept (late-open after before) (ends 0 bs) p m
 
   late-upto : (p : ℕ) → In p late-list → p ≤ before
   late-upto p m = leb-true p before (and-r (ltb after p) (leb p before) (late-kept p m .1))
@@ -254,12 +244,12 @@ module _ (bs : List BlockData) (after before : ℕ) where
   from-late p (last e) = last-in late-list before p e
   from-late p (end s h l) =
       ahead-in late-list before p
-      (keeps (λ i. ltb after i && leb i before) (ends 0 bs) p (ends-in 0 bs p (s .block) (s .there) (omega (arith, s .is)))
-      (and-i (ltb after p) (leb p before) (lt-ltb after p h) (le-leb p before l)))
+      (keeps (late-open after before) (ends 0 bs) p (ends-in 0 bs p (s .block) (s .there) (omega (arith, s .is)))
+      (both (ltb after p) (leb p before) (lt-ltb after p h) (le-leb p before l)))
 
   late-rises : Rising (late-list ++ (before ∷ []))
   unfolding late-list
-  late-rises = rises-to late-list before (keep-rises (λ i. ltb after i && leb i before) (ends 0 bs) (ends-rise 0 bs)) late-upto
+  late-rises = rises-to late-list before (keep-rises (late-open after before) (ends 0 bs) (ends-rise 0 bs)) late-upto
 
   -- "Late: among `before` and the block ends from `after`+1 to it, the latest whose preceding instruction's block frequency is least."
   pub late-rule : every blockOk bs ≡ true → LatestLeast (LatePlace bs after before) (λ p. freqAt bs (p - 1)) (lateCut bs after before)

@@ -1,8 +1,8 @@
 -- Document 01's rules for a cut in its own words: the open places, and the earliest or latest of them whose block frequency is least.
 -- `proofs/Rules.antt` proves that the definition's `earlyCut` and `lateCut` are these places. Assumes nothing.
-use Prim.Native.Nat.{ℕ, zero, suc, _+_, _-_, _*_, _≤_, _<_}
+use Prim.Native.Nat.{ℕ, zero, suc, _+_, _*_, _≤_, _<_}
 use mathlib.Core.Path.{_≡_}
-use mathlib.Core.Bool.{Bool, true, false, cond}
+use mathlib.Core.Bool.{true, false, cond}
 use mathlib.Core.List.{List}
 use lib.Dec.{ltb}
 use lib.ListN.{length, getD}

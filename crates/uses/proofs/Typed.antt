@@ -2,16 +2,18 @@
 use mathlib.Core.Path.{_≡_, refl, sym, ap, ap₂, _∙_}
 use mathlib.Core.Bool.{Bool, true, false, _&&_}
 use mathlib.Core.List.{List}
-use Prim.Native.Nat.{ℕ, _+_, _%_, _<_}
+use Prim.Native.Nat.{ℕ, _+_, _%_, _≤_, _<_}
 use native.Mathlib.Nat.{mod-eq-of-lt}
 use native.Mathlib.Omega.{arith}
 use lib.Dec.{eqb, ltb}
 use lib.ListN.{getD}
+use borrow.Author.Tests.{le-ltb, lt-ltb}
 use Rattle.definition.specs.declared.UseKind.{UseKind}
 use Rattle.definition.specs.declared.UseKind.the-variants.{FixedDef, FixedUse, TiedUse, ConstraintConflict, ClassUse, ClassDef, GroupClassUse, GroupClassDef, BlockparamIn, BlockparamOut}
 use Rattle.definition.specs.declared.Use.{Use}
 use Rattle.definition.specs.Types.{inst, cls}
-use Rattle.uses.specs.Rows.{pickK, pickB, reg, rawKind, kindOf, fit, typedKind, useRow, rawRow, typedRow}
+use Rattle.uses.specs.declared.Decoded.the-variants.{One, Bad}
+use Rattle.uses.specs.Rows.{pickK, pickB, reg, rawKind, kindOf, fit, typedKind, useRow, rawRow, typedRow, decodedRow}
 
 both : (p q : Bool) → p && q ≡ true → (p ≡ true) × (q ≡ true)
 both true q e = (refl, e)
@@ -55,3 +57,24 @@ typed-kind k a b c d = go (eqb k 0) (eqb k 1) (eqb k 2) (eqb k 4) (eqb k 5) (eqb
 pub typed-row : (W : List ℕ) (i : ℕ) → typedRow W i ≡ true → useRow W i ≡ rawRow W i
 unfolding typedRow useRow rawRow
 typed-row W i e = ap (λ (k : UseKind). record { pos = inst (getD W (i + 1) 0); kind = k }) (typed-kind _ _ _ _ _ e)
+
+-- ---- a row decoded
+
+module _ (W : List ℕ) (i : ℕ) where
+  pub decoded-kind : (k : ℕ) → k ≡ getD W i 0 → 10 ≤ k → Bad ≡ decodedRow W i
+  unfolding decodedRow
+  decoded-kind k e h = let l : 10 ≤ getD W i 0 = omega (arith, e) in rw (le-ltb _ _ l)
+
+  module _ (k : ℕ) (e : k ≡ getD W i 0) (h : k < 10) (t : Bool) (f : t ≡ typedRow W i) where
+    pub decoded-field : t ≡ false → Bad ≡ decodedRow W i
+    unfolding decodedRow
+    decoded-field n = let l : getD W i 0 < 10 = omega (arith, e) in rw (lt-ltb _ _ l, sym f ∙ n)
+
+    pub decoded-one : (u : Use) → t ≡ true → u ≡ useRow W i → One u ≡ decodedRow W i
+    unfolding decodedRow
+    decoded-one u y q = let l : getD W i 0 < 10 = omega (arith, e) in rw (lt-ltb _ _ l, sym f ∙ y) (ap One (q ∙ typed-row W i (sym f ∙ y)))
+
+  -- the test on the words that were read
+  pub typed-words : (k a b c d : ℕ) → k ≡ getD W i 0 → a ≡ getD W (i + 2) 0 → b ≡ getD W (i + 3) 0 → c ≡ getD W (i + 4) 0 → d ≡ getD W (i + 5) 0 → typedKind k a b c d ≡ typedRow W i
+  unfolding typedRow
+  typed-words k a b c d ek ea eb ec ed = rw (ek, ea, eb, ec, ed)

@@ -11,6 +11,8 @@ use Rattle.definition.specs.declared.Use.{Use}
 use Rattle.definition.specs.declared.UseKind.{UseKind}
 use Rattle.definition.specs.declared.UseKind.the-variants.{FixedDef, FixedUse, TiedUse, ConstraintConflict, ClassUse, ClassDef, GroupClassUse, GroupClassDef, BlockparamIn, BlockparamOut}
 use Rattle.definition.specs.Types.{inst, cls}
+use Rattle.uses.specs.declared.Decoded.{Decoded}
+use Rattle.uses.specs.declared.Decoded.the-variants.{One, Bad}
 
 abbrev pub pickK : Bool → UseKind → UseKind → UseKind
 pickK true x y = x
@@ -70,6 +72,14 @@ rawRow W i = record { pos = inst (getD W (i + 1) 0); kind = rawKind (getD W i 0)
 
 unfoldable pub typedRow : List ℕ → ℕ → Bool
 typedRow W i = typedKind (getD W i 0) (getD W (i + 2) 0) (getD W (i + 3) 0) (getD W (i + 4) 0) (getD W (i + 5) 0)
+
+abbrev pub pickD : Bool → Decoded → Decoded → Decoded
+pickD true x y = x
+pickD false x y = y
+
+-- a use as it stands, if its kind is one and its fields fit their types
+unfoldable pub decodedRow : List ℕ → ℕ → Decoded
+decodedRow W i = pickD (ltb (getD W i 0) 10) (pickD (typedRow W i) (One (rawRow W i)) Bad) Bad
 
 -- n uses from word `at` on
 unfoldable pub usesAt : List ℕ → ℕ → ℕ → List Use

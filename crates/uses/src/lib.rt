@@ -12,7 +12,7 @@ ghost use lib.ListN.{length};
 ghost use Rattle.words.specs.Words.{wordCount, wordsOf};
 ghost use Rattle.definition.specs.Uses.{isDef, isClassUse, endSlot, endPoint};
 ghost use Rattle.definition.specs.Cuts.{usesBefore};
-ghost use Rattle.uses.specs.Rows.{kindOf, useRow, usesAt, typedKind, fit};
+ghost use Rattle.uses.specs.Rows.{kindOf, useRow, usesAt, typedKind, fit, decodedRow};
 
 // The kind from its number and its four fields. Fields are taken modulo their UseKind types; a number above 9 is no kind and gives a conflict.
 pub fn kind_of(kind: u32, a: u32, b: u32, c: u32, d: u32) -> UseKind
@@ -94,6 +94,34 @@ pub fn fields_fit(kind: u32, a: u32, b: u32, c: u32, d: u32) -> bool
         7 => within(a, 0, c),
         _ => true,
     }
+}
+
+// What stands at a row of a use table.
+pub enum Decoded {
+    One(Use),
+    Bad,
+}
+
+// The use whose row begins at word i; Bad where its kind is none or a field is beyond its UseKind type.
+pub fn decode(t: &[u8], i: usize) -> Decoded
+    requires { ⌜ i + 6 ≤ wordCount (now t) ⌝ }
+    ensures { λ r. ⌜ r ≡ decodedRow (wordsOf (now (t .entry))) i ⌝ }
+{
+    let kind = words::word_at(t, i);
+    if 10 <= kind {
+        return Decoded::Bad;
+    }
+    let fits = fields_fit(
+        kind,
+        words::word_at(t, i + 2),
+        words::word_at(t, i + 3),
+        words::word_at(t, i + 4),
+        words::word_at(t, i + 5),
+    );
+    if fits {
+        return Decoded::One(use_at(t, i));
+    }
+    Decoded::Bad
 }
 
 pub fn is_def(kind: UseKind) -> bool

@@ -14,32 +14,11 @@ abbrev μ-loop : tie.MeasureT-loop
 loop-holds : tie.Need-loop-holds Inv-loop μ-loop
 loop-holds c = put-first _ _ _ _ _
 
-bits-at-requires : tie.Need-bits-at-requires Inv-loop μ-loop
-bits-at-requires c κs = search needs
-
-put-start-requires : tie.Need-put-start-requires Inv-loop μ-loop
-put-start-requires c κs = search needs
-
-count-at-requires : tie.Need-count-at-requires Inv-loop μ-loop
-count-at-requires c κs = search needs
-
 add-first : tie.Need-add-first Inv-loop μ-loop
 add-first c = omega (arith, put-fits _ (c .before .before .before .before .before .before .before .loop .inv) (c .before .before .before .before .before .before .loop-test .taken) (c .count-at .ensures))
 
-add-i : tie.Need-add-i Inv-loop μ-loop
-add-i c = search needs
-
-loop-less : tie.Need-loop-less Inv-loop μ-loop
-loop-less c = search needs
-
 loop-again : tie.Need-loop-again Inv-loop μ-loop
 loop-again c = put-next _ _ (c .before .before .before .before .before .before .before .loop .inv) (c .before .before .before .before .before .before .loop-test .taken) (omega arith) (c .before .before .before .before .bits-at .ensures) (c .before .before .before .put-start .ensures) (c .before .before .before .put-start .kept .0) (c .count-at .ensures)
-
-put-start-requires-2 : tie.Need-put-start-requires-2 Inv-loop μ-loop
-put-start-requires-2 c κs = search needs
-
-same-length : tie.Need-same-length Inv-loop μ-loop
-same-length c = search needs
 
 returns : tie.Need-returns Inv-loop μ-loop
 returns c = put-last _ (c .before .before .before .before .before .loop .inv) (c .before .before .before .before .loop-test .left) (omega arith) (c .before .before .put-start2 .ensures)
@@ -51,13 +30,13 @@ put-starts-spec =
     Inv-loop
     μ-loop
     loop-holds
-    bits-at-requires
-    put-start-requires
-    count-at-requires
+    (λ c κs. search needs)
+    (λ c κs. search needs)
+    (λ c κs. search needs)
     add-first
-    add-i
-    loop-less
+    (λ c. search needs)
+    (λ c. search needs)
     loop-again
-    put-start-requires-2
-    same-length
+    (λ c κs. search needs)
+    (λ c. search needs)
     returns)

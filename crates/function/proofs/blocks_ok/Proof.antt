@@ -18,17 +18,8 @@ abbrev μ-loop : tie.MeasureT-loop
 loop-holds : tie.Need-loop-holds Inv-loop μ-loop
 loop-holds c = ok-first _ _ _
 
-block-ok-requires : tie.Need-block-ok-requires Inv-loop μ-loop
-block-ok-requires c κs = search needs
-
 returns : tie.Need-returns Inv-loop μ-loop
 returns c = sym (c .before .before .before .loop .inv ∙ ok-bad _ _ _ _ (c .before .before .loop-test .taken) (sym (not-true _ (c .if1 .taken)) ∙ c .before .block-ok .ensures))
-
-add-i : tie.Need-add-i Inv-loop μ-loop
-add-i c = search needs
-
-loop-less : tie.Need-loop-less Inv-loop μ-loop
-loop-less c = search needs
 
 loop-again : tie.Need-loop-again Inv-loop μ-loop
 loop-again c = c .before .before .before .loop .inv ∙ ok-next _ _ _ _ (c .before .before .loop-test .taken) (sym (not-false _ (c .if1 .left)) ∙ c .before .block-ok .ensures)
@@ -43,9 +34,9 @@ blocks-ok-spec =
     Inv-loop
     μ-loop
     loop-holds
-    block-ok-requires
+    (λ c κs. search needs)
     returns
-    add-i
-    loop-less
+    (λ c. search needs)
+    (λ c. search needs)
     loop-again
     returns-2)

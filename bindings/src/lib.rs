@@ -1,0 +1,3 @@
+//! The proved entry points as a code generator calls them.
+
+pub mod cut;

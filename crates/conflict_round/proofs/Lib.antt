@@ -1,0 +1,4 @@
+pub mod Kept
+pub mod Swap
+pub mod Trying
+pub mod Runs

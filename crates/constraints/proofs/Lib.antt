@@ -1,0 +1,4 @@
+pub mod Operand
+pub mod Admitted
+pub mod Kept
+pub mod Accepted

@@ -1,0 +1,4 @@
+pub mod Number
+pub mod Accepted
+pub mod Owner
+pub mod Cases

@@ -1,0 +1,4 @@
+pub mod Limits
+pub mod Sizes
+pub mod Classes
+pub mod Book

@@ -1,0 +1,4 @@
+pub mod Scans
+pub mod Tables
+pub mod Tests
+pub mod Passed

@@ -1,0 +1,3 @@
+pub mod Shape
+pub mod Answer
+pub mod Cases

@@ -1,0 +1,4 @@
+pub mod Holder
+pub mod Marks
+pub mod Kept
+pub mod Read

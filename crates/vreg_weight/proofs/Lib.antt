@@ -1,0 +1,5 @@
+pub mod Sums
+pub mod Pieces
+pub mod Insts
+pub mod Least
+pub mod Ready
