@@ -76,7 +76,7 @@ module _ {A : Type 0} (T : List ℕ) (w : Named) (row : List ℕ → ℕ → A) 
 -- ---- the decoders, one by one
 
 -- word j of a row that begins with its fields
-field : (T : List ℕ) (k i : ℕ) (ns : List ℕ) (u : ℕ) → firstOf k ≡ 0 → Row T k i ns u → (j a : ℕ) → j < storedOf k → a ≡ start k i + j → getD T a 0 ≡ getD ns j 0
+pub field : (T : List ℕ) (k i : ℕ) (ns : List ℕ) (u : ℕ) → firstOf k ≡ 0 → Row T k i ns u → (j a : ℕ) → j < storedOf k → a ≡ start k i + j → getD T a 0 ≡ getD ns j 0
 field T k i ns u z r j a h e = ap (λ (b : ℕ). getD T b 0) (omega (arith, e, z)) ∙ r .fields j h
 
 module _ (T : List ℕ) (i : ℕ) (ns : List ℕ) (u : ℕ) where
