@@ -1,7 +1,7 @@
 -- The word that a record begins with, read byte by byte as the number that its bytes spell in base 256, is the definition's word. Assumes nothing.
 use mathlib.Core.Path.{_≡_, refl, sym, ap, _∙_}
 use mathlib.Core.List.{List, [], _∷_}
-use mathlib.Core.Bool.{Bool, true, false, cond, _&&_, true≢false, false≢true}
+use mathlib.Core.Bool.{Bool, true, false, cond, _&&_, false≢true}
 use mathlib.Core.Option.{Option, none, some}
 use Prim.Native.Nat.{ℕ, zero, suc, _+_, _*_, _^_, _≤_, _<_}
 use native.Mathlib.Omega.{arith}
@@ -9,7 +9,7 @@ use native.Mathlib.Nat.{pow-suc, pow-zero, pow-le-pow-right, mul-assoc, mul-comm
 use native.Mathlib.Numerals.{add-one}
 use lib.ListN.{length, getD}
 use lib.Dec.{ltb, eqb}
-use borrow.Author.Tests.{ltb-true, ltb-false, lt-ltb, le-ltb, eqb-true, eq-eqb, ne-eqb}
+use borrow.Author.Tests.{ltb-true, ltb-false, lt-ltb, le-ltb, eqb-true, eq-eqb}
 use Rattle.definition.specs.Text.{given, same, valueFrom, allBelow, _>>=_}
 use Rattle.definition.specs.JobSheet.{Word as Named, opt, bank, class, reg, block, value, vgroup, operand, hint, seg, use′, end, spelling, wordNumber, allWords, wordAmong}
 use Rattle.numeral.specs.Bytes.{num, wordByte, takeByte, closedOf}
@@ -245,9 +245,33 @@ key-found v =
     (eqb v 1751740020) (eqb v 7562599) (eqb v 7697253) (eqb v 6647396)
   where
     go : (a b c d e f g h i j k l : Bool)
-        → elim a [ true ↦ some opt | false ↦ elim b [ true ↦ some bank | false ↦ elim c [ true ↦ some class | false ↦ elim d [ true ↦ some reg | false ↦
-        elim e [ true ↦ some block | false ↦ elim f [ true ↦ some value | false ↦ elim g [ true ↦ some vgroup | false ↦ elim h [ true ↦ some operand | false ↦
-        elim i [ true ↦ some hint | false ↦ elim j [ true ↦ some seg | false ↦ elim k [ true ↦ some use′ | false ↦ elim l [ true ↦ some end | false ↦ none ] ] ] ] ] ] ] ] ] ] ] ]
+        → elim a [
+          | true ↦ some opt
+          | false ↦ elim b [
+            | true ↦ some bank
+            | false ↦ elim c [
+              | true ↦ some class
+              | false ↦ elim d [
+                | true ↦ some reg
+                | false ↦
+                    elim e [
+                      | true ↦ some block
+                      | false ↦ elim f [
+                        | true ↦ some value
+                        | false ↦ elim g [
+                          | true ↦ some vgroup
+                          | false ↦ elim h [
+                            | true ↦ some operand
+                            | false ↦
+                                elim i [ true ↦ some hint | false ↦ elim j [ true ↦ some seg | false ↦ elim k [ true ↦ some use′ | false ↦ elim l [ true ↦ some end | false ↦ none ] ] ] ]
+                          ]
+                        ]
+                      ]
+                    ]
+              ]
+            ]
+          ]
+        ]
         ≡ wordOf (cond a 0 (cond b 1 (cond c 2 (cond d 3 (cond e 4 (cond f 5 (cond g 6 (cond h 7 (cond i 8 (cond j 9 (cond k 10 (cond l 11 12))))))))))))
     go true b c d e f g h i j k l = refl
     go false true c d e f g h i j k l = refl

@@ -37,7 +37,17 @@ fn vreg_tail(out: &mut [u8], at: usize, group: u32, index: u32, hint: u32) -> us
 }
 
 // A register: `group` is its group + 1, or 0 for none; the hint is fixed if it is 1.
-pub fn put_vreg(out: &mut [u8], at: usize, n: u32, set: u32, class: u32, weight: u32, group: u32, index: u32, hint: u32) -> usize
+pub fn put_vreg(
+    out: &mut [u8],
+    at: usize,
+    n: u32,
+    set: u32,
+    class: u32,
+    weight: u32,
+    group: u32,
+    index: u32,
+    hint: u32,
+) -> usize
     requires { ⌜ at + 256 ≤ length (now out) ⌝ }
     ensures { λ r. ⌜ Wrote (256) at (now (out .entry)) r (now (out .exit)) (vregLine n set class weight group index hint) ⌝ }
 {
@@ -56,7 +66,15 @@ fn put_origin(out: &mut [u8], at: usize, origin: u32) -> usize
 }
 
 // A piece: the origin is a conflict if it is 1.
-pub fn put_seg(out: &mut [u8], at: usize, value: u32, from: u32, to: u32, flags: u32, origin: u32) -> usize
+pub fn put_seg(
+    out: &mut [u8],
+    at: usize,
+    value: u32,
+    from: u32,
+    to: u32,
+    flags: u32,
+    origin: u32,
+) -> usize
     requires { ⌜ at + 256 ≤ length (now out) ⌝ }
     ensures { λ r. ⌜ Wrote (256) at (now (out .entry)) r (now (out .exit)) (segLine value from to flags origin) ⌝ }
 {

@@ -124,7 +124,11 @@ pub fn end_field(s: St, out: &mut [u8]) -> Next
         if s.n == 0 {
             return start(s, out);
         }
-        cells::put(out, sheet_places::place(s.key, s.row, s.n), sheet_rules::low(s.value));
+        cells::put(
+            out,
+            sheet_places::place(s.key, s.row, s.n),
+            sheet_rules::low(s.value),
+        );
         return Next::Go(next_field(s));
     }
     Next::Bad
@@ -140,7 +144,11 @@ pub fn close_record(t: St, out: &mut [u8]) -> Next
     let a = sheet_places::count_at(t.key);
     let c = cells::get(out, a);
     let uses = cells::get(out, 9);
-    cells::put(out, sheet_places::tail_at(t.key, t.row), sheet_places::tail(t.key, t.n, uses));
+    cells::put(
+        out,
+        sheet_places::tail_at(t.key, t.row),
+        sheet_places::tail(t.key, t.n, uses),
+    );
     if c < sheet_places::limit(t.key) {
         cells::put(out, a, c + 1);
         return Next::Go(begin(t.key, t.over));

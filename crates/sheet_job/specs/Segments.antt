@@ -1,8 +1,7 @@
 -- The segments of the table, each with its uses, are the definition's. Assumes nothing.
-use mathlib.Core.Path.{_≡_, refl, sym, ap, _∙_}
+use mathlib.Core.Path.{_≡_, refl, ap, _∙_}
 use mathlib.Core.List.{List, [], _∷_}
-use mathlib.Core.Bool.{Bool, true, false, cond}
-use Prim.Native.Nat.{ℕ, zero, suc, _+_, _-_, _*_, _≤_, _<_}
+use Prim.Native.Nat.{ℕ, _+_, _-_, _*_, _≤_, _<_}
 use native.Mathlib.Omega.{arith}
 use lib.ListN.{length, getD}
 use lib.Dec.{ltb}
@@ -10,17 +9,15 @@ use borrow.Author.Tests.{lt-ltb, le-ltb}
 use Rattle.rows.specs.Tab.{tab}
 use Rattle.rows.specs.RowsAt.{rowsAt, rows-at-more}
 use Rattle.definition.specs.declared.Use.{Use}
-use Rattle.definition.specs.Types.{Segment, val, point}
-use Rattle.definition.specs.JobSheet.{Word as Named, opt, bank, class, reg, block, value, vgroup, operand, hint, seg, use′, end, Record, only, useOf, flagsOf as flagsIn, segmentOf as segmentIn, ontoSegments, segmentsOf}
+use Rattle.definition.specs.Types.{Segment}
+use Rattle.definition.specs.JobSheet.{Word as Named, opt, bank, class, reg, block, value, vgroup, operand, hint, seg, use′, end, Record, only, useOf, flagsOf as flagsIn, segmentOf as segmentIn, segmentsOf}
 use Rattle.uses.specs.Rows.{rawRow}
-use Rattle.layout.specs.declared.Table.{Table}
-use Rattle.layout.specs.declared.Layout.{Layout}
 use Rattle.layout.specs.Layout.{flagsOf, segRow, segAt, pickN, nextUse, usesIn, segmentOf}
 use Rattle.sheet_places.specs.Places.{bases, baseOf, widths, widthOf, storedOf, storedFields}
 use Rattle.agree.specs.Records.{rec}
 use Rattle.sheet_rows.specs.Stands.{Row, Stands, bump}
 use Rattle.sheet_job.specs.Fixed.{tableAt, fixedLayout}
-use Rattle.sheet_job.specs.Decode.{start, use-read}
+use Rattle.sheet_job.specs.Decode.{use-read}
 
 -- the first use behind those of the segments before segment s
 nextFirst : List ℕ → ℕ → ℕ
@@ -73,19 +70,24 @@ step T seg ns rs c s p q ih = own (s .0 (omega arith) (omega arith)) (ih (bump 9
     own : Row T 9 (c 9) ns (c 10) → Claim T (bump 9 c) rs → Claim T c (rec seg ns ∷ rs)
     own r k =
         let e : nextFirst T (c 9) ≡ c 10 = next-here T (c 9) (c 10) ns r (omega (arith, p)) in
-        let z : nextFirst T (c 9) - c 10 ≡ 0 = omega arith in
-        (ap (λ (x : Segment). x ∷ tab (segmentOf rawRow T (fixedLayout T)) (c 9 + 1) (length (only seg rs))) (segment-read T (c 9) (c 10) ns (segmentsOf rs .waiting) r (k .1 .0))
-        ∙ ap (λ (l : List Segment). segmentIn ns (segmentsOf rs .waiting) ∷ l) (k .0),
-        (ap (λ (n : ℕ). rowsAt rawRow T (19094 + c 10 * 6) 6 n) z, omega arith))
+        let z : nextFirst T (c 9) - c 10 ≡ 0 = omega arith in (
+          ap (λ (x : Segment). x ∷ tab (segmentOf rawRow T (fixedLayout T)) (c 9 + 1) (length (only seg rs))) (segment-read T (c 9) (c 10) ns (segmentsOf rs .waiting) r (k .1 .0))
+              ∙ ap (λ (l : List Segment). segmentIn ns (segmentsOf rs .waiting) ∷ l) (k .0),
+          (ap (λ (n : ℕ). rowsAt rawRow T (19094 + c 10 * 6) 6 n) z, omega arith),
+        )
 step T use′ ns rs c s p q ih = own (s .0 (omega arith) (omega arith)) (ih (bump 10 c) (s .1) p (omega (arith, q)))
   where
     own : Row T 10 (c 10) ns (c 10) → Claim T (bump 10 c) rs → Claim T c (rec use′ ns ∷ rs)
     own r k =
-        let h : c 10 + 1 ≤ nextFirst T (c 9) = k .1 .1 in
-        (k .0,
-        (rows-at-more rawRow T 19094 6 (nextFirst T (c 9)) (c 10) (omega arith)
-        ∙ ap (λ (x : Use). x ∷ rowsAt rawRow T (19094 + (c 10 + 1) * 6) 6 (nextFirst T (c 9) - (c 10 + 1))) (use-read T (c 10) ns (c 10) r)
-        ∙ ap (λ (l : List Use). useOf ns ∷ l) (k .1 .0), omega arith))
+        let h : c 10 + 1 ≤ nextFirst T (c 9) = k .1 .1 in (
+          k .0,
+          (
+            rows-at-more rawRow T 19094 6 (nextFirst T (c 9)) (c 10) (omega arith)
+                ∙ ap (λ (x : Use). x ∷ rowsAt rawRow T (19094 + (c 10 + 1) * 6) 6 (nextFirst T (c 9) - (c 10 + 1))) (use-read T (c 10) ns (c 10) r)
+                ∙ ap (λ (l : List Use). useOf ns ∷ l) (k .1 .0),
+            omega arith,
+          ),
+        )
 
 claim : (T : List ℕ) (rs : List Record) (c : ℕ → ℕ) → Stands T c rs → getD T 8 0 ≡ c 9 + length (only seg rs) → getD T 9 0 ≡ c 10 + length (only use′ rs) → Claim T c rs
 unfolding only segmentsOf rowsAt

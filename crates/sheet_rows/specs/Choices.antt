@@ -1,17 +1,13 @@
 -- The choices of a sheet's records are on their lists. Assumes nothing.
-use mathlib.Core.Path.{_≡_, refl, ap, _∙_}
 use mathlib.Core.List.{List, [], _∷_}
-use mathlib.Core.Bool.{Bool, true, false, cond}
+use mathlib.Core.Bool.{Bool, true, false}
 use mathlib.Core.Option.{Option, none, some}
 use Prim.Native.Nat.{ℕ, _≤_}
-use native.Mathlib.Omega.{arith}
 use lib.ListN.{getD, replicate}
-use lib.Dec.{eqb}
 use Rattle.definition.specs.Text.{_>>=_, given, linesOf, fieldsOf}
-use Rattle.definition.specs.JobSheet.{Word as Named, opt, bank, class, reg, block, value, vgroup, operand, hint, seg, use′, end, Form as Asked, upTo, bits, number, flag, remat, useFlags, useKind, kindFields, readField, readFields, readUse, readRecord, wordNumber, wordAmong, allWords, Record, recordOf, recordsOf, ordered, only, sheetOf}
+use Rattle.definition.specs.JobSheet.{Word as Named, opt, bank, class, reg, block, value, vgroup, operand, hint, seg, use′, end, Form as Asked, upTo, bits, number, flag, remat, useFlags, useKind, kindFields, readField, readFields, readUse, readRecord, wordAmong, allWords, Record, recordOf, recordsOf, ordered, sheetOf}
 use Rattle.agree.specs.Values.{OneSmall, number-small}
 use Rattle.agree.specs.Records.{rec}
-use Rattle.agree.specs.Table.{keyed}
 use Rattle.sheet_rows.specs.Sheets.{On}
 
 -- each field is up to its form's greatest number

@@ -1,13 +1,13 @@
 -- The choices and the use counts of a sheet's table. Assumes nothing.
 use mathlib.Core.Path.{_≡_, refl, sym, ap, _∙_, subst}
 use mathlib.Core.List.{List, [], _∷_}
-use mathlib.Core.Bool.{Bool, true, false, cond, _&&_, false≢true}
+use mathlib.Core.Bool.{Bool, true, false, cond, false≢true}
 use mathlib.Core.Option.{Option, none, some}
-use Prim.Native.Nat.{ℕ, zero, suc, _+_, _*_, _≤_, _<_}
+use Prim.Native.Nat.{ℕ, suc, _+_, _*_, _≤_, _<_}
 use native.Mathlib.Omega.{arith}
 use lib.ListN.{length, getD}
-use lib.Dec.{ltb, leb, eqb}
-use borrow.Author.Tests.{lt-ltb, le-leb, eqb-true, eq-eqb}
+use lib.Dec.{ltb, eqb}
+use borrow.Author.Tests.{lt-ltb, le-leb, eqb-true}
 use Rattle.rows.specs.RowsAt.{rowsAt, rows-at-cons}
 use Rattle.definition.specs.Entry.{every}
 use Rattle.definition.specs.JobSheet.{Word as Named, opt, bank, class, reg, block, value, vgroup, operand, hint, seg, use′, end, wordNumber, Record, only, next, among, ordered}

@@ -3,23 +3,21 @@ use mathlib.Core.Path.{_≡_, refl, sym, ap, _∙_, subst}
 use mathlib.Core.List.{List, [], _∷_}
 use mathlib.Core.Bool.{Bool, true, false, _&&_}
 use mathlib.Core.Option.{Option, none, some}
-use Prim.Native.Nat.{ℕ, zero, suc, _+_, _*_, _≤_, _<_}
+use Prim.Native.Nat.{ℕ, _+_, _≤_}
 use native.Mathlib.Omega.{arith}
 use native.Mathlib.Nat.{zero-add}
 use lib.ListN.{length, getD, replicate, length-replicate}
 use lib.Dec.{ltb, eqb}
-use borrow.Author.Tests.{eq-eqb}
 use Rattle.rows.specs.RowsAt.{rowsAt}
 use Rattle.words.specs.Words.{wordCount, wordsOf}
 use Rattle.definition.specs.Entry.{conj, every}
 use Rattle.definition.specs.Text.{_>>=_}
-use Rattle.definition.specs.JobSheet.{Word as Named, opt, bank, class, reg, block, value, vgroup, operand, hint, seg, use′, wordNumber, Record, only, ordered, sheetOf}
-use Rattle.layout.specs.declared.Layout.{Layout}
+use Rattle.definition.specs.JobSheet.{Word as Named, opt, bank, class, reg, block, value, hint, seg, use′, wordNumber, Record, only, ordered, sheetOf}
 use Rattle.layout.specs.Layout.{Fits}
 use Rattle.job_shape.specs.Shape.{wordIn, allBelow, choicesOk, useCounts, rises, countsOk, Shaped}
 use Rattle.sheet_places.specs.Places.{bases, baseOf, widths, widthOf, limits, limitOf, storedFields, storedOf, countAt, tableWords}
 use Rattle.sheet.specs.declared.Answer.{Answer}
-use Rattle.sheet.specs.declared.Answer.the-variants.{Read, Malformed, TooMany}
+use Rattle.sheet.specs.declared.Answer.the-variants.{Read}
 use Rattle.sheet.specs.Machine.{runOf, openOf, answerOf}
 use Rattle.agree.specs.Words.{Bytes, none-some}
 use Rattle.agree.specs.Table.{Filled, filled, fill, blank}
@@ -28,9 +26,8 @@ use Rattle.sheet_rows.specs.Put.{cnt}
 use Rattle.sheet_rows.specs.Stands.{Stands, stands}
 use Rattle.sheet_rows.specs.Counts.{good-zeros, zero-count, fill-count}
 use Rattle.sheet_rows.specs.Sheets.{On, Sound, sheet-sound}
-use Rattle.sheet_rows.specs.Choices.{Chosen, ChosenRecords, sheet-chosen}
+use Rattle.sheet_rows.specs.Choices.{ChosenRecords, sheet-chosen}
 use Rattle.sheet_job.specs.Fixed.{tableAt, fixedLayout}
-use Rattle.sheet_job.specs.Decode.{start}
 use Rattle.sheet_shape.specs.Present.{a-bank, a-class, a-block, fill-most}
 use Rattle.sheet_shape.specs.Columns.{column, bound-of, before, counts-list, rises-before, first-before}
 
