@@ -1,5 +1,5 @@
 -- The machine, on the bytes of a sheet, gives what the definition gives. Assumes nothing.
-use mathlib.Core.Path.{_≡_, refl, sym, ap, _∙_}
+use mathlib.Core.Path.{_≡_, refl, ap, _∙_}
 use mathlib.Core.List.{List, [], _∷_}
 use mathlib.Core.Bool.{Bool, true, false, cond}
 use mathlib.Core.Option.{Option, none, some}
@@ -9,7 +9,6 @@ use lib.Dec.{eqb}
 use Rattle.definition.specs.Text.{_>>=_, given, linesOf, endLine as lineEnded, ontoLine}
 use Rattle.definition.specs.JobSheet.{opt, Record, recordsOf, ordered, sheetOf}
 use Rattle.sheet_rules.specs.Rules.{followsOf}
-use Rattle.sheet_fields.specs.declared.St.{St}
 use Rattle.sheet_fields.specs.declared.Next.{Next}
 use Rattle.sheet_fields.specs.declared.Next.the-variants.{Go, Bad}
 use Rattle.sheet_fields.specs.Fields.{Fed, fed, beginOf}
@@ -17,9 +16,9 @@ use Rattle.sheet.specs.declared.Answer.{Answer}
 use Rattle.sheet.specs.declared.Answer.the-variants.{Read, Malformed, TooMany}
 use Rattle.sheet.specs.Machine.{runOf, openOf, endedOf, answerOf}
 use Rattle.agree.specs.Words.{Bytes}
-use Rattle.agree.specs.Split.{Seen, gone, at, viewN, view, runS, view-run, linesS, fresh, Mid, Cut, cut, mid}
+use Rattle.agree.specs.Split.{Seen, gone, at, viewN, view, runS, view-run, Mid, Cut, cut, mid}
 use Rattle.agree.specs.Table.{Filled, filled, keyed, put, fill, blank}
-use Rattle.agree.specs.Records.{AllBytes, placed, goS, sheetS, lines-records}
+use Rattle.agree.specs.Records.{AllBytes, goS, sheetS, lines-records}
 use Rattle.agree.specs.Order.{orderedN, same-order, likes-start}
 
 -- what an answer says, with the table that it leaves: no sheet, or records that fill the table

@@ -10,10 +10,10 @@ use native.Mathlib.Numerals.{add-one}
 use lib.ListN.{length}
 use lib.Dec.{ltb, leb, eqb}
 use borrow.Author.Tests.{ltb-true, ltb-false, lt-ltb, le-ltb, le-leb, lt-leb, ne-eqb}
-use Rattle.definition.specs.Text.{given, digitOf, valueFrom, allBelow, noLeadingZero, isNumber, readNumber, isBits, readBits}
+use Rattle.definition.specs.Text.{given, digitOf, valueFrom, allBelow, noLeadingZero, readNumber, readBits}
 use Rattle.numeral.specs.Bytes.{num, numberByte, maskByte, takeByte, closedOf}
 use Rattle.numeral.specs.declared.Form.{Form}
-use Rattle.numeral.specs.declared.Form.the-variants.{Nothing, Number, Mask, Word}
+use Rattle.numeral.specs.declared.Form.the-variants.{Number, Mask}
 use Rattle.numeral.specs.declared.Num.{Num}
 use Rattle.numeral.specs.declared.Took.{Took}
 use Rattle.numeral.specs.declared.Took.the-variants as T

@@ -1,13 +1,13 @@
 -- The order of the records by the table of what may follow is the definition's. Assumes nothing.
-use mathlib.Core.Path.{_≡_, refl, sym, ap, _∙_, subst}
+use mathlib.Core.Path.{_≡_, refl, sym, ap, _∙_}
 use mathlib.Core.List.{List, [], _∷_}
-use mathlib.Core.Bool.{Bool, true, false, cond, not, _&&_, _||_, Bool·beq, false≢true}
+use mathlib.Core.Bool.{Bool, true, false, cond, not, _&&_, Bool·beq, false≢true}
 use mathlib.Core.Option.{Option, none, some}
 use Prim.Native.Nat.{ℕ, zero, suc}
 use lib.Dec.{eqb}
 use Rattle.definition.specs.JobSheet.{Word as Named, opt, bank, class, reg, block, value, vgroup, operand, hint, seg, use′, end, wordNumber, allWords, next, among, Record, ordered}
 use Rattle.sheet_rules.specs.Rules.{order, followsOf}
-use Rattle.agree.specs.Words.{wordOf, word-number, none-some}
+use Rattle.agree.specs.Words.{word-number, none-some}
 use Rattle.agree.specs.Table.{keyed}
 
 -- 12 stands before the first; the last is 11, end

@@ -20,7 +20,7 @@ use Rattle.sheet_places.specs.Places.{countAt, rowAt, placeOf, upOf}
 use Rattle.sheet_fields.specs.declared.St.{St}
 use Rattle.sheet_fields.specs.declared.Next.{Next}
 use Rattle.sheet_fields.specs.declared.Next.the-variants.{Go, Bad}
-use Rattle.sheet_fields.specs.Fields.{Fed, fed, beginOf, withNum, onTook, byteOf, startOf, nextOf, endField, closeRecord}
+use Rattle.sheet_fields.specs.Fields.{Fed, fed, withNum, onTook, byteOf, startOf, nextOf, endField, closeRecord}
 use Rattle.sheet.specs.Machine.{onField, endLine, stepOf, onNext, pushOf, runOf}
 use Rattle.agree.specs.Fields.{onward, takeAll, closing, number-field, bits-field}
 use Rattle.agree.specs.Words.{Bytes, spelled, word-field}

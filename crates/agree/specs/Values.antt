@@ -8,9 +8,9 @@ use native.Mathlib.Omega.{arith}
 use native.Mathlib.Nat.{pow-suc, pow-zero, mul-assoc, mul-comm}
 use lib.ListN.{length, replicate}
 use lib.Dec.{ltb, leb, eqb}
-use borrow.Author.Tests.{ltb-true, ltb-false, leb-true, eqb-true, lt-ltb, le-ltb}
+use borrow.Author.Tests.{ltb-true, leb-true, eqb-true}
 use Rattle.definition.specs.Text.{given, _>>=_, digitOf, valueFrom, allBelow, noLeadingZero, readNumber, readBits}
-use Rattle.definition.specs.JobSheet.{Word as Named, opt, bank, class, reg, block, value, vgroup, operand, hint, seg, use′, end, Form as Asked, upTo, bits, number, flag, remat, useFlags, useKind, kindFields, wordNumber, readField, readFields, readUse, readRecord}
+use Rattle.definition.specs.JobSheet.{Word as Named, opt, bank, class, reg, block, value, vgroup, operand, hint, seg, use′, end, Form as Asked, upTo, bits, number, flag, remat, useFlags, kindFields, wordNumber, readField, readFields, readUse, readRecord}
 use Rattle.numeral.specs.declared.Form.{Form}
 use Rattle.numeral.specs.declared.Form.the-variants.{Nothing, Number, Mask}
 use Rattle.sheet_rules.specs.Rules.{formOf, forms, formRow, codeAt, formAt, moreAfter, lowOf, kindAfter}
@@ -95,7 +95,7 @@ abbrev pub Small : List ℕ → Type 0
 Small [] = Unit {0}
 Small (n ∷ ns) = (n ≤ 4294967295) × Small ns
 
-abbrev OneSmall : ℕ → Option ℕ → Type 0
+abbrev pub OneSmall : ℕ → Option ℕ → Type 0
 OneSmall most none = Unit {0}
 OneSmall most (some n) = n ≤ most
 

@@ -1,5 +1,5 @@
 -- A field read byte by byte: what each byte makes of what was read so far. Assumes nothing.
-use mathlib.Core.Bool.{Bool, true, false, cond}
+use mathlib.Core.Bool.{Bool, false, cond}
 use Prim.Native.Nat.{ℕ, _+_, _*_}
 use lib.Dec.{ltb, eqb}
 use Rattle.definition.specs.Text.{digitOf}

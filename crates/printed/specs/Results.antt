@@ -1,5 +1,5 @@
 -- What `vregs` prints can be told apart for different answers. Assumes nothing.
-use mathlib.Core.Path.{_≡_, refl, sym, ap, _∙_}
+use mathlib.Core.Path.{_≡_, sym, ap, _∙_}
 use mathlib.Core.List.{List, [], _∷_, _++_, append-assoc}
 use mathlib.Core.Option.{Option, none, some}
 use Prim.Native.Nat.{ℕ, suc, _+_, _*_, _<_}
@@ -10,14 +10,13 @@ use lib.Ieee.{binary32, fits, top, toBits}
 use lib.Ieee.Bits.{toBits-lt}
 use Rattle.definition.specs.declared.Use.{Use}
 use Rattle.definition.specs.declared.VirtReg.{VirtReg}
-use Rattle.definition.specs.declared.Refusal.{Refusal}
 use Rattle.definition.specs.Types.{Piece, Register, Out, done, refused, numberOf}
 use Rattle.definition.specs.Build.{Result}
-use Rattle.definition.specs.Lines.{Line, vreg-line, seg-line, use-line, group-line, end-line, vregLine, useLines, segLines, vregLines, groupLines, printed}
-use Rattle.definition.specs.Text.{_>>=_, bytes, decimal, tabbed, line, Fields, fieldsOf, linesOf}
+use Rattle.definition.specs.Lines.{Line, vreg-line, seg-line, use-line, group-line, end-line, useLines, segLines, vregLines, groupLines, printed}
+use Rattle.definition.specs.Text.{bytes, decimal, line, Fields, fieldsOf, linesOf}
 use Rattle.definition.specs.RegisterSheet.{lineBytes, linesBytes, registerSheet}
 use Rattle.printed.specs.Clean.{clean-decimal, body, tabbed-body, feed-line, fields-back, lines-back}
-use Rattle.printed.specs.Unprint.{Word, Words, one-sheet, number, number-back}
+use Rattle.printed.specs.Unprint.{Words, one-sheet, number, number-back}
 
 -- the weights of a result are f32 values
 abbrev pub Weighed : List Register → Type 0

@@ -2,12 +2,12 @@
 use mathlib.Core.Path.{_≡_, refl, sym, ap, _∙_}
 use mathlib.Core.List.{List, [], _∷_, _++_, map}
 use mathlib.Core.Bool.{Bool, true, false, cond, _&&_}
-use mathlib.Core.Option.{Option, none, some}
+use mathlib.Core.Option.{some}
 use Prim.Native.Nat.{ℕ, zero, suc, _+_, _-_, _*_, _/_, _%_, _^_, _≤_, _<_}
 use native.Mathlib.Omega.{arith}
 use native.Mathlib.Nat.{pow-suc, pow-zero, div-lt-iff-lt-mul, le-div-iff-mul-le, div-add-mod', mod-lt, mod-eq-of-lt, div-one, div-div-eq-div-mul, mul-comm, pow-le-pow-right}
 use lib.ListN.{length, length-append}
-use lib.Dec.{ltb, leb, eqb}
+use lib.Dec.{ltb}
 use borrow.Author.Tests.{ltb-true, ltb-false, lt-ltb, le-ltb, le-leb, eq-eqb}
 use Rattle.definition.specs.Text.{digitOf, valueFrom, allBelow, noLeadingZero, readNumber, readBits, glyph, digits, places, decimal, eightDigits}
 use Rattle.io.specs.Digits.{Fewest}

@@ -6,7 +6,7 @@ use mathlib.Core.Option.{Option, none, some}
 use Prim.Native.Nat.{ℕ, zero, suc, _+_, _/_, _%_, _^_, _≤_, _<_}
 use native.Mathlib.Omega.{arith}
 use lib.ListN.{getD, drop}
-use lib.Dec.{ltb, eqb}
+use lib.Dec.{eqb}
 use borrow.Author.Tests.{ne-eqb}
 use Rattle.definition.specs.declared.VirtReg.{VirtReg}
 use Rattle.definition.specs.declared.VirtRegGroup.{VirtRegGroup}
@@ -16,12 +16,11 @@ use Rattle.definition.specs.declared.UseKind.the-variants.{FixedDef, FixedUse, 
 use Rattle.definition.specs.declared.Use.{Use}
 use Rattle.definition.specs.declared.Origin.{Origin}
 use Rattle.definition.specs.declared.Origin.the-variants.{Own, Conflict}
-use Rattle.definition.specs.Types.{val, vset, cls, point, inst, vreg, vrgroup}
+use Rattle.definition.specs.Types.{val, vset, cls, point, vreg, vrgroup}
 use Rattle.definition.specs.Lines.{Line, vreg-line, seg-line, use-line, group-line, end-line, numbersOf, useNumbers, flagsNumber}
 use Rattle.definition.specs.Text.{_>>=_, bytes, digitOf, valueFrom, glyph, digits, places, decimal, eightDigits, tabbed, Fields, fieldsOf, linesOf}
 use Rattle.definition.specs.JobSheet.{useOf, flagsOf}
 use Rattle.definition.specs.RegisterSheet.{groupField, memberField, originField, hintField, lineBytes, linesBytes}
-use Rattle.io.specs.Digits.{Fewest}
 use Rattle.lines.specs.Places.{fewest-decimal}
 use Rattle.printed.specs.Round.{digits-cons, spells, spells-bits}
 use Rattle.printed.specs.Clean.{Clean, AllClean, glyph-most, clean-decimal, clean-bits, body, tabbed-body, feed-line, fields-back, lines-back}

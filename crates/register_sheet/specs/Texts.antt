@@ -7,8 +7,7 @@ use native.Mathlib.Omega.{arith}
 use lib.ListN.{length, getD, take}
 use lib.Dec.{eqb}
 use borrow.Author.Tests.{eqb-true}
-use Rattle.definition.specs.Types.{val, vset, cls, point}
-use Rattle.definition.specs.Lines.{useNumbers, flagsNumber, vreg-line, seg-line, use-line, group-line, end-line}
+use Rattle.definition.specs.Lines.{useNumbers, flagsNumber}
 use Rattle.definition.specs.Text.{bytes, decimal, eightDigits, tabbed}
 use Rattle.definition.specs.JobSheet.{useOf, flagsOf}
 use Rattle.definition.specs.RegisterSheet.{groupField, memberField, hintField, originField, lineBytes}

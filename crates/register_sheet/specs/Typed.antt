@@ -1,6 +1,6 @@
 -- The lines of a register sheet from the plain numbers of a result table. Assumes nothing.
 use mathlib.Core.List.{List, [], _∷_, _++_, map}
-use mathlib.Core.Bool.{Bool, true, false, cond}
+use mathlib.Core.Bool.{cond}
 use mathlib.Core.Option.{Option, none, some}
 use Prim.Native.Nat.{ℕ, zero, suc, _+_}
 use lib.ListN.{getD}

@@ -1,6 +1,6 @@
 -- The reader as a machine, within a line: what each byte does to the state and to the table of words. Assumes nothing.
 use mathlib.Core.List.{List}
-use mathlib.Core.Bool.{Bool, true, false, cond}
+use mathlib.Core.Bool.{Bool, true, cond}
 use Prim.Native.Nat.{ℕ, _+_}
 use lib.ListN.{getD, set}
 use lib.Dec.{ltb, eqb}

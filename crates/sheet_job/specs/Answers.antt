@@ -1,12 +1,12 @@
 -- What the reader says of a sheet gives the definition's answer to it. Assumes nothing.
-use mathlib.Core.Path.{_≡_, refl, sym, ap, _∙_, subst}
+use mathlib.Core.Path.{_≡_, refl, sym, ap, _∙_}
 use mathlib.Core.List.{List, [], _∷_, map}
 use mathlib.Core.Bool.{Bool, true, false, cond, _&&_, _||_, false≢true}
 use mathlib.Core.Option.{Option, none, some}
 use Prim.Native.Nat.{ℕ, zero, suc, _+_, _≤_, _<_}
 use native.Mathlib.Omega.{arith}
 use lib.ListN.{length, getD, replicate, length-replicate}
-use lib.Dec.{ltb, leb}
+use lib.Dec.{ltb}
 use borrow.Author.Tests.{ltb-true, lt-ltb, lt-leb}
 use Rattle.definition.specs.declared.Value.{Value}
 use Rattle.definition.specs.declared.Refusal.{Refusal}
@@ -14,12 +14,11 @@ use Rattle.definition.specs.declared.Refusal.the-variants.{NotARecord, OverALim
 use Rattle.definition.specs.Types.{Segment, Job, Room, Out, refused}
 use Rattle.definition.specs.Place.{total}
 use Rattle.definition.specs.Build.{Result}
-use Rattle.definition.specs.Entry.{conj, every, insts, instsOf, limitTests, limitsOk, bookOk, vgroupTests, vgroupOk, blockOk, leads, operandOk, apart, functionTests, functionOk, lowestOf, entry, answerTo, answer, hintsOk, segmentsOk, usesOk}
+use Rattle.definition.specs.Entry.{conj, every, limitTests, limitsOk, bookOk, vgroupTests, vgroupOk, functionTests, functionOk, lowestOf, entry, answerTo, answer, hintsOk, segmentsOk, usesOk}
 use Rattle.definition.specs.Text.{_>>=_}
-use Rattle.definition.specs.JobSheet.{Word as Named, opt, bank, class, reg, block, value, vgroup, operand, hint, seg, use′, end, wordNumber, Record, only, bankOf, classDataOf, memoryOf, blockDataOf, valueDataOf, vgroupOf, operandOf, hintOf, useOf, segmentOf, segmentsOf, next, among, ordered, jobOf, sheetOf, jobOfSheet, answerOrOne, sheetAnswer}
+use Rattle.definition.specs.JobSheet.{Word as Named, opt, bank, class, reg, block, value, vgroup, operand, hint, seg, use′, end, wordNumber, Record, only, bankOf, classDataOf, memoryOf, blockDataOf, valueDataOf, vgroupOf, operandOf, hintOf, segmentsOf, next, among, ordered, jobOf, sheetOf, answerOrOne, sheetAnswer}
 use Rattle.job.specs.Job.{rawJob}
 use Rattle.sheet_places.specs.Places.{limits, limitOf, tableWords}
-use Rattle.sheet_fields.specs.Fields.{Fed}
 use Rattle.sheet.specs.declared.Answer.{Answer}
 use Rattle.sheet.specs.declared.Answer.the-variants.{Read, Malformed, TooMany}
 use Rattle.sheet.specs.Machine.{runOf, openOf, answerOf}
@@ -27,7 +26,6 @@ use Rattle.agree.specs.Words.{Bytes, none-some}
 use Rattle.agree.specs.Table.{Filled, filled, fill, blank}
 use Rattle.agree.specs.Records.{rec}
 use Rattle.agree.specs.Agree.{outcome, agree}
-use Rattle.sheet_rows.specs.Put.{cnt}
 use Rattle.sheet_rows.specs.Counts.{TooMany as Crowded, zero-count, fill-over}
 use Rattle.sheet_rows.specs.Sheets.{On, Sound, sheet-sound, ordered-first}
 use Rattle.sheet_job.specs.Fixed.{fixedLayout}

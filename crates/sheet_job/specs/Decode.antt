@@ -4,26 +4,24 @@ use mathlib.Core.List.{List, [], _∷_, map}
 use mathlib.Core.Bool.{Bool, true, false, cond}
 use Prim.Native.Nat.{ℕ, zero, suc, _+_, _-_, _*_, _≤_, _<_}
 use native.Mathlib.Omega.{arith}
-use native.Mathlib.Nat.{add-zero, add-mul, one-mul}
-use lib.ListN.{length, getD, drop}
+use native.Mathlib.Nat.{add-mul, one-mul}
+use lib.ListN.{length, getD}
 use lib.Seq.{getD-drop}
-use lib.Dec.{ltb, eqb}
-use borrow.Author.Tests.{ltb-true, ltb-false, ne-eqb, eqb-true}
-use Rattle.rows.specs.RowsAt.{rowsAt, rows-at-cons, length-rows-at}
-use Rattle.definition.specs.Types.{val, cls}
-use Rattle.definition.specs.declared.Value.{Value}
-use Rattle.definition.specs.declared.UseKind.{UseKind}
+use lib.Dec.{eqb}
+use borrow.Author.Tests.{ne-eqb, eqb-true}
+use Rattle.rows.specs.RowsAt.{rowsAt, rows-at-cons}
+use Rattle.definition.specs.Types.{cls}
 use Rattle.definition.specs.declared.UseKind.the-variants.{FixedDef, FixedUse, TiedUse, ConstraintConflict, ClassUse, ClassDef, GroupClassUse, GroupClassDef, BlockparamIn, BlockparamOut}
-use Rattle.definition.specs.JobSheet.{Word as Named, wordNumber, Record, only, float, bankOf, classDataOf, memoryOf, blockDataOf, rematOf, valueDataOf, vgroupOf, operandOf, hintOf, regOf, useOf, optionsOf}
+use Rattle.definition.specs.JobSheet.{Word as Named, wordNumber, Record, only, float, bankOf, classDataOf, memoryOf, blockDataOf, rematOf, valueDataOf, operandOf, hintOf, regOf, useOf}
 use Rattle.reginfo.specs.Rows.{bankRow, memoryRow, classRow}
 use Rattle.function.specs.Blocks.{blockRow}
-use Rattle.coalescing.specs.Rows.{rematOf as rematRow, valueRow, memberRow, vgroupRow}
+use Rattle.coalescing.specs.Rows.{rematOf as rematRow, valueRow}
 use Rattle.operands.specs.Rows.{operandRow}
 use Rattle.hints.specs.Hints.{hintAt}
-use Rattle.uses.specs.Rows.{rawKind, rawRow, reg}
-use Rattle.sheet_places.specs.Places.{baseOf, widthOf, storedOf, storedFields, upOf}
-use Rattle.agree.specs.Table.{ups, keyed}
-use Rattle.sheet_rows.specs.Regions.{firstOf, cell}
+use Rattle.uses.specs.Rows.{rawKind, rawRow}
+use Rattle.sheet_places.specs.Places.{baseOf, widthOf, storedOf, storedFields}
+use Rattle.agree.specs.Table.{keyed}
+use Rattle.sheet_rows.specs.Regions.{firstOf}
 use Rattle.sheet_rows.specs.Stands.{Row, Stands, bump}
 
 module _ {A B : Type 0} where
@@ -76,7 +74,7 @@ module _ {A : Type 0} (T : List ℕ) (w : Named) (row : List ℕ → ℕ → A) 
 -- ---- the decoders, one by one
 
 -- word j of a row that begins with its fields
-field : (T : List ℕ) (k i : ℕ) (ns : List ℕ) (u : ℕ) → firstOf k ≡ 0 → Row T k i ns u → (j a : ℕ) → j < storedOf k → a ≡ start k i + j → getD T a 0 ≡ getD ns j 0
+pub field : (T : List ℕ) (k i : ℕ) (ns : List ℕ) (u : ℕ) → firstOf k ≡ 0 → Row T k i ns u → (j a : ℕ) → j < storedOf k → a ≡ start k i + j → getD T a 0 ≡ getD ns j 0
 field T k i ns u z r j a h e = ap (λ (b : ℕ). getD T b 0) (omega (arith, e, z)) ∙ r .fields j h
 
 module _ (T : List ℕ) (i : ℕ) (ns : List ℕ) (u : ℕ) where

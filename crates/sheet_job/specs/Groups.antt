@@ -1,18 +1,18 @@
 -- The value groups of the table: those of up to eight members are the definition's; longer ones have more than eight members in both. Assumes nothing.
-use mathlib.Core.Path.{_≡_, refl, sym, ap, _∙_, subst}
+use mathlib.Core.Path.{_≡_, refl, ap, _∙_}
 use mathlib.Core.List.{List, [], _∷_, map}
 use mathlib.Core.Bool.{Bool, true, false, cond}
-use Prim.Native.Nat.{ℕ, zero, suc, _+_, _-_, _*_, _≤_, _<_}
+use Prim.Native.Nat.{ℕ, suc, _+_, _-_, _≤_, _<_}
 use native.Mathlib.Omega.{arith}
 use lib.ListN.{length, getD}
 use lib.Dec.{ltb}
-use borrow.Author.Tests.{ltb-true, ltb-false, lt-ltb, le-ltb}
+use borrow.Author.Tests.{ltb-true, ltb-false, lt-ltb}
 use Rattle.rows.specs.RowsAt.{rowsAt, rows-at-cons, length-rows-at}
 use Rattle.definition.specs.declared.Value.{Value}
 use Rattle.definition.specs.Types.{val}
 use Rattle.definition.specs.JobSheet.{vgroupOf}
 use Rattle.coalescing.specs.Rows.{memberRow, vgroupRow}
-use Rattle.sheet_places.specs.Places.{baseOf, widthOf, storedOf, storedFields, upOf}
+use Rattle.sheet_places.specs.Places.{storedOf, storedFields, upOf}
 use Rattle.agree.specs.Table.{ups}
 use Rattle.sheet_rows.specs.Stands.{Row}
 use Rattle.sheet_job.specs.Decode.{start}

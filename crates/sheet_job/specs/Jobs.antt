@@ -1,19 +1,12 @@
 -- The job of the reader's table is the definition's job of the sheet's records. Assumes nothing.
-use mathlib.Core.Path.{_≡_, refl, sym, ap, _∙_, subst}
+use mathlib.Core.Path.{_≡_, sym, ap, _∙_, subst}
 use mathlib.Core.List.{List, [], _∷_, map}
-use mathlib.Core.Bool.{Bool, true, false}
-use Prim.Native.Nat.{ℕ, zero, suc, _+_, _*_, _≤_, _<_}
+use mathlib.Core.Bool.{false}
+use Prim.Native.Nat.{ℕ, _+_, _*_, _≤_, _<_}
 use native.Mathlib.Omega.{arith}
 use lib.ListN.{length, getD, replicate, length-replicate, getD-replicate}
-use Rattle.rows.specs.Tab.{tab}
 use Rattle.rows.specs.RowsAt.{rowsAt}
-use Rattle.definition.specs.declared.RegClass.{RegClass}
-use Rattle.definition.specs.declared.ClassData.{ClassData}
-use Rattle.definition.specs.declared.BlockData.{BlockData}
 use Rattle.definition.specs.declared.Value.{Value}
-use Rattle.definition.specs.declared.ValueData.{ValueData}
-use Rattle.definition.specs.declared.Operand.{Operand}
-use Rattle.definition.specs.declared.Hint.{Hint}
 use Rattle.definition.specs.Types.{Job}
 use Rattle.definition.specs.JobSheet.{Word as Named, opt, bank, class, reg, block, value, vgroup, operand, hint, seg, use′, wordNumber, Record, only, float, optionsOf, bankOf, classDataOf, memoryOf, blockDataOf, valueDataOf, vgroupOf, operandOf, hintOf, jobOf}
 use Rattle.reginfo.specs.Rows.{bankRow, memoryRow, classRow, classesAt}
@@ -21,14 +14,12 @@ use Rattle.function.specs.Blocks.{blockRow}
 use Rattle.coalescing.specs.Rows.{valueRow, valuesAt, vgroupRow, vgroupsAt}
 use Rattle.operands.specs.Rows.{operandRow, operandsAt}
 use Rattle.hints.specs.Hints.{hintAt}
-use Rattle.uses.specs.Rows.{rawRow}
-use Rattle.layout.specs.Layout.{optionsRow, segmentOf}
+use Rattle.layout.specs.Layout.{optionsRow}
 use Rattle.job.specs.Job.{jobBy, rawJob}
 use Rattle.sheet_places.specs.Places.{bases, baseOf, widths, widthOf, limits, limitOf, storedFields, storedOf, countAt, tableWords}
 use Rattle.agree.specs.Table.{Filled, put, fill, blank}
 use Rattle.agree.specs.Records.{rec}
 use Rattle.agree.specs.Values.{Small}
-use Rattle.sheet_rows.specs.Regions.{cell, row-low}
 use Rattle.sheet_rows.specs.Put.{cnt, put-long, put-field}
 use Rattle.sheet_rows.specs.Stands.{Stands, NoOpt, room, kept-opt, stands}
 use Rattle.sheet_rows.specs.Counts.{good-zeros, zero-count, fill-count}

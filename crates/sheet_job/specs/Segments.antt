@@ -1,8 +1,7 @@
 -- The segments of the table, each with its uses, are the definition's. Assumes nothing.
-use mathlib.Core.Path.{_≡_, refl, sym, ap, _∙_}
+use mathlib.Core.Path.{_≡_, refl, ap, _∙_}
 use mathlib.Core.List.{List, [], _∷_}
-use mathlib.Core.Bool.{Bool, true, false, cond}
-use Prim.Native.Nat.{ℕ, zero, suc, _+_, _-_, _*_, _≤_, _<_}
+use Prim.Native.Nat.{ℕ, _+_, _-_, _*_, _≤_, _<_}
 use native.Mathlib.Omega.{arith}
 use lib.ListN.{length, getD}
 use lib.Dec.{ltb}
@@ -10,17 +9,15 @@ use borrow.Author.Tests.{lt-ltb, le-ltb}
 use Rattle.rows.specs.Tab.{tab}
 use Rattle.rows.specs.RowsAt.{rowsAt, rows-at-more}
 use Rattle.definition.specs.declared.Use.{Use}
-use Rattle.definition.specs.Types.{Segment, val, point}
-use Rattle.definition.specs.JobSheet.{Word as Named, opt, bank, class, reg, block, value, vgroup, operand, hint, seg, use′, end, Record, only, useOf, flagsOf as flagsIn, segmentOf as segmentIn, ontoSegments, segmentsOf}
+use Rattle.definition.specs.Types.{Segment}
+use Rattle.definition.specs.JobSheet.{Word as Named, opt, bank, class, reg, block, value, vgroup, operand, hint, seg, use′, end, Record, only, useOf, flagsOf as flagsIn, segmentOf as segmentIn, segmentsOf}
 use Rattle.uses.specs.Rows.{rawRow}
-use Rattle.layout.specs.declared.Table.{Table}
-use Rattle.layout.specs.declared.Layout.{Layout}
 use Rattle.layout.specs.Layout.{flagsOf, segRow, segAt, pickN, nextUse, usesIn, segmentOf}
 use Rattle.sheet_places.specs.Places.{bases, baseOf, widths, widthOf, storedOf, storedFields}
 use Rattle.agree.specs.Records.{rec}
 use Rattle.sheet_rows.specs.Stands.{Row, Stands, bump}
 use Rattle.sheet_job.specs.Fixed.{tableAt, fixedLayout}
-use Rattle.sheet_job.specs.Decode.{start, use-read}
+use Rattle.sheet_job.specs.Decode.{use-read}
 
 -- the first use behind those of the segments before segment s
 nextFirst : List ℕ → ℕ → ℕ

@@ -3,3 +3,4 @@ pub mod Put
 pub mod Stands
 pub mod Counts
 pub mod Sheets
+pub mod Choices

@@ -5,15 +5,15 @@ use mathlib.Core.Bool.{Bool, true, false, cond}
 use Prim.Native.Nat.{ℕ, zero, suc, _+_, _-_, _*_, _≤_, _<_}
 use native.Mathlib.Omega.{arith}
 use lib.ListN.{length, getD, set, length-set}
-use lib.Seq.{getD-set-same, getD-set-other, set-out}
+use lib.Seq.{getD-set-same, getD-set-other}
 use lib.Dec.{ltb, eqb}
-use borrow.Author.Tests.{ltb-true, ltb-false, lt-ltb, le-ltb, eqb-true, eq-eqb, ne-eqb}
+use borrow.Author.Tests.{ltb-true, ltb-false, lt-ltb, le-ltb, eqb-true, eq-eqb}
 use Rattle.definition.specs.JobSheet.{Word as Named, opt, bank, class, reg, block, value, vgroup, operand, hint, seg, use′, end, wordNumber, Record}
 use Rattle.sheet_rules.specs.Rules.{lowOf}
-use Rattle.sheet_places.specs.Places.{limitOf, baseOf, widthOf, storedOf, storedFields, countAt, rowAt, placeOf, tailAt, tailOf, upOf, nowhere, tableWords}
+use Rattle.sheet_places.specs.Places.{limitOf, baseOf, widthOf, storedOf, storedFields, countAt, placeOf, tailAt, tailOf, upOf, nowhere, tableWords}
 use Rattle.agree.specs.Table.{Filled, filled, puts, ups, counted, keyed, rowOf, put}
 use Rattle.agree.specs.Values.{Small}
-use Rattle.sheet_rows.specs.Regions.{firstOf, cell, sizes, row-is, row-low, place-in, place-out, count-is}
+use Rattle.sheet_rows.specs.Regions.{firstOf, cell, sizes, row-is, place-in, place-out, count-is}
 
 pub key-most : (w : Named) → wordNumber w ≤ 11
 key-most opt = omega arith

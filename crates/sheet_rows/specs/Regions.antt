@@ -1,14 +1,12 @@
 -- The rows of the reader's table do not overlap. Assumes nothing.
-use mathlib.Core.Path.{_≡_, refl, sym, ap, _∙_}
-use mathlib.Core.List.{List}
+use mathlib.Core.Path.{_≡_, refl, ap, _∙_}
 use mathlib.Core.Bool.{Bool, true, false, cond}
 use Prim.Native.Nat.{ℕ, zero, suc, _+_, _-_, _*_, _≤_, _<_}
 use native.Mathlib.Omega.{arith}
-use native.Mathlib.Nat.{add-mul, one-mul, suc-mul, mul-le-mul-right}
-use lib.ListN.{getD}
+use native.Mathlib.Nat.{add-mul, one-mul, mul-le-mul-right}
 use lib.Dec.{ltb, eqb}
-use borrow.Author.Tests.{ltb-true, ltb-false, lt-ltb, le-ltb, eqb-true, eq-eqb, ne-eqb}
-use Rattle.sheet_places.specs.Places.{limits, bases, widths, storedFields, limitOf, baseOf, widthOf, storedOf, countAt, rowAt, placeOf, tailAt, nowhere, tableWords}
+use borrow.Author.Tests.{ltb-true, ltb-false, lt-ltb, le-ltb}
+use Rattle.sheet_places.specs.Places.{limits, bases, widths, storedFields, limitOf, baseOf, widthOf, storedOf, countAt, rowAt, placeOf, nowhere, tableWords}
 
 -- the word of a row at which its fields begin
 abbrev pub firstOf : ℕ → ℕ

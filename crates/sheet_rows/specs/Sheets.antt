@@ -1,11 +1,10 @@
 -- What holds of the records of every sheet: 32-bit fields, one opt, and that first. Assumes nothing.
-use mathlib.Core.Path.{_≡_, refl, sym, ap, _∙_}
+use mathlib.Core.Path.{_≡_, refl, sym, _∙_}
 use mathlib.Core.List.{List, [], _∷_}
-use mathlib.Core.Bool.{Bool, true, false, cond, _||_, false≢true}
+use mathlib.Core.Bool.{Bool, true, false, false≢true}
 use mathlib.Core.Option.{Option, none, some}
 use Prim.Native.Nat.{ℕ, _≤_}
 use native.Mathlib.Omega.{arith}
-use lib.Dec.{eqb}
 use Rattle.definition.specs.Text.{_>>=_, given, linesOf, fieldsOf}
 use Rattle.definition.specs.JobSheet.{Word as Named, opt, bank, class, reg, block, value, vgroup, operand, hint, seg, use′, end, wordNumber, allWords, wordAmong, readRecord, Record, recordOf, recordsOf, next, among, ordered, sheetOf}
 use Rattle.agree.specs.Values.{Small, AllSmall, record-small}

@@ -1,20 +1,20 @@
 -- The records of a sheet stand in the table that they fill: row i of a kind is the i-th record of that kind. Assumes nothing.
 use mathlib.Core.Path.{_≡_, refl, sym, ap, _∙_, subst}
 use mathlib.Core.List.{List, [], _∷_}
-use mathlib.Core.Bool.{Bool, true, false, cond, true≢false, false≢true}
-use Prim.Native.Nat.{ℕ, zero, suc, _+_, _-_, _*_, _≤_, _<_}
+use mathlib.Core.Bool.{Bool, true, false, cond, false≢true}
+use Prim.Native.Nat.{ℕ, _+_, _-_, _≤_, _<_}
 use native.Mathlib.Omega.{arith}
-use lib.ListN.{length, getD, set, replicate, length-replicate, getD-replicate}
+use lib.ListN.{length, getD, set}
 use lib.Seq.{set-out}
 use lib.Dec.{ltb, eqb}
-use borrow.Author.Tests.{ltb-true, ltb-false, lt-ltb, le-ltb, eqb-true, eq-eqb}
-use Rattle.definition.specs.JobSheet.{Word as Named, opt, bank, class, reg, block, value, vgroup, operand, hint, seg, use′, end, wordNumber, Record, only, next, among, ordered}
+use borrow.Author.Tests.{ltb-true, ltb-false, le-ltb, eq-eqb}
+use Rattle.definition.specs.JobSheet.{Record}
 use Rattle.sheet_rules.specs.Rules.{lowOf}
-use Rattle.sheet_places.specs.Places.{limitOf, baseOf, widthOf, storedOf, limits, countAt, rowAt, placeOf, upOf, nowhere, tableWords}
-use Rattle.agree.specs.Table.{Filled, filled, puts, ups, counted, keyed, rowOf, put, fill, blank}
+use Rattle.sheet_places.specs.Places.{limitOf, baseOf, widthOf, storedOf, countAt, rowAt, placeOf, upOf, nowhere, tableWords}
+use Rattle.agree.specs.Table.{Filled, puts, ups, counted, keyed, rowOf, put, fill}
 use Rattle.agree.specs.Values.{Small}
-use Rattle.sheet_rows.specs.Regions.{firstOf, cell, sizes, row-low, apart, count-is}
-use Rattle.sheet_rows.specs.Put.{cnt, key-most, put-long, put-over, put-other, put-field, put-members, put-before, put-count}
+use Rattle.sheet_rows.specs.Regions.{firstOf, cell, sizes, row-low, apart}
+use Rattle.sheet_rows.specs.Put.{cnt, key-most, put-long, put-other, put-field, put-members, put-before, put-count}
 
 -- row i of a kind holds a record's fields; a vgroup's also their number (9 for more), a segment's the number of uses before it
 pub record Row (T : List ℕ) (key i : ℕ) (ns : List ℕ) (u : ℕ) : Type 0 where

@@ -2,12 +2,12 @@ use Rattle.words.specs.Words.{wordsOf}
 use Rattle.words.specs.Laws.{words-replicate}
 use lib.ListN.{drop-of-length-le}
 use mathlib.Core.List.{append-nil}
-use mathlib.Core.Path.{_≡_, refl, sym, ap, _∙_}
-use mathlib.Core.List.{_∷_, [], _++_}
-use Prim.Native.Nat.{ℕ, _≤_, _<_, _-_, _+_, _*_, _^_}
+use mathlib.Core.Path.{_≡_, refl, ap, _∙_}
+use mathlib.Core.List.{_++_}
+use Prim.Native.Nat.{ℕ, _≤_, _-_, _+_}
 use native.Mathlib.Omega.{arith}
 use denote.Ref.{now}
-use lib.ListN.{length, getD, take, drop, replicate, length-set}
+use lib.ListN.{length, drop, replicate, length-set}
 use borrow.Author.Fill.{fill-none, fill-more}
 use borrow.Author.Needs.{needs}
 use Rattle.cells.proofs.clear.Statement.{statement}

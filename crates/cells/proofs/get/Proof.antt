@@ -8,16 +8,10 @@ use borrow.Author.Needs.{needs}
 use Rattle.cells.proofs.get.Statement.{statement}
 use Rattle.cells.proofs.get.Tie as tie
 
-word-at-requires : tie.Need-word-at-requires
-word-at-requires c κs = search needs
-
-returns : tie.Need-returns
-returns c = search needs
-
 returns-2 : tie.Need-returns-2
 returns-2 c =
     let s = now (c .before .before .args .out) in
     sym (List·getD-eq-default (wordsOf s) 0 (omega (arith, length-words s)))
 
 pub get-spec : {M : Type 1} → statement M
-get-spec = tie.close (tie.spec word-at-requires returns returns-2)
+get-spec = tie.close (tie.spec (λ c κs. search needs) (λ c. search needs) returns-2)

@@ -8,19 +8,10 @@ use borrow.Author.Needs.{needs}
 use Rattle.cells.proofs.put.Statement.{statement}
 use Rattle.cells.proofs.put.Tie as tie
 
-put-word-requires : tie.Need-put-word-requires
-put-word-requires c κs = search needs
-
-same-length : tie.Need-same-length
-same-length c = search needs
-
-returns : tie.Need-returns
-returns c = search needs
-
 returns-2 : tie.Need-returns-2
 returns-2 c =
     let s = now (c .before .before .args .out) in
     sym (set-out (wordsOf s) (c .before .before .args .at) (c .before .before .args .v) (omega (arith, length-words s)))
 
 pub put-spec : {M : Type 1} → statement M
-put-spec = tie.close (tie.spec put-word-requires same-length returns returns-2)
+put-spec = tie.close (tie.spec (λ c κs. search needs) (λ c. search needs) (λ c. search needs) returns-2)

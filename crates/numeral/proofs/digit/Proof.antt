@@ -1,6 +1,6 @@
 use Rattle.definition.specs.Text.{digitOf}
 use borrow.Author.Tests.{le-ltb, lt-ltb}
-use mathlib.Core.Path.{refl, sym}
+use mathlib.Core.Path.{sym}
 use borrow.Author.Needs.{needs}
 use Rattle.numeral.proofs.digit.Statement.{statement}
 use Rattle.numeral.proofs.digit.Tie as tie

@@ -1,6 +1,5 @@
 use Rattle.register_sheet.specs.Typed.{flagNumber}
 use borrow.Author.Tests.{eq-eqb, ne-eqb}
-use mathlib.Core.Path.{refl, sym}
 use Rattle.register_sheet.proofs.flag.Statement.{statement}
 use Rattle.register_sheet.proofs.flag.Tie as tie
 

@@ -7,26 +7,8 @@ use borrow.Author.Needs.{needs}
 use Rattle.register_sheet.proofs.put_origin.Statement.{statement}
 use Rattle.register_sheet.proofs.put_origin.Tie as tie
 
-slice-aggregate-put-bytes : tie.Need-slice-aggregate-put-bytes
-slice-aggregate-put-bytes c = search needs
-
-put-bytes-requires : tie.Need-put-bytes-requires
-put-bytes-requires c κs = search needs
-
-same-length : tie.Need-same-length
-same-length c = search needs
-
 returns : tie.Need-returns
 returns c = as-text 10 _ (c .before .before .put-bytes .ensures) (omega arith) (origin-text _ true (eq-eqb _ _ (c .before .before .before .before .before .if1 .taken)))
-
-slice-aggregate-put-bytes-2 : tie.Need-slice-aggregate-put-bytes-2
-slice-aggregate-put-bytes-2 c = search needs
-
-put-bytes-requires-2 : tie.Need-put-bytes-requires-2
-put-bytes-requires-2 c κs = search needs
-
-same-length-2 : tie.Need-same-length-2
-same-length-2 c = search needs
 
 returns-2 : tie.Need-returns-2
 returns-2 c = as-text 10 _ (c .before .before .put-bytes2 .ensures) (omega arith) (origin-text _ false (ne-eqb _ _ (c .before .before .before .before .before .if1 .left)))
@@ -35,11 +17,11 @@ pub put-origin-spec : {M : Type 1} → statement M
 put-origin-spec =
     tie.close
     (tie.spec
-    slice-aggregate-put-bytes
-    put-bytes-requires
-    same-length
+    (λ c. search needs)
+    (λ c κs. search needs)
+    (λ c. search needs)
     returns
-    slice-aggregate-put-bytes-2
-    put-bytes-requires-2
-    same-length-2
+    (λ c. search needs)
+    (λ c κs. search needs)
+    (λ c. search needs)
     returns-2)

@@ -10,12 +10,6 @@ use borrow.Author.Needs.{needs}
 use Rattle.register_sheet.proofs.put_use.Statement.{statement}
 use Rattle.register_sheet.proofs.put_use.Tie as tie
 
-shared-slice-read-use-length : tie.Need-shared-slice-read-use-length
-shared-slice-read-use-length c = search needs
-
-use-length-requires : tie.Need-use-length-requires
-use-length-requires c κs = search needs
-
 slice-aggregate-use-line : tie.Need-slice-aggregate-use-line
 slice-aggregate-use-line c =
     sym (length-take-le (c .before .before .use-length .result) (c .before .before .before .before .before .before .args .row .now) (omega (arith, c .before .before .use-length .ensures .1, c .before .before .before .before .before .before .pre .1)))
@@ -23,9 +17,6 @@ slice-aggregate-use-line c =
 use-line-requires : tie.Need-use-line-requires
 use-line-requires c κs =
     (search needs, omega (arith, length-take-le (c .before .before .use-length .result) (c .before .before .before .before .before .before .args .row .now) (omega (arith, c .before .before .use-length .ensures .1, c .before .before .before .before .before .before .pre .1)), c .before .before .use-length .ensures .1))
-
-same-length : tie.Need-same-length
-same-length c = search needs
 
 returns : tie.Need-returns
 returns c =
@@ -37,9 +28,9 @@ pub put-use-spec : {M : Type 1} → statement M
 put-use-spec =
     tie.close
     (tie.spec
-    shared-slice-read-use-length
-    use-length-requires
+    (λ c. search needs)
+    (λ c κs. search needs)
     slice-aggregate-use-line
     use-line-requires
-    same-length
+    (λ c. search needs)
     returns)

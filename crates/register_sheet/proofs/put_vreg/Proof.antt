@@ -5,17 +5,8 @@ use borrow.Author.Needs.{needs}
 use Rattle.register_sheet.proofs.put_vreg.Statement.{statement}
 use Rattle.register_sheet.proofs.put_vreg.Tie as tie
 
-vreg-head-requires : tie.Need-vreg-head-requires
-vreg-head-requires c κs = search needs
-
-vreg-tail-requires : tie.Need-vreg-tail-requires
-vreg-tail-requires c κs = search needs
-
-same-length : tie.Need-same-length
-same-length c = search needs
-
 returns : tie.Need-returns
 returns c = as-text 256 _ (then (c .before .before .before .before .before .before .vreg-head .ensures) (c .before .before .vreg-tail .ensures)) (omega arith) (vreg-text _ _ _ _ _ _ _)
 
 pub put-vreg-spec : {M : Type 1} → statement M
-put-vreg-spec = tie.close (tie.spec vreg-head-requires vreg-tail-requires same-length returns)
+put-vreg-spec = tie.close (tie.spec (λ c κs. search needs) (λ c κs. search needs) (λ c. search needs) returns)

@@ -1,28 +1,13 @@
 use Rattle.sheet_fields.specs.Fields.{startOf}
 use borrow.Author.Tests.{eq-eqb, ne-eqb}
-use mathlib.Core.Path.{refl, sym}
+use mathlib.Core.Path.{sym}
 use borrow.Author.Needs.{needs}
 use Rattle.sheet_fields.proofs.start.Statement.{statement}
 use Rattle.sheet_fields.proofs.start.Tie as tie
 
-key-of-requires : tie.Need-key-of-requires
-key-of-requires c κs = search needs
-
-follows-requires : tie.Need-follows-requires
-follows-requires c κs = search needs
-
 returns : tie.Need-returns
 unfolding startOf
 returns c = simp (sym (c .before .before .key-of .ensures), sym (c .before .follows .ensures), eq-eqb _ _ (c .if1 .taken))
-
-count-at-requires : tie.Need-count-at-requires
-count-at-requires c κs = search needs
-
-get-requires : tie.Need-get-requires
-get-requires c κs = search needs
-
-row-at-requires : tie.Need-row-at-requires
-row-at-requires c κs = search needs
 
 returns-2 : tie.Need-returns-2
 unfolding startOf
@@ -32,10 +17,10 @@ pub start-spec : {M : Type 1} → statement M
 start-spec =
     tie.close
     (tie.spec
-    key-of-requires
-    follows-requires
+    (λ c κs. search needs)
+    (λ c κs. search needs)
     returns
-    count-at-requires
-    get-requires
-    row-at-requires
+    (λ c κs. search needs)
+    (λ c κs. search needs)
+    (λ c κs. search needs)
     returns-2)

@@ -1,38 +1,8 @@
 use Rattle.sheet_job.specs.Fixed.{fixedLayout}
-use mathlib.Core.Path.{refl, sym}
+use mathlib.Core.Path.{sym}
 use borrow.Author.Needs.{needs}
 use Rattle.sheet_job.proofs.fixed_layout.Statement.{statement}
 use Rattle.sheet_job.proofs.fixed_layout.Tie as tie
-
-table-at-requires : tie.Need-table-at-requires
-table-at-requires c κs = search needs
-
-table-at-requires-2 : tie.Need-table-at-requires-2
-table-at-requires-2 c κs = search needs
-
-table-at-requires-3 : tie.Need-table-at-requires-3
-table-at-requires-3 c κs = search needs
-
-table-at-requires-4 : tie.Need-table-at-requires-4
-table-at-requires-4 c κs = search needs
-
-table-at-requires-5 : tie.Need-table-at-requires-5
-table-at-requires-5 c κs = search needs
-
-table-at-requires-6 : tie.Need-table-at-requires-6
-table-at-requires-6 c κs = search needs
-
-table-at-requires-7 : tie.Need-table-at-requires-7
-table-at-requires-7 c κs = search needs
-
-table-at-requires-8 : tie.Need-table-at-requires-8
-table-at-requires-8 c κs = search needs
-
-table-at-requires-9 : tie.Need-table-at-requires-9
-table-at-requires-9 c κs = search needs
-
-table-at-requires-10 : tie.Need-table-at-requires-10
-table-at-requires-10 c κs = search needs
 
 returns : tie.Need-returns
 unfolding fixedLayout
@@ -42,14 +12,14 @@ pub fixed-layout-spec : {M : Type 1} → statement M
 fixed-layout-spec =
     tie.close
     (tie.spec
-    table-at-requires
-    table-at-requires-2
-    table-at-requires-3
-    table-at-requires-4
-    table-at-requires-5
-    table-at-requires-6
-    table-at-requires-7
-    table-at-requires-8
-    table-at-requires-9
-    table-at-requires-10
+    (λ c κs. search needs)
+    (λ c κs. search needs)
+    (λ c κs. search needs)
+    (λ c κs. search needs)
+    (λ c κs. search needs)
+    (λ c κs. search needs)
+    (λ c κs. search needs)
+    (λ c κs. search needs)
+    (λ c κs. search needs)
+    (λ c κs. search needs)
     returns)

@@ -1,13 +1,9 @@
 use Rattle.sheet_places.specs.Places.{placeOf}
 use borrow.Author.Tests.{eq-eqb, le-ltb, lt-ltb, ne-eqb}
-use mathlib.Core.Path.{refl, sym}
+use mathlib.Core.Path.{sym}
 use borrow.Author.Needs.{needs}
 use Rattle.sheet_places.proofs.place.Statement.{statement}
 use Rattle.sheet_places.proofs.place.Tie as tie
-use Rattle.sheet_places.proofs.stored.Reads as stored-reads
-
-stored-requires : tie.Need-stored-requires
-stored-requires c κs = search needs
 
 returns : tie.Need-returns
 unfolding placeOf
@@ -17,18 +13,9 @@ returns-2 : tie.Need-returns-2
 unfolding placeOf
 returns-2 c = simp (lt-ltb _ _ (c .before .before .before .if1 .taken), sym (c .before .before .stored .ensures), le-ltb _ _ (c .before .if2 .left), lt-ltb _ _ (c .if3 .taken))
 
-add-result : tie.Need-add-result
-add-result c = search needs
-
 returns-3 : tie.Need-returns-3
 unfolding placeOf
 returns-3 c = simp (lt-ltb _ _ (c .before .before .before .before .if1 .taken), sym (c .before .before .before .stored .ensures), le-ltb _ _ (c .before .before .if2 .left), le-ltb _ _ (c .before .if3 .left), eq-eqb _ _ (c .if4 .taken))
-
-sub-result : tie.Need-sub-result
-sub-result c = search needs
-
-add-result-2 : tie.Need-add-result-2
-add-result-2 c = search needs
 
 returns-4 : tie.Need-returns-4
 unfolding placeOf
@@ -42,12 +29,12 @@ pub place-spec : {M : Type 1} → statement M
 place-spec =
     tie.close
     (tie.spec
-    stored-requires
+    (λ c κs. search needs)
     returns
     returns-2
-    add-result
+    (λ c. search needs)
     returns-3
-    sub-result
-    add-result-2
+    (λ c. search needs)
+    (λ c. search needs)
     returns-4
     returns-5)

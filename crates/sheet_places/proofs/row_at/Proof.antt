@@ -1,9 +1,8 @@
 use native.Mathlib.Omega.{arith}
 use Prim.Native.Nat.{_<_}
-use Rattle.sheet_places.specs.Places.{widthOf}
 use Rattle.sheet_places.proofs.Bounds.{limit-lt, base-lt, width-lt, product}
 use borrow.Author.Tests.{le-ltb, lt-ltb}
-use mathlib.Core.Path.{refl, sym}
+use mathlib.Core.Path.{sym}
 use Rattle.sheet_places.specs.Places.{rowAt}
 use borrow.Author.Needs.{needs}
 use Rattle.sheet_places.proofs.row_at.Statement.{statement}

@@ -1,7 +1,5 @@
 use borrow.Author.Tests.{eq-eqb, le-ltb, lt-ltb, ne-eqb}
-use mathlib.Core.Path.{refl, sym}
 use Rattle.sheet_places.specs.Places.{tailOf}
-use borrow.Author.Needs.{needs}
 use Rattle.sheet_places.proofs.tail.Statement.{statement}
 use Rattle.sheet_places.proofs.tail.Tie as tie
 

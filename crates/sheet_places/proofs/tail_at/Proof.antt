@@ -1,6 +1,5 @@
 use Rattle.sheet_places.specs.Places.{tailAt}
 use borrow.Author.Tests.{eq-eqb, le-ltb, lt-ltb, ne-eqb}
-use mathlib.Core.Path.{refl, sym}
 use borrow.Author.Needs.{needs}
 use Rattle.sheet_places.proofs.tail_at.Statement.{statement}
 use Rattle.sheet_places.proofs.tail_at.Tie as tie
@@ -8,9 +7,6 @@ use Rattle.sheet_places.proofs.tail_at.Tie as tie
 returns : tie.Need-returns
 unfolding tailAt
 returns c = simp (lt-ltb _ _ (c .before .if1 .taken), eq-eqb _ _ (c .if2 .taken))
-
-add-result : tie.Need-add-result
-add-result c = search needs
 
 returns-2 : tie.Need-returns-2
 unfolding tailAt
@@ -25,4 +21,4 @@ unfolding tailAt
 returns-4 c = simp (le-ltb _ _ (c .if1 .left))
 
 pub tail-at-spec : {M : Type 1} → statement M
-tail-at-spec = tie.close (tie.spec returns add-result returns-2 returns-3 returns-4)
+tail-at-spec = tie.close (tie.spec returns (λ c. search needs) returns-2 returns-3 returns-4)

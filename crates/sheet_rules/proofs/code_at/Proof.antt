@@ -1,7 +1,7 @@
 use native.Mathlib.Omega.{arith}
 use Rattle.sheet_rules.proofs.Bounds.{form-row-lt}
 use borrow.Author.Tests.{le-ltb, lt-ltb}
-use mathlib.Core.Path.{refl, sym}
+use mathlib.Core.Path.{sym}
 use Rattle.sheet_rules.specs.Rules.{codeAt, forms}
 use borrow.Author.Needs.{needs}
 use Rattle.sheet_rules.proofs.code_at.Statement.{statement}

@@ -1,4 +1,4 @@
-use mathlib.Core.Path.{refl, sym}
+use mathlib.Core.Path.{sym}
 use Rattle.sheet_rules.specs.Rules.{formAt}
 use borrow.Author.Needs.{needs}
 use Rattle.sheet_rules.proofs.form_at.Statement.{statement}

@@ -1,5 +1,4 @@
 use borrow.Author.Tests.{eq-eqb, le-ltb, lt-ltb, ne-eqb}
-use mathlib.Core.Path.{refl, sym}
 use Rattle.sheet_rules.specs.Rules.{formRow}
 use borrow.Author.Needs.{needs}
 use Rattle.sheet_rules.proofs.form_row.Statement.{statement}

@@ -1,7 +1,5 @@
 use borrow.Author.Tests.{eq-eqb, ne-eqb}
-use mathlib.Core.Path.{refl, sym}
 use Rattle.sheet_rules.specs.Rules.{keyOf}
-use borrow.Author.Needs.{needs}
 use Rattle.sheet_rules.proofs.key_of.Statement.{statement}
 use Rattle.sheet_rules.proofs.key_of.Tie as tie
 

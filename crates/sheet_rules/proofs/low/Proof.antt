@@ -1,5 +1,4 @@
 use borrow.Author.Tests.{le-ltb, lt-ltb}
-use mathlib.Core.Path.{refl, sym}
 use Rattle.sheet_rules.specs.Rules.{lowOf}
 use borrow.Author.Needs.{needs}
 use Rattle.sheet_rules.proofs.low.Statement.{statement}
