@@ -15,7 +15,6 @@ use Rattle.definition.specs.Admit.{mappedAt, vgroupAt, setsOf, setsAt}
 use Rattle.definition.specs.Entry.{some-is, apart, samePlace}
 use Rattle.function.specs.Blocks.{blocksAt}
 use Rattle.coalescing.specs.Rows.{valuesAt, vgroupRow, vgroupsAt}
-use Rattle.coalescing.specs.Rows as rows
 use Rattle.coalescing.proofs.Members.{group-row-at}
 use Rattle.operands.specs.declared.FoundOperand.{FoundOperand}
 use Rattle.operands.specs.declared.FoundOperand.the-variants.{At, Nothing}
@@ -49,10 +48,6 @@ pub job-operands : (W : List ℕ) (lay : Layout) → jobOf W lay .operands ≡ o
 unfolding jobOf jobBy
 job-operands W lay = refl
 
-same-sets-of : (job : Job) (ms : List Value) → rows.setsOf job ms ≡ setsOf job ms
-unfolding rows.setsOf setsOf
-same-sets-of job ms = refl
-
 -- ---- operand k
 
 module _ (W : List ℕ) (lay : Layout) (k : ℕ) (o : Operand) (l : k < lay .operands .n) (e : o ≡ operandRow W (lay .operands .at + k * 4)) where
@@ -64,7 +59,7 @@ module _ (W : List ℕ) (lay : Layout) (k : ℕ) (o : Operand) (l : k < lay .ope
 
   pub operand-says : (K : List ℕ) (wl : WorkLayout) (m : ℕ) (x : List ValueSet)
       → ((j : ℕ) → j < lay .operands .n → opAt (operandsIn W lay) j .vgroup .0 < lay .vgroups .n) → m ≡ getD K (wl .mapping + k) 0
-      → ((job : Job) → job .values ≡ valuesAt W (lay .values .at) (lay .values .n) → x ≡ rows.setsOf job (vgroupRow W (lay .vgroups .at + o .vgroup .0 * 9)))
+      → ((job : Job) → job .values ≡ valuesAt W (lay .values .at) (lay .values .n) → x ≡ setsOf job (vgroupRow W (lay .vgroups .at + o .vgroup .0 * 9)))
       → OperandIs W K lay wl k (record { found = true; mapped = m; sets = x })
   operand-says K wl m x f em ex =
       record {
@@ -72,7 +67,6 @@ module _ (W : List ℕ) (lay : Layout) (k : ℕ) (o : Operand) (l : k < lay .ope
         mapped = em;
         sets =
             ex (jobOf W lay) (job-values W lay)
-            ∙ same-sets-of (jobOf W lay) (vgroupRow W (lay .vgroups .at + o .vgroup .0 * 9))
             ∙ ap (λ (ms : List Value). setsOf (jobOf W lay) ms) (group-row-at W (lay .vgroups .at) (lay .vgroups .n) (o .vgroup .0) (group-known f))
             ∙ ap (λ (r : Operand). setsOf (jobOf W lay) (getD (vgroupsAt W (lay .vgroups .at) (lay .vgroups .n)) (r .vgroup .0) [])) is-operand;
       }
