@@ -17,7 +17,7 @@ use Rattle.uses.specs.Rows.{useRow}
 use Rattle.job.specs.Job.{jobOf}
 use Rattle.set_part.specs.Part.{markedUse}
 use Rattle.constraints.specs.declared.WorkLayout.{WorkLayout}
-use Rattle.constraints.specs.Ready.{BackedKind, Backed, Ready}
+use Rattle.constraints.specs.Ready.{BackedAsk, Backed, Ready}
 use Rattle.part_maps.specs.Maps.{MapApart, Outside}
 
 pub outside-none : (lay : Layout) (wl : WorkLayout) (K : List ℕ) → Outside lay wl K K
@@ -68,11 +68,11 @@ module _ (lay : Layout) (wl : WorkLayout) (K K′ : List ℕ) (o : Outside lay w
       }
 
 -- a turned use needs no operand
-pub backed-marked : (t w : ℕ) (W K : List ℕ) (lay : Layout) (wl : WorkLayout) (n : ℕ) (u : Use) → Ready t w W K lay wl → n < lay .uses .n → u ≡ markedUse K (wl .marks) W lay n
+pub backed-marked : (t w : ℕ) (W K : List ℕ) (lay : Layout) (wl : WorkLayout) (n : ℕ) (u : Use) → Ready t w W K lay wl → 0 < lay .segments .n → n < lay .uses .n → u ≡ markedUse K (wl .marks) W lay n
     → Backed (jobOf W lay) u
-unfolding markedUse Backed BackedKind
-backed-marked t w W K lay wl n u r h e = rw e (go (eqb (getD K (wl .marks + n) 0) 0))
+unfolding markedUse Backed BackedAsk
+backed-marked t w W K lay wl n u r l h e = rw e (go (eqb (getD K (wl .marks + n) 0) 0))
   where
     go : (b : Bool) → Backed (jobOf W lay) (cond b (useRow W (lay .uses .at + n * 6)) (turnedUse (useRow W (lay .uses .at + n * 6))))
-    go true = r .backed n h
+    go true = r .backed l n h
     go false = tt

@@ -30,7 +30,8 @@ use Rattle.layout.specs.declared.Layout.{Layout}
 use Rattle.job.specs.Job.{jobOf}
 use Rattle.virt_regs.specs.Encoding.{groupWord}
 use Rattle.constraints.specs.declared.WorkLayout.{WorkLayout}
-use Rattle.constraints.specs.Ready.{operandsIn, Mapping, HasOperand, BackedKind, Backed}
+use Rattle.constraints.specs.Ready.{operandsIn, Mapping, HasOperand, BackedAsk, Backed}
+use Rattle.constraints.specs.Asks.{askOf}
 use Rattle.constraints.proofs.Operand.{said-past}
 use Rattle.part_maps.specs.declared.GroupSlot.{GroupSlot}
 use Rattle.part_maps.specs.Maps.{slotGiven, Outside, MapsTo, PutAt, Maps, mapUse}
@@ -189,7 +190,7 @@ unfolding mapUse
 maps-group W K lay wl g u s r K′ e m = record { outside = m .outside; answers = λ ms h. rw e (m .answers ms h) }
 
 pub backed-group : (job : Job) (u : Use) (s : ℕ) → slotOf (u .kind) ≡ some s → Backed job u → HasOperand job (u .pos) s
-unfolding Backed BackedKind
+unfolding Backed BackedAsk
 backed-group job u s = go (u .kind)
   where
     none-not : none ≡ some s → ⊥
@@ -198,7 +199,7 @@ backed-group job u s = go (u .kind)
     at : (t : ℕ) → some t ≡ some s → HasOperand job (u .pos) t → HasOperand job (u .pos) s
     at t e h = let q : t ≡ s = cc in subst (λ (x : ℕ). HasOperand job (u .pos) x) q h
 
-    go : (k : UseKind) → slotOf k ≡ some s → BackedKind job (u .pos) k → HasOperand job (u .pos) s
+    go : (k : UseKind) → slotOf k ≡ some s → BackedAsk job (u .pos) (askOf k) → HasOperand job (u .pos) s
     go (FixedDef r) e b = absurd (none-not e)
     go (FixedUse r) e b = absurd (none-not e)
     go (TiedUse q d c i) e b = absurd (none-not e)

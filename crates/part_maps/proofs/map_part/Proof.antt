@@ -31,7 +31,7 @@ map-use-requires c κs =
     let s = c .before .before .before .before .before .before .before in
     let l = c .before .before .before .before in
     let r = ready-run _ _ _ _ _ _ _ _ _ _ _ (l .loop .inv .0) (s .pre .1) (l .loop .inv .1) (s .pre .0) in
-    (r, backed-marked _ _ _ _ _ _ _ _ r (omega (arith, c .before .before .before .loop-test .taken, s .pre .2 .fits)) (c .before .marked-use .ensures), s .pre .3)
+    (r, backed-marked _ _ _ _ _ _ _ _ r (omega (arith, s .pre .2 .within)) (omega (arith, c .before .before .before .loop-test .taken, s .pre .2 .fits)) (c .before .marked-use .ensures), s .pre .3)
 
 same-length : tie.Need-same-length Inv-loop μ-loop
 same-length c = omega (arith, c .before .before .before .before .before .before .before .before .loop .inv .1, c .before .before .before .map-use)
