@@ -35,10 +35,10 @@ module _ (lay : Layout) (wl : WorkLayout) (K K′ : List ℕ) (o : Outside lay w
   known-kept w a b k r h l = omega (arith, r .known k h l, number-kept k)
 
 -- the use of a row has its operand
-pub backed-row : (t w : ℕ) (W K : List ℕ) (lay : Layout) (wl : WorkLayout) (k : ℕ) (u : Use) → Ready t w W K lay wl → getD K (wl .turned + k * 4 + 1) 0 < lay .uses .n → u ≡ rowUse K (wl .turned) W lay k
+pub backed-row : (t w : ℕ) (W K : List ℕ) (lay : Layout) (wl : WorkLayout) (k : ℕ) (u : Use) → Ready t w W K lay wl → 0 < lay .segments .n → getD K (wl .turned + k * 4 + 1) 0 < lay .uses .n → u ≡ rowUse K (wl .turned) W lay k
     → Backed (jobOf W lay) u
 unfolding rowUse
-backed-row t w W K lay wl k u r h e = subst (λ (x : Use). Backed (jobOf W lay) x) (sym e) (r .backed (getD K (wl .turned + k * 4 + 1) 0) h)
+backed-row t w W K lay wl k u r l h e = subst (λ (x : Use). Backed (jobOf W lay) x) (sym e) (r .backed l (getD K (wl .turned + k * 4 + 1) 0) h)
 
 -- a BlockparamIn has no operand
 map-opening : (g : VirtRegGroup) (p : Inst) (q : Option ℕ) (us : List Use) (ms : List Mapped) → mapUses g (opening p q ++ us) ms ≡ mapUses g us ms

@@ -22,7 +22,6 @@ use Rattle.definition.specs.Place.{usesOf, segsOf, usesOfPieces, total}
 use Rattle.uses.specs.Rows.{useRow}
 use Rattle.layout.specs.declared.Layout.{Layout}
 use Rattle.set_part.specs.Part.{markedUse}
-use Rattle.turned.specs.declared.Param.{Param}
 use Rattle.turned.specs.declared.TurnedRow.{TurnedRow}
 use Rattle.turned.specs.Turned.{rowTurned}
 use Rattle.virt_regs.specs.declared.OutLayout.{OutLayout}
@@ -30,6 +29,7 @@ use Rattle.virt_regs.specs.declared.PieceRow.{PieceRow}
 use Rattle.virt_regs.specs.Encoding.{segBase, useBase, tablesEnd, useWords, pieceWords, eachPiece}
 use Rattle.virt_regs.specs.Counting.{count-uses-of}
 use Rattle.vreg_put.specs.Written.{Written, written-none, written-use, written-piece}
+use Rattle.conflict_piece.specs.declared.Param.{Param}
 use Rattle.conflict_piece.specs.Conflict.{rowUse, turnedRowAt, turnedRowsOf, paramBy, openCount, conflictRow}
 
 -- the use of a row

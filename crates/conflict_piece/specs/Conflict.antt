@@ -12,8 +12,8 @@ use Rattle.definition.specs.declared.Use.{Use}
 use Rattle.definition.specs.Types.{Turned, val, point}
 use Rattle.uses.specs.Rows.{useRow}
 use Rattle.layout.specs.declared.Layout.{Layout}
-use Rattle.turned.specs.declared.Param.{Param}
 use Rattle.virt_regs.specs.declared.PieceRow.{PieceRow}
+use Rattle.conflict_piece.specs.declared.Param.{Param}
 
 -- the use of row k: as it stands in the job
 unfoldable pub rowUse : List ℕ → ℕ → List ℕ → Layout → ℕ → Use

@@ -6,7 +6,6 @@ use definition::Use;
 use definition::UseKind;
 use definition::Value;
 use layout::Layout;
-use turned::Param;
 use virt_regs::OutLayout;
 use virt_regs::PieceRow;
 ghost use mathlib.Core.Path.{_≡_};
@@ -26,6 +25,12 @@ ghost use Rattle.vreg_put.specs.Written.{Written};
 ghost use Rattle.constraints.specs.Ready.{Ready};
 ghost use Rattle.part_maps.specs.Maps.{MapApart, Maps};
 ghost use Rattle.conflict_piece.specs.Conflict.{rowUse, turnedRowsOf, RowsOk, paramBy, openCount, conflictRow};
+
+// The block parameter, if there is one, that the list of a turned use began with.
+pub struct Param {
+    pub has: bool,
+    pub index: u32,
+}
 
 // The use of turned row k, as it stands in the job.
 pub fn turned_use(job: &[u8], lay: Layout, work: &[u8], turned: usize, k: usize) -> Use
@@ -137,7 +142,7 @@ pub fn map_conflict(
     b: usize,
     g: u32,
 ) -> bool
-    requires { ⌜ Ready (wordCount (now job)) (wordCount (now work)) (wordsOf (now job)) (wordsOf (now work)) lay wl × MapApart lay wl × RowsOk (wordCount (now work)) (wordsOf (now work)) (wl .turned) lay a b × (g < 4294967295) ⌝ }
+    requires { ⌜ Ready (wordCount (now job)) (wordCount (now work)) (wordsOf (now job)) (wordsOf (now work)) lay wl × MapApart lay wl × RowsOk (wordCount (now work)) (wordsOf (now work)) (wl .turned) lay a b × (g < 4294967295) × (0 < lay .segments .n) ⌝ }
     ensures { λ r. ⌜ ((v : Value) (p : Inst) (q : Option ℕ) → Maps (wordsOf (now (job .entry))) (wordsOf (now (work .entry))) lay wl (mapUses (vrgroup g) (usesOf (segsOf (conflictPiece v p q (turnedRowsOf (wordsOf (now (work .entry))) (wl .turned) (wordsOf (now (job .entry))) lay a b) ∷ [])))) r (wordsOf (now (work .exit)))) ⌝ }
 {
     let turned = wl.turned;

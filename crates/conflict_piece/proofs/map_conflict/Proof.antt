@@ -34,7 +34,7 @@ map-use-requires c κs =
     let l = c .before .before .before .before in
     let o = run-outside _ _ _ _ _ _ _ _ _ _ (l .loop .inv .0) in
     let r = ready-run _ _ _ _ _ _ _ _ _ _ _ (l .loop .inv .0) (s .pre .1) (l .loop .inv .1) (s .pre .0) in
-    (r, backed-row _ _ _ _ _ _ _ _ r (known-kept _ _ _ _ o (s .pre .1) _ _ _ _ (s .pre .2) (l .loop .inv .2) (c .before .before .before .loop-test .taken)) (c .before .turned-use .ensures), s .pre .3)
+    (r, backed-row _ _ _ _ _ _ _ _ r (s .pre .4) (known-kept _ _ _ _ o (s .pre .1) _ _ _ _ (s .pre .2) (l .loop .inv .2) (c .before .before .before .loop-test .taken)) (c .before .turned-use .ensures), s .pre .3)
 
 same-length : tie.Need-same-length Inv-loop μ-loop
 same-length c = omega (arith, c .before .before .before .before .before .before .before .before .loop .inv .1, c .before .before .before .map-use)
