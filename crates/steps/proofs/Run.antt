@@ -1,6 +1,6 @@
 -- Each way through a step, as an equation of `run`. Assumes nothing.
 use mathlib.Core.Path.{_≡_, refl, sym, ap, _∙_}
-use Prim.Native.Nat.{ℕ, _*_, _+_, _≤_, _<_}
+use Prim.Native.Nat.{ℕ, _-_, _*_, _+_, _≤_, _<_}
 use native.Mathlib.Omega.{arith}
 use mathlib.Core.Logic.{_≢_}
 use mathlib.Core.Bool.{Bool, true, false}
@@ -9,7 +9,8 @@ use Rattle.definition.specs.declared.Inst.{Inst}
 use Rattle.definition.specs.declared.RegClass.{RegClass}
 use Rattle.definition.specs.declared.ValueSet.{ValueSet}
 use Rattle.definition.specs.declared.Stop.{Stop}
-use Rattle.definition.specs.Types.{Held, Job, Out, done, refused, Stopped, Room, Segment, State, Turned}
+use Rattle.definition.specs.declared.Refusal.the-variants.{Stopped}
+use Rattle.definition.specs.Types.{Held, Job, Out, done, refused, Room, Segment, State, Turned}
 use Rattle.definition.specs.Cuts.{leftCut, rightCut}
 use Rattle.definition.specs.Admit.{Move, whole, turn, cut, halt, move, Scan, through, fails-at, scan, fresh, useAt}
 use Rattle.definition.specs.Place.{_>>=_, place, usesOf}

@@ -52,7 +52,7 @@ class-unmarked K marks W lay c = go (eqb (getD K (marks + c) 0) 0) refl
     go true e h = eqb-true _ _ e
     go false e h = let z : _≡_ {A = ℕ} 0 1 = cc in absurd (omega arith)
 
-row-number : (K : List ℕ) (marks : ℕ) (W : List ℕ) (lay : Layout) (sp : SetPart) (i : ℕ) → turnedRow K marks W lay sp i .number ≡ sp .first + i
+pub row-number : (K : List ℕ) (marks : ℕ) (W : List ℕ) (lay : Layout) (sp : SetPart) (i : ℕ) → turnedRow K marks W lay sp i .number ≡ sp .first + i
 unfolding turnedRow turnedIn
 row-number K marks W lay sp i = refl
 
