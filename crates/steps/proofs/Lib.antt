@@ -1,3 +1,5 @@
 pub mod Read
 pub mod Run
 pub mod Turn
+pub mod Cut
+pub mod Ways

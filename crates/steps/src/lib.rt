@@ -1,8 +1,10 @@
 // The steps over the working part of a set (builder.rs `compute_constraints`).
 use constraints::WorkLayout;
 use layout::Layout;
+use place_end::Ended;
 use set_part::SetPart;
 use turned::TurnedRow;
+use virt_regs::Counts;
 ghost use mathlib.Core.Path.{_≡_};
 ghost use mathlib.Core.Bool.{cond};
 ghost use Prim.Native.Nat.{_+_, _-_, _*_, _≤_, _<_};
@@ -12,6 +14,13 @@ ghost use Rattle.layout.specs.Layout.{Fits};
 ghost use Rattle.set_part.specs.Part.{PartOk};
 ghost use Rattle.turned.specs.Turned.{turnedRow};
 ghost use Rattle.steps.specs.Turns.{turnedWords, turnedOnce, TurnRoom};
+
+// How the steps ended, the rows in use then, and how many uses are turned.
+pub struct StepsEnd {
+    pub end: Ended,
+    pub counts: Counts,
+    pub turned: usize,
+}
 
 // A flag as a word.
 fn flag(b: bool) -> u32
