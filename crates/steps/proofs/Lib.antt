@@ -3,3 +3,4 @@ pub mod Run
 pub mod Turn
 pub mod Cut
 pub mod Ways
+pub mod Changed
