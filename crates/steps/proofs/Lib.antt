@@ -4,3 +4,4 @@ pub mod Turn
 pub mod Cut
 pub mod Ways
 pub mod Changed
+pub mod Moved

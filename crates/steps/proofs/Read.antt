@@ -19,19 +19,21 @@ pub put-row : (O′ O : List ℕ) (i h : ℕ) (t : TurnedRow) → h ≡ cond (t 
 unfolding turnedWords
 put-row O′ O i h t e w = w ∙ ap (λ (x : ℕ). splice O i (t .value .0 ∷ t .number ∷ x ∷ t .param ∷ [])) e
 
-module _ (K : List ℕ) (wl : WorkLayout) (W : List ℕ) (lay : Layout) (sp : SetPart) (c : ℕ) (r : TurnedRow) (h : sp .first ≤ c) (e : r ≡ turnedRow K (wl .marks) W lay sp (c - sp .first)) where
-  number-is : r .number ≡ c
-  number-is =
-      let x : sp .first + (c - sp .first) ≡ c = omega arith in
-      ap (λ (t : TurnedRow). t .number) e ∙ row-number K (wl .marks) W lay sp (c - sp .first) ∙ x
+module _ (K : List ℕ) (wl : WorkLayout) (W : List ℕ) (lay : Layout) (sp : SetPart) (i : ℕ) (r : TurnedRow) (e : r ≡ turnedRow K (wl .marks) W lay sp i) where
+  number-is : r .number ≡ sp .first + i
+  number-is = ap (λ (t : TurnedRow). t .number) e ∙ row-number K (wl .marks) W lay sp i
 
-  pub number-fits : (w n : ℕ) → TurnRoom w lay wl → PartOk W lay sp → c < sp .end → n < lay .uses .n → (wl .turned + n * 4 + 4 ≤ w) × (r .number < 4294967296)
+  pub number-fits : (w n : ℕ) → TurnRoom w lay wl → PartOk W lay sp → sp .first + i < sp .end → n < lay .uses .n → (wl .turned + n * 4 + 4 ≤ w) × (r .number < 4294967296)
   number-fits w n a ok l ln = (omega (arith, a .room), omega (arith, number-is, ok .fits, a .few))
 
-  pub put-once : (K₁ K₂ : List ℕ) (n : ℕ) → K₁ ≡ splice K (wl .turned + n * 4) (turnedWords r) → K₂ ≡ set K₁ (wl .marks + c) 1 → K₂ ≡ turnedOnce K wl n (turnedRow K (wl .marks) W lay sp (c - sp .first))
+  pub put-once : (K₁ K₂ : List ℕ) (n : ℕ) → K₁ ≡ splice K (wl .turned + n * 4) (turnedWords r) → K₂ ≡ set K₁ (wl .marks + (sp .first + i)) 1 → K₂ ≡ turnedOnce K wl n (turnedRow K (wl .marks) W lay sp i)
   unfolding turnedOnce
   put-once K₁ K₂ n e₁ e₂ =
       e₂
-      ∙ ap (λ (k : List ℕ). set k (wl .marks + c) 1) e₁
+      ∙ ap (λ (k : List ℕ). set k (wl .marks + (sp .first + i)) 1) e₁
       ∙ ap (λ (j : ℕ). set (splice K (wl .turned + n * 4) (turnedWords r)) (wl .marks + j) 1) (sym number-is)
       ∙ ap (λ (t : TurnedRow). set (splice K (wl .turned + n * 4) (turnedWords t)) (wl .marks + t .number) 1) e
+
+-- there is a mark for each use
+pub mark-fits : (w : ℕ) (lay : Layout) (wl : WorkLayout) → TurnRoom w lay wl → wl .marks + lay .uses .n ≤ w
+mark-fits w lay wl a = omega (arith, a .marks, a .room)
