@@ -5,3 +5,4 @@ pub mod Cut
 pub mod Ways
 pub mod Changed
 pub mod Moved
+pub mod Fitting
