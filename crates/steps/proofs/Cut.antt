@@ -17,6 +17,8 @@ use Rattle.definition.specs.Place.{usesOf}
 use Rattle.definition.specs.Build.{asOwn, classUses}
 use Rattle.definition.proofs.Fits.{SegsFit, right-fit}
 use Rattle.definition.proofs.Moves.{CutAt, move-cut}
+use Rattle.definition.proofs.Cuts.{cut-uses}
+use Rattle.definition.proofs.Places.{All}
 use Rattle.definition.proofs.Fuel.{cut-falls}
 use Rattle.hints.specs.Hints.{hintAt}
 use Rattle.layout.specs.declared.Layout.{Layout}
@@ -30,6 +32,7 @@ use Rattle.set_part.proofs.Inside.{cut-open, cut-end}
 use Rattle.set_cuts.specs.Cut.{cutPart}
 use Rattle.set_cuts.proofs.Sides.{cut-left, cut-right}
 use Rattle.set_cuts.proofs.Kept.{Sides, cut-sides}
+use Rattle.virt_regs.specs.Each.{Each}
 use Rattle.constraints.specs.declared.WorkLayout.{WorkLayout}
 use Rattle.constraints.specs.Ready.{Ready}
 use Rattle.scans.specs.Marked as scans
@@ -38,8 +41,8 @@ use Rattle.part_maps.proofs.Kept.{ready-kept}
 use Rattle.conflict_piece.specs.Conflict.{rowUse, turnedRowAt, turnedRowsOf, RowsOk}
 use Rattle.vreg_weight.specs.Fair.{Fair, fair-own}
 use Rattle.vreg_weight.specs.Sorted.{sorted-left, sorted-right}
-use Rattle.vreg_weight.specs.Sound.{sound-left, sound-right}
-use Rattle.steps.specs.Laid.{SegsFair, usesLeft, Laid}
+use Rattle.vreg_weight.specs.Sound.{each-left, each-right, each-all, sound-left, sound-right}
+use Rattle.steps.specs.Laid.{UseFits, SegsFair, usesLeft, Laid}
 use Rattle.steps.proofs.Run.{cut-between}
 
 pub job-hints : (W : List ℕ) (lay : Layout) → jobOf W lay .hints ≡ rowsAt hintAt W (lay .hints .at) 3 (lay .hints .n)
@@ -84,6 +87,9 @@ pub fair-part : (t w : ℕ) (W K : List ℕ) (lay : Layout) (wl : WorkLayout) (s
 fair-part t w W K lay wl sp n l =
     fair-own (jobOf W lay) 4096 (partSegs K (wl .marks) W lay sp) (l .fair .sound) (l .fair .sorted) (filled K (wl .marks) W lay sp (l .ok))
 
+pub part-kinds : (t w : ℕ) (W K : List ℕ) (lay : Layout) (wl : WorkLayout) (sp : SetPart) (n : ℕ) → Laid t w W K lay wl sp n → All (UseFits (jobOf W lay)) (usesOf (partSegs K (wl .marks) W lay sp))
+part-kinds t w W K lay wl sp n l = each-all (UseFits (jobOf W lay)) (usesOf (partSegs K (wl .marks) W lay sp)) (l .fair .kinds)
+
 fit-zero : (q : ℕ) (ss : List Segment) → SegsFit q ss → SegsFit 0 ss
 fit-zero q [] f = tt
 fit-zero q (s ∷ ss) f = (omega arith, f .1, f .2, f .3)
@@ -116,6 +122,14 @@ module _ (t w : ℕ) (W K : List ℕ) (lay : Layout) (wl : WorkLayout) (sp : Set
   right-segs : rightCut hs p ss ≡ partSegs K (wl .marks) W lay (cutPart hs W lay p sp .right)
   right-segs = cut-right hs W lay p sp (l .ok) (cut-bounds .0) (cut-bounds .1) K (wl .marks)
 
+  both-kinds : Each (UseFits J) (usesOf (leftCut hs p ss)) × Each (UseFits J) (usesOf (rightCut hs p ss))
+  both-kinds =
+      let k = subst (λ (us : List Use). Each (UseFits J) us) (sym (cut-uses hs p ss)) (l .fair .kinds) in
+      (each-left (UseFits J) (usesOf (leftCut hs p ss)) (usesOf (rightCut hs p ss)) k, each-right (UseFits J) (usesOf (leftCut hs p ss)) (usesOf (rightCut hs p ss)) k)
+
+  pub left-kinds : All (UseFits J) (usesOf (leftCut hs p ss))
+  left-kinds = each-all (UseFits J) (usesOf (leftCut hs p ss)) (both-kinds .0)
+
   pub fair-left : Fair J 4096 (asOwn (partSegs K (wl .marks) W lay (cutPart hs W lay p sp .left)))
   fair-left =
       subst (λ (x : List Segment). Fair J 4096 (asOwn x)) left-segs
@@ -143,6 +157,7 @@ module _ (t w : ℕ) (W K : List ℕ) (lay : Layout) (wl : WorkLayout) (sp : Set
       subst (λ (x : List Segment). SegsFair J x) (sym right-kept)
       (record {
         fit = fit-zero (4 * p .0) (rightCut hs p ss) (right-fit hs p ss 0 (l .fair .fit));
+        kinds = both-kinds .1;
         sound = sound-right J hs p ss (l .fair .sound);
         sorted = sorted-right hs p 0 4096 ss (l .fair .sorted);
       });

@@ -59,6 +59,10 @@ module _ (W : List ℕ) (lay : Layout) (p : Inst) (sp : SetPart) (c : Parts) (ok
       cut-through (jobOf W lay) st top (partSegs K marks W lay sp) 0 p f m (c .left .first) r
       (er ∙ ap (λ (x : types.Held). scan (jobOf W lay) st (tab (markedUse K marks W lay) (c .left .first) (c .left .end - c .left .first)) x) eh ∙ ap (λ (x : List Use). scan (jobOf W lay) st x (fresh top)) us)
 
+-- the uses of a part lie within the job's
+pub part-range : (W : List ℕ) (lay : Layout) (sp : SetPart) → PartOk W lay sp → (sp .first ≤ sp .end) × (sp .end ≤ lay .uses .n) × (0 < lay .segments .n)
+part-range W lay sp ok = (first-le-end W lay sp ok, ok .fits, omega (arith, ok .within))
+
 -- ---- the move of a part, by the kind of the answer
 
 module _ (K : List ℕ) (marks : ℕ) (W : List ℕ) (lay : Layout) (sp : SetPart) (ok : PartOk W lay sp) (st : State) (top : RegClass) (r : MoveAnswer)

@@ -11,13 +11,14 @@ use lib.Seq.{getD-set-other}
 use borrow.Author.Tests.{eqb-true}
 use Rattle.rows.specs.Tab.{tab, tab-snoc, tab-ext}
 use Rattle.rows.specs.Parts.{splice, length-splice, getD-splice-before, getD-splice-in}
-use Rattle.definition.specs.Types.{State, Segment, Turned}
+use Rattle.definition.specs.declared.Use.{Use}
+use Rattle.definition.specs.Types.{Job, State, Segment, Turned}
 use Rattle.definition.specs.Uses.{isClassUse}
 use Rattle.definition.specs.Admit.{useAt}
 use Rattle.definition.specs.Place.{usesOf}
-use Rattle.definition.specs.Build.{classUses, turnAt, turnedAt, turnedUse}
+use Rattle.definition.specs.Build.{classUses, turnAt, turnIn, turnedAt, turnedUse}
 use Rattle.definition.proofs.Moves.{ClassAt}
-use Rattle.definition.proofs.Counts.{classUses-turn, uses-turn}
+use Rattle.definition.proofs.Counts.{classUses-at, classUses-turn, uses-turn}
 use Rattle.definition.proofs.Fits.{SegsFit, turn-fit}
 use Rattle.uses.specs.Rows.{useRow}
 use Rattle.layout.specs.declared.Layout.{Layout}
@@ -31,6 +32,7 @@ use Rattle.turned.specs.Turned.{turnedRow, turnedIn, rowTurned}
 use Rattle.turned.proofs.Marks.{turn-part}
 use Rattle.turned.proofs.Kept.{kept-part}
 use Rattle.virt_regs.specs.declared.OutLayout.{OutLayout}
+use Rattle.virt_regs.specs.Each.{Each}
 use Rattle.constraints.specs.declared.WorkLayout.{WorkLayout}
 use Rattle.constraints.specs.Ready.{Ready, Stands}
 use Rattle.constraints.proofs.Kept.{Same, ready-kept, stands-kept}
@@ -40,7 +42,7 @@ use Rattle.conflict_piece.proofs.Rows.{row-stands}
 use Rattle.vreg_weight.specs.Sorted.{sorted-turn}
 use Rattle.vreg_weight.specs.Sound.{sound-turn-at}
 use Rattle.steps.specs.Turns.{turnedWords, turnedOnce, TurnRoom}
-use Rattle.steps.specs.Laid.{SegsFair, usesLeft, Laid}
+use Rattle.steps.specs.Laid.{UseFits, SegsFair, usesLeft, Laid}
 
 -- a class use is not marked
 pub class-unmarked : (K : List ℕ) (marks : ℕ) (W : List ℕ) (lay : Layout) (c : ℕ) → isClassUse (markedUse K marks W lay c .kind) ≡ true → getD K (marks + c) 0 ≡ 0
@@ -192,6 +194,17 @@ module _ (K W : List ℕ) (lay : Layout) (wl : WorkLayout) (sp : SetPart) (n i :
       ∙ ap (λ us. suc (classUses us)) (uses-turn i (partSegs K (wl .marks) W lay sp))
       ∙ classUses-turn (usesOf (partSegs K (wl .marks) W lay sp)) i (c .0) (c .1)
 
+kinds-turn : (J : Job) (n : ℕ) (us : List Use) → Each (UseFits J) us → Each (UseFits J) (turnIn n us)
+unfolding turnIn Each
+kinds-turn J n [] h = tt
+kinds-turn J zero (u ∷ us) h = (tt, h .1)
+kinds-turn J (suc n) (u ∷ us) h = (h .0, kinds-turn J n us (h .1))
+
+-- there is a row left for a class use
+pub turn-room : (t w : ℕ) (W K : List ℕ) (lay : Layout) (wl : WorkLayout) (sp : SetPart) (n i : ℕ) → Laid t w W K lay wl sp n → ClassAt (usesOf (partSegs K (wl .marks) W lay sp)) i → n < lay .uses .n
+unfolding usesLeft
+turn-room t w W K lay wl sp n i l c = omega (arith, l .left, classUses-at (usesOf (partSegs K (wl .marks) W lay sp)) i (c .0) (c .1))
+
 pub laid-turn : (t w : ℕ) (W K : List ℕ) (lay : Layout) (wl : WorkLayout) (sp : SetPart) (n i : ℕ) → w ≡ length K → Laid t w W K lay wl sp n → n < lay .uses .n
     → ClassAt (usesOf (partSegs K (wl .marks) W lay sp)) i → Laid t w W (turnedOnce K wl n (turnedRow K (wl .marks) W lay sp i)) lay wl sp (n + 1)
 laid-turn t w W K lay wl sp n i ew =
@@ -211,6 +224,9 @@ laid-turn t w W K lay wl sp n i ew =
       subst (λ (ss : List Segment). SegsFair (jobOf W lay) ss) (sym (turn-segs K W lay wl sp n i m a (l .ok) ln c))
       (record {
         fit = turn-fit (partSegs K (wl .marks) W lay sp) i 0 (l .fair .fit);
+        kinds =
+        subst (λ (us : List Use). Each (UseFits (jobOf W lay)) us) (sym (uses-turn i (partSegs K (wl .marks) W lay sp)))
+        (kinds-turn (jobOf W lay) i (usesOf (partSegs K (wl .marks) W lay sp)) (l .fair .kinds));
         sound = sound-turn-at (jobOf W lay) i (partSegs K (wl .marks) W lay sp) (l .fair .sound);
         sorted = sorted-turn i 0 4096 (partSegs K (wl .marks) W lay sp) (l .fair .sorted);
       });

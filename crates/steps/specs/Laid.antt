@@ -4,11 +4,13 @@ use mathlib.Core.Path.{_≡_}
 use mathlib.Core.Bool.{true}
 use mathlib.Core.List.{List}
 use Rattle.rows.specs.RowsAt.{rowsAt}
+use Rattle.definition.specs.declared.Use.{Use}
 use Rattle.definition.specs.Types.{Job, Segment}
 use Rattle.definition.specs.Entry.{chained, notAfter}
 use Rattle.definition.specs.Place.{usesOf}
 use Rattle.definition.specs.Build.{classUses}
 use Rattle.definition.proofs.Fits.{SegsFit}
+use Rattle.definition.proofs.Admission.{KindFits}
 use Rattle.hints.specs.Hints.{hintAt}
 use Rattle.layout.specs.declared.Layout.{Layout}
 use Rattle.job.specs.Job.{jobOf}
@@ -23,9 +25,14 @@ use Rattle.vreg_weight.specs.Sorted.{Sorted}
 use Rattle.vreg_weight.specs.Sound.{Sound}
 use Rattle.steps.specs.Turns.{TurnRoom}
 
+-- a group use is as the entry rules have it
+abbrev pub UseFits : Job → Use → Type 0
+UseFits J u = KindFits J (u .pos) (u .kind)
+
 -- segments that can be placed: they fit as the entry rules have it, and can be weighed
 pub record SegsFair (J : Job) (ss : List Segment) : Type 0 where
   pub fit : SegsFit 0 ss
+  pub kinds : Each (UseFits J) (usesOf ss)
   pub sound : Each (Sound J) (usesOf ss)
   pub sorted : Sorted 0 4096 ss
 
