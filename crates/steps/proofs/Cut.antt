@@ -154,13 +154,13 @@ module _ (t w : ℕ) (W K : List ℕ) (lay : Layout) (wl : WorkLayout) (sp : Set
       hints = l .hints;
       ok = cut-parts .right-side;
       fair =
-      subst (λ (x : List Segment). SegsFair J x) (sym right-kept)
-      (record {
-        fit = fit-zero (4 * p .0) (rightCut hs p ss) (right-fit hs p ss 0 (l .fair .fit));
-        kinds = both-kinds .1;
-        sound = sound-right J hs p ss (l .fair .sound);
-        sorted = sorted-right hs p 0 4096 ss (l .fair .sorted);
-      });
+          subst (λ (x : List Segment). SegsFair J x) (sym right-kept)
+          (record {
+            fit = fit-zero (4 * p .0) (rightCut hs p ss) (right-fit hs p ss 0 (l .fair .fit));
+            kinds = both-kinds .1;
+            sound = sound-right J hs p ss (l .fair .sound);
+            sorted = sorted-right hs p 0 4096 ss (l .fair .sorted);
+          });
       rows = rows-ok-kept lay wl K K′ o (l .mapping) W w 0 n (l .rows);
       left = omega (arith, l .left, right-left);
     }

@@ -221,15 +221,15 @@ laid-turn t w W K lay wl sp n i ew =
       hints = l .hints;
       ok = l .ok;
       fair =
-      subst (λ (ss : List Segment). SegsFair (jobOf W lay) ss) (sym (turn-segs K W lay wl sp n i m a (l .ok) ln c))
-      (record {
-        fit = turn-fit (partSegs K (wl .marks) W lay sp) i 0 (l .fair .fit);
-        kinds =
-        subst (λ (us : List Use). Each (UseFits (jobOf W lay)) us) (sym (uses-turn i (partSegs K (wl .marks) W lay sp)))
-        (kinds-turn (jobOf W lay) i (usesOf (partSegs K (wl .marks) W lay sp)) (l .fair .kinds));
-        sound = sound-turn-at (jobOf W lay) i (partSegs K (wl .marks) W lay sp) (l .fair .sound);
-        sorted = sorted-turn i 0 4096 (partSegs K (wl .marks) W lay sp) (l .fair .sorted);
-      });
+          subst (λ (ss : List Segment). SegsFair (jobOf W lay) ss) (sym (turn-segs K W lay wl sp n i m a (l .ok) ln c))
+          (record {
+            fit = turn-fit (partSegs K (wl .marks) W lay sp) i 0 (l .fair .fit);
+            kinds =
+                subst (λ (us : List Use). Each (UseFits (jobOf W lay)) us) (sym (uses-turn i (partSegs K (wl .marks) W lay sp)))
+                (kinds-turn (jobOf W lay) i (usesOf (partSegs K (wl .marks) W lay sp)) (l .fair .kinds));
+            sound = sound-turn-at (jobOf W lay) i (partSegs K (wl .marks) W lay sp) (l .fair .sound);
+            sorted = sorted-turn i 0 4096 (partSegs K (wl .marks) W lay sp) (l .fair .sorted);
+          });
       rows = once-known K lay wl n row m a ln lc (l .rows);
       left = omega (arith, l .left, turn-left K W lay wl sp n i m a (l .ok) ln c);
     })

@@ -118,9 +118,7 @@ pub fn cut_front(
     let left = parts.left;
     let right = parts.right;
     let first = scans::fresh_held(top);
-    let r = scans::scan_uses(
-        job, lay, out, ol, work, wl, first, left.first, left.end,
-    );
+    let r = scans::scan_uses(job, lay, out, ol, work, wl, first, left.first, left.end);
     let held = r.held;
     Front { left, right, held }
 }
