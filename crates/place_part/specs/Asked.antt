@@ -5,11 +5,13 @@ use mathlib.Core.Option.{some}
 use mathlib.Core.List.{List}
 use Prim.Native.Nat.{ℕ, _+_, _^_, _≤_, _<_}
 use lib.ListN.{length}
+use Rattle.definition.specs.declared.ValueSet.{ValueSet}
 use Rattle.definition.specs.declared.VirtReg.{VirtReg}
 use Rattle.definition.specs.declared.VirtRegGroup.{VirtRegGroup}
-use Rattle.definition.specs.Types.{Job, HeldGroup, Piece, State}
+use Rattle.definition.specs.Types.{Job, HeldGroup, Piece, Mapped, State}
 use Rattle.definition.specs.RegInfo.{classAt}
 use Rattle.definition.specs.Admit.{membersAt}
+use Rattle.definition.specs.Place.{hasRoom, leadState}
 use Rattle.definition.specs.Build.{asOwn}
 use Rattle.layout.specs.declared.Layout.{Layout}
 use Rattle.job.specs.Job.{jobOf}
@@ -17,12 +19,14 @@ use Rattle.set_part.specs.declared.SetPart.{SetPart}
 use Rattle.set_part.specs.Part.{PartOk, partSegs}
 use Rattle.virt_regs.specs.declared.OutLayout.{OutLayout}
 use Rattle.virt_regs.specs.declared.Counts.{Counts}
-use Rattle.virt_regs.specs.Encoding.{tablesEnd, countsOf, Holds}
+use Rattle.virt_regs.specs.Encoding.{tablesEnd, roomOf, countsOf, Holds}
 use Rattle.members.specs.Places.{regOf, groupOf}
 use Rattle.constraints.specs.declared.Held.{Held}
 use Rattle.constraints.specs.declared.WorkLayout.{WorkLayout}
+use Rattle.constraints.specs.Held.{heldOf}
 use Rattle.constraints.specs.Ready.{Ready, Stands}
 use Rattle.use_costs.specs.Book.{SmallBook}
+use Rattle.vreg_weight.specs.Fair.{Fair}
 use Rattle.part_maps.specs.Maps.{MapApart}
 use Rattle.place.specs.Ready.{Left}
 use Rattle.place_end.specs.declared.Ended.the-variants as ended
@@ -69,3 +73,9 @@ pub record Asked (t w o : ℕ) (W K O : List ℕ) (lay : Layout) (ol : OutLayout
 pub record RoomEnds (ol : OutLayout) (O : List ℕ) (r : PlaceEnd) (b : Bool) (st : State) : Type 0 where
   pub full : b ≡ false → r .end ≡ ended.Full
   pub done : b ≡ true → (r .end ≡ ended.Done) × Left ol O (r .counts) st
+
+-- a register that leads a new group is placed, or there is no room, for every state that the words O hold
+abbrev pub LeadPut : Job → OutLayout → List ℕ → List ℕ → Counts → ValueSet → Held → PlaceEnd → List Piece → Type 0
+LeadPut J ol O O′ c vs h r ps =
+    (st : State) (ms : List Mapped) → Holds ol O st → c ≡ countsOf st → HeldFits J st h → Fair J 4096 ps
+    → RoomEnds ol O′ r (hasRoom (roomOf ol) st 1 1 ps) (leadState J vs (heldOf h) (groupHeld h) ps st ms)
