@@ -67,7 +67,18 @@ pub fn place_alone(
     write_part(job, lay, work, wl.marks, sp, out, ol, c.segs, c.uses);
     let class = held.class;
     let n = finish_alone(
-        job, lay, out, ol, work, wl.starts, c, set, class, np, nu, hint,
+        job,
+        lay,
+        out,
+        ol,
+        work,
+        wl.starts,
+        c,
+        set,
+        class,
+        np,
+        nu,
+        hint,
     );
     PlaceEnd {
         end: Ended::Done,
@@ -106,7 +117,20 @@ pub fn place_join(
     write_part(job, lay, work, wl.marks, sp, out, ol, c.segs, c.uses);
     let class = held.class;
     let n = finish_join(
-        job, lay, out, ol, work, wl.starts, c, set, class, g, held.index, np, nu, hint,
+        job,
+        lay,
+        out,
+        ol,
+        work,
+        wl.starts,
+        c,
+        set,
+        class,
+        g,
+        held.index,
+        np,
+        nu,
+        hint,
     );
     PlaceEnd {
         end: Ended::Done,
@@ -142,7 +166,19 @@ fn put_lead(
     write_part(job, lay, work, wl.marks, sp, out, ol, c.segs, c.uses);
     let class = held.class;
     let n = finish_lead(
-        job, lay, out, ol, work, wl.starts, c, set, class, held.index, np, nu, hint,
+        job,
+        lay,
+        out,
+        ol,
+        work,
+        wl.starts,
+        c,
+        set,
+        class,
+        held.index,
+        np,
+        nu,
+        hint,
     );
     PlaceEnd {
         end: Ended::Done,
@@ -206,10 +242,32 @@ fn put_merge(
     }
     let hint = hint_in_part(job, lay, sp);
     let gaps = open_gaps(out, ol, c, v, k, np, nu, hint);
-    write_part(job, lay, work, wl.marks, sp, out, ol, gaps.pieces, gaps.uses);
+    write_part(
+        job,
+        lay,
+        work,
+        wl.marks,
+        sp,
+        out,
+        ol,
+        gaps.pieces,
+        gaps.uses,
+    );
     let class = held.class;
     let n = finish_merge(
-        job, lay, out, ol, work, wl.starts, c, class, g, v, held.index, np, nu,
+        job,
+        lay,
+        out,
+        ol,
+        work,
+        wl.starts,
+        c,
+        class,
+        g,
+        v,
+        held.index,
+        np,
+        nu,
     );
     PlaceEnd {
         end: Ended::Done,

@@ -20,13 +20,13 @@ returns : tie.Need-returns
 returns c =
     let p = c .before .before .before .before .before .before .before .before .before .pre in
     λ st q hf f.
-        merge-stopped _ _ _ _ _ _ _ _ _ st _ _ _ _ _ (p .0 .part) q (sym (c .enum-told .given .1) ∙ c .before .before .find-place .ensures st (q .stands .tables) (hf .target (p .1) _ (p .3))) refl
+    merge-stopped _ _ _ _ _ _ _ _ _ st _ _ _ _ _ (p .0 .part) q (sym (c .enum-told .given .1) ∙ c .before .before .find-place .ensures st (q .stands .tables) (hf .target (p .1) _ (p .3))) refl
 
 returns-2 : tie.Need-returns-2
 returns-2 c =
     let p = c .before .before .before .before .before .before .before .before .before .before .before .before .before .before .pre in
     λ st q hf f.
-        merge-put _ _ _ _ _ _ _ _ _ st _ _ _ _ _ (p .0 .part) q _ (λ z hs here. sym (c .before .before .before .before .before .k .given .1) ∙ c .before .before .before .before .before .before .before .find-place .ensures z hs here) (hf .target (p .1) _ (p .3)) hf f (c .before .before .put-merge .ensures)
+    merge-put _ _ _ _ _ _ _ _ _ st _ _ _ _ _ (p .0 .part) q _ (λ z hs here. sym (c .before .before .before .before .before .k .given .1) ∙ c .before .before .before .before .before .before .before .find-place .ensures z hs here) (hf .target (p .1) _ (p .3)) hf f (c .before .before .put-merge .ensures)
 
 pub place-merge-spec : {M : Type 1} → statement M
 place-merge-spec =

@@ -29,7 +29,7 @@ write-part-requires c κs =
     let here = a .fits .target (p .1) _ (p .3) in (
       (a .ready .fits, a .part, a .ready .marks, omega (arith, a .long, c .before .before .before .open-gaps)),
       gap-room _ _ _ _ _ _ _ _ _ _ _ _ a _ (p .1) (p .3) _ (p .4) _ (c .before .before .before .before .before .before .before .has-room .ensures) (not-false (c .before .before .before .before .before .before .before .has-room .result) (c .before .before .before .before .before .before .if1 .left)) _ _ _ _
-      (c .before .before .before .open-gaps .ensures (a .st) (a .holds) (a .counts) here (placed-before _ _ _ _ _ _ (p .4) (a .st) (a .holds) here)),
+          (c .before .before .before .open-gaps .ensures (a .st) (a .holds) (a .counts) here (placed-before _ _ _ _ _ _ (p .4) (a .st) (a .holds) here)),
     )
 
 finish-merge-requires : tie.Need-finish-merge-requires
@@ -50,8 +50,8 @@ returns-2 c =
     let yes = not-false (c .before .before .before .before .before .before .before .before .before .before .before .before .before .before .before .has-room .result) (c .before .before .before .before .before .before .before .before .before .before .before .before .before .before .if1 .left) in
     let m = asked-room _ _ _ _ _ _ _ _ _ _ _ _ a _ _ _ (c .before .before .before .before .before .before .before .before .before .before .before .before .before .before .before .has-room .ensures) yes in
     λ st hs ec sn hf f.
-        room-done _ _ _ _ _ _ (said-at _ _ _ _ _ st _ _ _ _ _ (a .part) ec (c .before .before .before .before .before .before .before .before .before .before .before .before .before .before .before .has-room .ensures)) yes refl
-        (c .before .before .finish-merge .ensures .1 st _ _ _ (part-filled _ _ _ _ _ st _ _ _ _ _ _ _ _ _ _ _ (a .part) hs ec (hf .target (p .1) _ (p .3)) sn f (p .4) (c .before .before .before .before .before .before .before .before .before .before .before .open-gaps .ensures st hs ec (hf .target (p .1) _ (p .3)) (placed-before _ _ _ _ _ _ (p .4) st hs (hf .target (p .1) _ (p .3)))) (c .before .before .before .before .before .before .before .write-part .ensures) (c .before .before .before .before .before .before .before .before .before .before .before .before .before .hint-in-part .ensures) (m .1) (m .2)) (held-class _) refl (hf .group (p .1) _ (p .2) .0))
+    room-done _ _ _ _ _ _ (said-at _ _ _ _ _ st _ _ _ _ _ (a .part) ec (c .before .before .before .before .before .before .before .before .before .before .before .before .before .before .before .has-room .ensures)) yes refl
+    (c .before .before .finish-merge .ensures .1 st _ _ _ (part-filled _ _ _ _ _ st _ _ _ _ _ _ _ _ _ _ _ (a .part) hs ec (hf .target (p .1) _ (p .3)) sn f (p .4) (c .before .before .before .before .before .before .before .before .before .before .before .open-gaps .ensures st hs ec (hf .target (p .1) _ (p .3)) (placed-before _ _ _ _ _ _ (p .4) st hs (hf .target (p .1) _ (p .3)))) (c .before .before .before .before .before .before .before .write-part .ensures) (c .before .before .before .before .before .before .before .before .before .before .before .before .before .hint-in-part .ensures) (m .1) (m .2)) (held-class _) refl (hf .group (p .1) _ (p .2) .0))
 
 pub put-merge-spec : {M : Type 1} → statement M
 put-merge-spec =
