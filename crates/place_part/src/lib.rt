@@ -28,7 +28,7 @@ ghost use mathlib.Core.Option.{some};
 ghost use Prim.Native.Nat.{_<_};
 ghost use Rattle.words.specs.Words.{wordCount, wordsOf};
 ghost use Rattle.definition.specs.Types.{State};
-ghost use Rattle.definition.specs.Place.{alone, lead, join, merge};
+ghost use Rattle.definition.specs.Place.{alone, lead, join, merge, place};
 ghost use Rattle.job.specs.Job.{jobOf};
 ghost use Rattle.virt_regs.specs.Encoding.{roomOf};
 ghost use Rattle.constraints.specs.Held.{heldOf};
@@ -303,4 +303,36 @@ pub fn place_merge(
         },
         Place::At(k) => put_merge(job, lay, out, ol, work, wl, sp, held, g, v, k, c),
     }
+}
+
+// As what is held says.
+pub fn place_part(
+    job: &[u8],
+    lay: Layout,
+    out: &mut [u8],
+    ol: OutLayout,
+    work: &mut [u8],
+    wl: WorkLayout,
+    sp: SetPart,
+    set: ValueSet,
+    held: Held,
+    c: Counts,
+) -> PlaceEnd
+    requires { ⌜ Asked (wordCount (now job)) (wordCount (now work)) (wordCount (now out)) (wordsOf (now job)) (wordsOf (now work)) (wordsOf (now out)) lay ol wl sp held c ⌝ }
+    ensures { λ r. ⌜ ((st : State) → Standing (jobOf (wordsOf (now (job .entry))) lay) ol (wordsOf (now (out .entry))) (wordsOf (now (job .entry))) (wordsOf (now (work .entry))) lay wl c st → HeldFits (jobOf (wordsOf (now (job .entry))) lay) st held
+        → Fair (jobOf (wordsOf (now (job .entry))) lay) 4096 (newPieces (wordsOf (now (work .entry))) wl (wordsOf (now (job .entry))) lay sp)
+        → Ends (jobOf (wordsOf (now (job .entry))) lay) ol (wordsOf (now (job .entry))) lay wl (wordsOf (now (work .entry))) (wordsOf (now (out .exit))) (wordsOf (now (work .exit))) r (place (jobOf (wordsOf (now (job .entry))) lay) (roomOf ol) set (heldOf held) (newPieces (wordsOf (now (work .entry))) wl (wordsOf (now (job .entry))) lay sp) st)) ⌝ }
+{
+    if !held.grouped {
+        return place_alone(job, lay, out, ol, work, wl, sp, set, held, c);
+    }
+    if held.mapped == 0 {
+        return place_lead(job, lay, out, ol, work, wl, sp, set, held, c);
+    }
+    let g = VirtRegGroup(held.mapped - 1);
+    if held.target == 0 {
+        return place_join(job, lay, out, ol, work, wl, sp, set, held, g, c);
+    }
+    let v = VirtReg(held.target - 1);
+    place_merge(job, lay, out, ol, work, wl, sp, held, g, v, c)
 }
