@@ -20,6 +20,7 @@ use Rattle.definition.specs.Admit.{membersAt}
 use Rattle.definition.specs.Build.{asOwn}
 use Rattle.definition.specs.Place.{usesOf, segsOf, hasRoom, gate, made, spread, groupWeight, join, joinState, lead, leadState, mapUses, isNone, orElse}
 use Rattle.layout.specs.declared.Layout.{Layout}
+use Rattle.job.specs.Job.{jobOf}
 use Rattle.set_part.specs.declared.SetPart.{SetPart}
 use Rattle.set_part.specs.Part.{partRow, segBy, markedUse, partSegs}
 use Rattle.virt_regs.specs.declared.OutLayout.{OutLayout}
@@ -32,7 +33,7 @@ use Rattle.constraints.specs.declared.WorkLayout.{WorkLayout}
 use Rattle.constraints.specs.Held.{heldOf}
 use Rattle.constraints.specs.Ready.{operandsIn, Mapping, Ready}
 use Rattle.part_pieces.proofs.Rows.{own-segs}
-use Rattle.part_maps.specs.Maps.{Outside, MapsTo, Maps}
+use Rattle.part_maps.specs.Maps.{MapApart, Outside, MapsTo, Maps}
 use Rattle.part_maps.proofs.Kept.{outside-none, marked-kept, ready-kept}
 use Rattle.place.specs.Ready.{Left}
 use Rattle.place_end.specs.declared.Ended.the-variants as ended
@@ -61,6 +62,12 @@ module _ (t w o : ℕ) (W K O : List ℕ) (lay : Layout) (ol : OutLayout) (wl : 
   asked-group g e eg = omega (arith, a .fits .group e g eg .0, a .groups, a .holds .fit-groups)
 
 -- where the mapping alone is changed
+pub pieces-kept : (W K K′ : List ℕ) (lay : Layout) (wl : WorkLayout) (sp : SetPart) → Outside lay wl K K′ → MapApart lay wl → newPieces K′ wl W lay sp ≡ newPieces K wl W lay sp
+unfolding partSegs
+pieces-kept W K K′ lay wl sp x a =
+    let e : markedUse K′ (wl .marks) W lay ≡ markedUse K (wl .marks) W lay = λ y n. marked-kept lay wl K K′ x a W n y in
+    ap (λ (f : ℕ → Use). asOwn (tab (λ i. segBy f (partRow W lay sp i)) (sp .seg) (sp .last + 1 - sp .seg))) e
+
 pub asked-kept : (t o : ℕ) (W O work work′ : List ℕ) (lay : Layout) (ol : OutLayout) (wl : WorkLayout) (sp : SetPart) (h : Held) (c : Counts) → Outside lay wl (wordsOf work) (wordsOf work′)
     → Asked t (wordCount work) o W (wordsOf work) O lay ol wl sp h c → Asked t (wordCount work′) o W (wordsOf work′) O lay ol wl sp h c
 asked-kept t o W O work work′ lay ol wl sp h c x a =
@@ -79,14 +86,9 @@ asked-kept t o W O work work′ lay ol wl sp h c x a =
       holds = a .holds;
       counts = a .counts;
       fits = a .fits;
+      sane = a .sane;
+      fair = subst (λ (ps : List Piece). Fair (jobOf W lay) 4096 ps) (sym (pieces-kept W (wordsOf work) (wordsOf work′) lay wl sp x (a .apart))) (a .fair);
     }
-
-pub pieces-kept : (W K K′ : List ℕ) (lay : Layout) (wl : WorkLayout) (sp : SetPart) (t w o : ℕ) (O : List ℕ) (ol : OutLayout) (h : Held) (c : Counts) → Outside lay wl K K′ → Asked t w o W K O lay ol wl sp h c
-    → newPieces K′ wl W lay sp ≡ newPieces K wl W lay sp
-unfolding partSegs
-pieces-kept W K K′ lay wl sp t w o O ol h c x a =
-    let e : markedUse K′ (wl .marks) W lay ≡ markedUse K (wl .marks) W lay = λ y n. marked-kept lay wl K K′ x (a .apart) W n y in
-    ap (λ (f : ℕ → Use). asOwn (tab (λ i. segBy f (partRow W lay sp i)) (sp .seg) (sp .last + 1 - sp .seg))) e
 
 -- ---- in an empty place of a group
 

@@ -6,12 +6,13 @@ use mathlib.Core.List.{List}
 use Prim.Native.Nat.{ℕ, _+_, _^_, _≤_, _<_}
 use lib.ListN.{length}
 use Rattle.definition.specs.declared.ValueSet.{ValueSet}
+use Rattle.definition.specs.declared.LiveRangePoint.{LiveRangePoint}
 use Rattle.definition.specs.declared.VirtReg.{VirtReg}
 use Rattle.definition.specs.declared.VirtRegGroup.{VirtRegGroup}
 use Rattle.definition.specs.Types.{Job, HeldGroup, Piece, Mapped, State}
 use Rattle.definition.specs.RegInfo.{classAt}
-use Rattle.definition.specs.Admit.{membersAt}
-use Rattle.definition.specs.Place.{hasRoom, leadState}
+use Rattle.definition.specs.Admit.{registerAt, membersAt}
+use Rattle.definition.specs.Place.{hasRoom, leadState, mergeState}
 use Rattle.definition.specs.Build.{asOwn}
 use Rattle.layout.specs.declared.Layout.{Layout}
 use Rattle.job.specs.Job.{jobOf}
@@ -20,6 +21,8 @@ use Rattle.set_part.specs.Part.{PartOk, partSegs}
 use Rattle.virt_regs.specs.declared.OutLayout.{OutLayout}
 use Rattle.virt_regs.specs.declared.Counts.{Counts}
 use Rattle.virt_regs.specs.Encoding.{tablesEnd, roomOf, countsOf, Holds}
+use Rattle.vreg_find.specs.declared.Place.the-variants.{At}
+use Rattle.vreg_find.specs.Ends.{placeOf}
 use Rattle.members.specs.Places.{regOf, groupOf}
 use Rattle.constraints.specs.declared.Held.{Held}
 use Rattle.constraints.specs.declared.WorkLayout.{WorkLayout}
@@ -68,6 +71,8 @@ pub record Asked (t w o : ℕ) (W K O : List ℕ) (lay : Layout) (ol : OutLayout
   pub holds : Holds ol O st
   pub counts : c ≡ countsOf st
   pub fits : HeldFits (jobOf W lay) st h
+  pub sane : Sane (jobOf W lay) st
+  pub fair : Fair (jobOf W lay) 4096 (newPieces K wl W lay sp)
 
 -- by whether there is room: the table is full, or the words hold st
 pub record RoomEnds (ol : OutLayout) (O : List ℕ) (r : PlaceEnd) (b : Bool) (st : State) : Type 0 where
@@ -79,3 +84,12 @@ abbrev pub LeadPut : Job → OutLayout → List ℕ → List ℕ → Counts → 
 LeadPut J ol O O′ c vs h r ps =
     (st : State) (ms : List Mapped) → Holds ol O st → c ≡ countsOf st → HeldFits J st h → Fair J 4096 ps
     → RoomEnds ol O′ r (hasRoom (roomOf ol) st 1 1 ps) (leadState J vs (heldOf h) (groupHeld h) ps st ms)
+
+-- the place in register v for pieces from a up to b is before its piece k
+abbrev pub PlacedAt : OutLayout → List ℕ → VirtReg → LiveRangePoint → LiveRangePoint → ℕ → Type 0
+PlacedAt ol O v a b k = (st : State) → Holds ol O st → v .0 < length (st .registers) → At k ≡ placeOf a b (registerAt st v .pieces)
+
+-- pieces are merged into register v, or there is no room, for every state that the words O hold
+abbrev pub MergePut : Job → OutLayout → List ℕ → List ℕ → Counts → Held → VirtRegGroup → VirtReg → PlaceEnd → List Piece → Type 0
+MergePut J ol O O′ c h g v r ps =
+    (st : State) → Holds ol O st → c ≡ countsOf st → Sane J st → HeldFits J st h → Fair J 4096 ps → RoomEnds ol O′ r (hasRoom (roomOf ol) st 0 0 ps) (mergeState J (heldOf h) (groupHeld h) g v ps st)

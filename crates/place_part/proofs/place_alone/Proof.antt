@@ -28,8 +28,8 @@ returns-2 : tie.Need-returns-2
 returns-2 c =
     let a = c .before .before .before .before .before .before .before .before .before .before .before .before .before .before .before .before .before .before .pre in
     λ st q f.
-        alone-done _ _ _ _ _ _ _ _ _ st _ _ _ _ q (sym (said-at _ _ _ _ _ st _ _ _ _ _ (a .part) (q .counts) (c .before .before .before .before .before .before .before .before .before .before .before .has-room .ensures)) ∙ not-false (c .before .before .before .before .before .before .before .before .before .before .before .has-room .result) (c .before .before .before .before .before .before .before .before .before .before .if1 .left)) refl f
-        (c .before .before .finish-alone .ensures .1 _ st _ _ (part-ready _ _ _ _ _ _ st _ _ _ _ _ (q .stands .tables) (q .counts) (a .part) f (c .before .before .before .before .before .before .before .write-part .ensures) (c .before .before .before .before .before .before .before .before .before .hint-in-part .ensures)) (held-class _))
+    alone-done _ _ _ _ _ _ _ _ _ st _ _ _ _ q (sym (said-at _ _ _ _ _ st _ _ _ _ _ (a .part) (q .counts) (c .before .before .before .before .before .before .before .before .before .before .before .has-room .ensures)) ∙ not-false (c .before .before .before .before .before .before .before .before .before .before .before .has-room .result) (c .before .before .before .before .before .before .before .before .before .before .if1 .left)) refl f
+    (c .before .before .finish-alone .ensures .1 _ st _ _ (part-ready _ _ _ _ _ _ st _ _ _ _ _ (q .stands .tables) (q .counts) (a .part) f (c .before .before .before .before .before .before .before .write-part .ensures) (c .before .before .before .before .before .before .before .before .before .hint-in-part .ensures)) (held-class _))
 
 pub place-alone-spec : {M : Type 1} → statement M
 place-alone-spec =

@@ -40,8 +40,8 @@ returns-2 c =
     let a = p .0 in
     let yes = not-false (c .before .before .before .before .before .before .before .before .before .before .before .has-room .result) (c .before .before .before .before .before .before .before .before .before .before .if1 .left) in
     λ st q hf f.
-        join-done _ _ _ _ _ _ _ _ _ st _ _ _ _ _ _ q (sym (said-at _ _ _ _ _ st _ _ _ _ _ (a .part) (q .counts) (c .before .before .before .before .before .before .before .before .before .before .before .has-room .ensures)) ∙ yes) refl f
-        (c .before .before .finish-join .ensures .1 _ st _ _ _ (part-ready _ _ _ _ _ _ st _ _ _ _ _ (q .stands .tables) (q .counts) (a .part) f (c .before .before .before .before .before .before .before .write-part .ensures) (c .before .before .before .before .before .before .before .before .before .hint-in-part .ensures)) (held-class _) refl (hf .group (p .1) _ (p .2) .0) (hf .group (p .1) _ (p .2) .1))
+    join-done _ _ _ _ _ _ _ _ _ st _ _ _ _ _ _ q (sym (said-at _ _ _ _ _ st _ _ _ _ _ (a .part) (q .counts) (c .before .before .before .before .before .before .before .before .before .before .before .has-room .ensures)) ∙ yes) refl f
+    (c .before .before .finish-join .ensures .1 _ st _ _ _ (part-ready _ _ _ _ _ _ st _ _ _ _ _ (q .stands .tables) (q .counts) (a .part) f (c .before .before .before .before .before .before .before .write-part .ensures) (c .before .before .before .before .before .before .before .before .before .hint-in-part .ensures)) (held-class _) refl (hf .group (p .1) _ (p .2) .0) (hf .group (p .1) _ (p .2) .1))
 
 pub place-join-spec : {M : Type 1} → statement M
 place-join-spec =

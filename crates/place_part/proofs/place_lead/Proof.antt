@@ -17,7 +17,7 @@ map-part-requires c κs =
 returns : tie.Need-returns
 returns c =
     λ st q hf f.
-        lead-stopped _ _ _ _ _ _ _ _ _ _ st _ _ _ _ _ q (c .before .before .before .map-part .ensures) (not-true (c .before .before .before .map-part .result) (c .if1 .taken)) refl
+    lead-stopped _ _ _ _ _ _ _ _ _ _ st _ _ _ _ _ q (c .before .before .before .map-part .ensures) (not-true (c .before .before .before .map-part .result) (c .if1 .taken)) refl
 
 put-lead-requires : tie.Need-put-lead-requires
 put-lead-requires c κs =
@@ -29,7 +29,7 @@ returns-2 c =
     let a = c .before .before .before .before .before .before .before .before .before .before .before .before .before .before .pre .0 in
     let m = c .before .before .before .before .before .before .before .before .map-part in
     λ st q hf f.
-        lead-put _ _ _ _ _ _ _ _ _ _ st _ _ _ _ _ q (m .ensures) (not-false (m .result) (c .before .before .before .before .before .if1 .left)) hf f (pieces-kept _ _ _ _ _ _ _ _ _ _ _ _ _ (m .ensures .outside) a) (c .before .before .put-lead .ensures)
+    lead-put _ _ _ _ _ _ _ _ _ _ st _ _ _ _ _ q (m .ensures) (not-false (m .result) (c .before .before .before .before .before .if1 .left)) hf f (pieces-kept _ _ _ _ _ _ (m .ensures .outside) (a .apart)) (c .before .before .put-lead .ensures)
 
 pub place-lead-spec : {M : Type 1} → statement M
 place-lead-spec =

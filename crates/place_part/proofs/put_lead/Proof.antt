@@ -39,8 +39,8 @@ returns-2 c =
     let a = p .0 in
     let yes = not-false (c .before .before .before .before .before .before .before .before .before .before .before .has-room .result) (c .before .before .before .before .before .before .before .before .before .before .if1 .left) in
     λ st ms hs ec hf f.
-        room-done _ _ _ _ _ _ (said-at _ _ _ _ _ st _ _ _ _ _ (a .part) ec (c .before .before .before .before .before .before .before .before .before .before .before .has-room .ensures)) yes refl
-        (c .before .before .finish-lead .ensures .1 _ st _ _ _ ms (part-ready _ _ _ _ _ _ st _ _ _ _ _ hs ec (a .part) f (c .before .before .before .before .before .before .before .write-part .ensures) (c .before .before .before .before .before .before .before .before .before .hint-in-part .ensures)) (held-class _) refl (hf .index (p .1) .0) (hf .index (p .1) .1))
+    room-done _ _ _ _ _ _ (said-at _ _ _ _ _ st _ _ _ _ _ (a .part) ec (c .before .before .before .before .before .before .before .before .before .before .before .has-room .ensures)) yes refl
+    (c .before .before .finish-lead .ensures .1 _ st _ _ _ ms (part-ready _ _ _ _ _ _ st _ _ _ _ _ hs ec (a .part) f (c .before .before .before .before .before .before .before .write-part .ensures) (c .before .before .before .before .before .before .before .before .before .hint-in-part .ensures)) (held-class _) refl (hf .index (p .1) .0) (hf .index (p .1) .1))
 
 pub put-lead-spec : {M : Type 1} → statement M
 put-lead-spec =
