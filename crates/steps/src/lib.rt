@@ -142,5 +142,9 @@ pub fn ended(r: PlaceEnd, turned: usize) -> StepsEnd
 {
     let end = r.end;
     let counts = r.counts;
-    StepsEnd { end, counts, turned }
+    StepsEnd {
+        end,
+        counts,
+        turned,
+    }
 }
