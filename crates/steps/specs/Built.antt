@@ -1,5 +1,6 @@
 -- What the steps over a working part leave behind, by the definition's answer. Assumes nothing.
 use mathlib.Core.Path.{_≡_}
+use mathlib.Core.Bool.{Bool, true, false}
 use mathlib.Core.List.{List}
 use Prim.Native.Nat.{ℕ, _+_, _*_, _≤_, _<_}
 use lib.ListN.{length, getD}
@@ -13,9 +14,20 @@ use Rattle.virt_regs.specs.Encoding.{countsOf}
 use Rattle.constraints.specs.declared.WorkLayout.{WorkLayout}
 use Rattle.constraints.specs.Ready.{Stands}
 use Rattle.conflict_piece.specs.Conflict.{turnedRowsOf}
+use Rattle.place_end.specs.declared.Ended.{Ended}
 use Rattle.place_end.specs.declared.Ended.the-variants as ended
+use Rattle.place_end.specs.declared.Ended.the-variants.{Done, Stopped, Full}
+use Rattle.place_end.specs.declared.PlaceEnd.{PlaceEnd}
 use Rattle.place_end.specs.Ends.{Sane, endOf}
 use Rattle.steps.specs.declared.StepsEnd.{StepsEnd}
+
+abbrev pub isDone : Ended → Bool
+isDone Done = true
+isDone (Stopped s) = false
+isDone Full = false
+
+abbrev pub endedAs : PlaceEnd → ℕ → StepsEnd
+endedAs r n = record { end = r .end; counts = r .counts; turned = n }
 
 -- the state, its counts and the uses that were turned
 pub record BuiltAs (J : Job) (ol : OutLayout) (W : List ℕ) (lay : Layout) (wl : WorkLayout) (O K : List ℕ) (r : StepsEnd) (b : Built) : Type 0 where
