@@ -544,6 +544,7 @@ pub fn follows(prev: u32, key: u32) -> u8
     FOLLOWS[i]
 }
 
+// A number as a word; 0 for one that is too large.
 pub fn low(v: u64) -> u32
     ensures { λ r. ⌜ r ≡ lowOf v ⌝ }
 {

@@ -1,3 +1,4 @@
 pub mod Present
 pub mod Columns
 pub mod Shape
+pub mod Streams
