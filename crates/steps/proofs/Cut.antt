@@ -35,7 +35,6 @@ use Rattle.set_cuts.proofs.Kept.{Sides, cut-sides}
 use Rattle.virt_regs.specs.Each.{Each}
 use Rattle.constraints.specs.declared.WorkLayout.{WorkLayout}
 use Rattle.constraints.specs.Ready.{Ready}
-use Rattle.scans.specs.Marked as scans
 use Rattle.part_maps.specs.Maps.{MapApart, Outside}
 use Rattle.part_maps.proofs.Kept.{ready-kept}
 use Rattle.conflict_piece.specs.Conflict.{rowUse, turnedRowAt, turnedRowsOf, RowsOk}
@@ -51,8 +50,7 @@ job-hints W lay = refl
 
 -- the uses of a part, as the scans see them
 pub part-scanned : (K : List ℕ) (marks : ℕ) (W : List ℕ) (lay : Layout) (sp : SetPart) → PartOk W lay sp
-    → usesOf (partSegs K marks W lay sp) ≡ tab (scans.markedUse K marks W lay) (sp .first) (sp .end - sp .first)
-unfolding set-part.markedUse scans.markedUse
+    → usesOf (partSegs K marks W lay sp) ≡ tab (set-part.markedUse K marks W lay) (sp .first) (sp .end - sp .first)
 part-scanned K marks W lay sp ok = part-uses K marks W lay sp ok
 
 -- ---- the mapping alone is changed

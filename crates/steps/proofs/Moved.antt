@@ -19,7 +19,7 @@ use Rattle.hints.specs.Hints.{hintAt}
 use Rattle.layout.specs.declared.Layout.{Layout}
 use Rattle.job.specs.Job.{jobBy, jobOf}
 use Rattle.set_part.specs.declared.SetPart.{SetPart}
-use Rattle.set_part.specs.Part.{PartOk, partSegs}
+use Rattle.set_part.specs.Part.{PartOk, markedUse, partSegs}
 use Rattle.set_part.proofs.Bounds.{first-le-end}
 use Rattle.set_cuts.specs.declared.Parts.{Parts}
 use Rattle.set_cuts.specs.Cut.{cutPart}
@@ -30,7 +30,6 @@ use Rattle.scans.specs.declared.ScanAnswer.{ScanAnswer}
 use Rattle.scans.specs.declared.MoveAnswer.{MoveAnswer}
 use Rattle.scans.specs.declared.MoveKind.{MoveKind}
 use Rattle.scans.specs.declared.MoveKind.the-variants.{Whole, Turn, Cut, Halt}
-use Rattle.scans.specs.Marked.{markedUse}
 use Rattle.scans.specs.Answers.{scanOf, kindMove, moveOf}
 use Rattle.steps.proofs.Run.{cut-through}
 use Rattle.steps.proofs.Cut.{part-scanned}
