@@ -16,7 +16,7 @@ use Rattle.definition.specs.Build.{opening, conflictPiece}
 use Rattle.definition.specs.Place.{mapUses, usesOf, segsOf}
 use Rattle.layout.specs.declared.Layout.{Layout}
 use Rattle.job.specs.Job.{jobOf}
-use Rattle.constraints.specs.declared.WorkLayout.{WorkLayout}
+use Rattle.work_layout.specs.declared.WorkLayout.{WorkLayout}
 use Rattle.constraints.specs.Ready.{Backed, Ready}
 use Rattle.part_maps.specs.Maps.{MapApart, Outside, MapsTo, Maps}
 use Rattle.conflict_piece.specs.Conflict.{rowUse, turnedRowsOf, RowsOk}

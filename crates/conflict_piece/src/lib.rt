@@ -1,5 +1,5 @@
 // The piece of a conflict register, from rows of turned uses in the work slice: four words each, value, use number, whether it has a parameter (0 or 1), the parameter.
-use constraints::WorkLayout;
+use work_layout::WorkLayout;
 use definition::Inst;
 use definition::LiveRangePoint;
 use definition::Use;

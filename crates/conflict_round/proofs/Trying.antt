@@ -19,7 +19,7 @@ use Rattle.layout.specs.declared.Layout.{Layout}
 use Rattle.job.specs.Job.{jobOf}
 use Rattle.constraints.specs.declared.Held.{Held}
 use Rattle.constraints.specs.declared.Admission.{Admission}
-use Rattle.constraints.specs.declared.WorkLayout.{WorkLayout}
+use Rattle.work_layout.specs.declared.WorkLayout.{WorkLayout}
 use Rattle.constraints.specs.Held.{heldOf, admissionOf}
 use Rattle.constraints.specs.Ready.{Backed, Ready}
 use Rattle.constraints.proofs.Admitted.{answer-yes, answer-no}

@@ -11,7 +11,7 @@ use Rattle.definition.specs.Admit.{fresh}
 use Rattle.definition.specs.Build.{try}
 use Rattle.definition.specs.Build as build
 use Rattle.layout.specs.declared.Layout.{Layout}
-use Rattle.constraints.specs.declared.WorkLayout.{WorkLayout}
+use Rattle.work_layout.specs.declared.WorkLayout.{WorkLayout}
 use Rattle.constraints.specs.Held.{heldOf}
 use Rattle.conflict_round.specs.declared.Round.{Round}
 use Rattle.conflict_round.specs.declared.RowWords.{RowWords}

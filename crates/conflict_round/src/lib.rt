@@ -1,7 +1,7 @@
 // builder.rs emit_vregs_for_conflicts: a round over rows of turned uses in the work slice, in place; runs of rows of one instruction.
 use constraints::Admission;
 use constraints::Held;
-use constraints::WorkLayout;
+use work_layout::WorkLayout;
 use definition::RegClass;
 use layout::Layout;
 use virt_regs::OutLayout;

@@ -33,9 +33,10 @@ use Rattle.uses.specs.Rows.{useRow}
 use Rattle.layout.specs.declared.Layout.{Layout}
 use Rattle.layout.specs.Layout.{Fits, segRow, segAt, nextUse, usesIn, segmentOf}
 use Rattle.job.specs.Job.{jobBy, jobOf}
-use Rattle.constraints.specs.declared.WorkLayout.{WorkLayout}
+use Rattle.work_layout.specs.declared.WorkLayout.{WorkLayout}
 use Rattle.constraints.specs.Asks.{askOf}
-use Rattle.constraints.specs.Ready.{chainsIn, operandsIn, HasOperand, BackedAsk, Backed, Ready}
+use Rattle.work_layout.specs.Regions.{chainsIn}
+use Rattle.constraints.specs.Ready.{operandsIn, HasOperand, BackedAsk, Backed, Ready}
 use Rattle.constraints.proofs.Operand.{both, job-blocks, job-vgroups, job-operands}
 
 -- ---- tests over lists

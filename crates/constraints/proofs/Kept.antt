@@ -26,8 +26,9 @@ use Rattle.operands.proofs.Only.{found-only}
 use Rattle.layout.specs.declared.Layout.{Layout}
 use Rattle.virt_regs.specs.declared.OutLayout.{OutLayout}
 use Rattle.virt_regs.specs.Encoding.{groupWord}
-use Rattle.constraints.specs.declared.WorkLayout.{WorkLayout}
-use Rattle.constraints.specs.Ready.{chainsIn, operandsIn, Mapping, Ready, Stands}
+use Rattle.work_layout.specs.declared.WorkLayout.{WorkLayout}
+use Rattle.work_layout.specs.Regions.{chainsIn}
+use Rattle.constraints.specs.Ready.{operandsIn, Mapping, Ready, Stands}
 use Rattle.constraints.proofs.Operand.{both}
 
 -- n words from word `at` on are the same in L as in K

@@ -26,7 +26,7 @@ use Rattle.operands.proofs.Twice.{never}
 use Rattle.layout.specs.declared.Layout.{Layout}
 use Rattle.job.specs.Job.{jobBy, jobOf}
 use Rattle.virt_regs.specs.Encoding.{groupWord}
-use Rattle.constraints.specs.declared.WorkLayout.{WorkLayout}
+use Rattle.work_layout.specs.declared.WorkLayout.{WorkLayout}
 use Rattle.constraints.specs.declared.OperandGroup.{OperandGroup}
 use Rattle.constraints.specs.Ready.{operandsIn, HasOperand, OperandIs, Said}
 

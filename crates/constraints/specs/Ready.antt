@@ -12,7 +12,6 @@ use Rattle.definition.specs.Admit.{mappedAt, setsOf, setsAt}
 use Rattle.definition.specs.Entry.{some-is, apart, samePlace, instsOf}
 use Rattle.function.specs.Blocks.{blocksAt, Starts}
 use Rattle.coalescing.specs.Rows.{vgroupRow, vgroupsAt}
-use Rattle.operands.specs.declared.Chains.{Chains}
 use Rattle.operands.specs.Rows.{operandsAt, opAt, isAt}
 use Rattle.operands.specs.Chains.{Under, Chained}
 use Rattle.operands.specs.Chains as chains
@@ -24,13 +23,10 @@ use Rattle.virt_regs.specs.declared.OutLayout.{OutLayout}
 use Rattle.virt_regs.specs.Encoding.{groupWord, Holds}
 use Rattle.constraints.specs.declared.Ask.{Ask}
 use Rattle.constraints.specs.declared.Ask.the-variants.{Any, Class, Group}
-use Rattle.constraints.specs.declared.WorkLayout.{WorkLayout}
+use Rattle.work_layout.specs.declared.WorkLayout.{WorkLayout}
+use Rattle.work_layout.specs.Regions.{chainsIn}
 use Rattle.constraints.specs.declared.OperandGroup.{OperandGroup}
 use Rattle.constraints.specs.Asks.{askOf}
-
--- the index of the operands: a head for each word before the nexts
-abbrev pub chainsIn : Layout → WorkLayout → Chains
-chainsIn lay wl = record { at = lay .operands .at; count = lay .operands .n; heads = wl .heads; nexts = wl .nexts; insts = wl .nexts - wl .heads }
 
 -- the operands of the job with the words W
 abbrev pub operandsIn : List ℕ → Layout → List Operand

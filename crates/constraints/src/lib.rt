@@ -10,6 +10,7 @@ use operands::Chains;
 use operands::FoundOperand;
 use reginfo::Found;
 use virt_regs::OutLayout;
+use work_layout::WorkLayout;
 ghost use mathlib.Core.Path.{_≡_};
 ghost use mathlib.Core.Bool.{true};
 ghost use mathlib.Core.Option.{bind, some};
@@ -26,17 +27,6 @@ ghost use Rattle.members.specs.Places.{groupOf, joinedOf};
 ghost use Rattle.constraints.specs.Held.{heldOf, admissionOf, holding, intoGroup};
 ghost use Rattle.constraints.specs.Asks.{groupAsk, askOf};
 ghost use Rattle.constraints.specs.Ready.{Ready, Stands, Backed, HasOperand, OperandIs, Said};
-
-// Where the parts of the work slice begin, in words: the index of the operands (heads and nexts), a word for each operand (its group + 1, 0 for none), the table of block starts,
-// a word for each use of the job (1 if it is turned), the turned uses.
-pub struct WorkLayout {
-    pub heads: usize,
-    pub nexts: usize,
-    pub mapping: usize,
-    pub starts: usize,
-    pub marks: usize,
-    pub turned: usize,
-}
 
 // What is held: the class; if `grouped`, the index, group and value sets of the group uses before; the register to merge into. `mapped` and `target` are a number + 1, 0 for none.
 pub struct Held {

@@ -17,7 +17,7 @@ use Rattle.layout.specs.declared.Layout.{Layout}
 use Rattle.set_part.specs.declared.SetPart.{SetPart}
 use Rattle.set_part.specs.Part.{PartOk, markedUse, partSegs}
 use Rattle.set_part.proofs.Uses.{part-uses}
-use Rattle.constraints.specs.declared.WorkLayout.{WorkLayout}
+use Rattle.work_layout.specs.declared.WorkLayout.{WorkLayout}
 use Rattle.constraints.specs.Ready.{operandsIn, Mapping, Ready}
 use Rattle.part_maps.specs.Maps.{MapApart, Outside, MapsTo, Maps, mapUse}
 use Rattle.part_maps.proofs.Kept.{outside-none, outside-then, ready-kept}

@@ -16,7 +16,7 @@ use Rattle.layout.specs.declared.Layout.{Layout}
 use Rattle.uses.specs.Rows.{useRow}
 use Rattle.job.specs.Job.{jobOf}
 use Rattle.set_part.specs.Part.{markedUse}
-use Rattle.constraints.specs.declared.WorkLayout.{WorkLayout}
+use Rattle.work_layout.specs.declared.WorkLayout.{WorkLayout}
 use Rattle.constraints.specs.Ready.{BackedAsk, Backed, Ready}
 use Rattle.part_maps.specs.Maps.{MapApart, Outside}
 

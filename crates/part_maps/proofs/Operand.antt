@@ -29,7 +29,7 @@ use Rattle.operands.proofs.Twice.{never}
 use Rattle.layout.specs.declared.Layout.{Layout}
 use Rattle.job.specs.Job.{jobOf}
 use Rattle.virt_regs.specs.Encoding.{groupWord}
-use Rattle.constraints.specs.declared.WorkLayout.{WorkLayout}
+use Rattle.work_layout.specs.declared.WorkLayout.{WorkLayout}
 use Rattle.constraints.specs.Ready.{operandsIn, Mapping, HasOperand, BackedAsk, Backed}
 use Rattle.constraints.specs.Asks.{askOf}
 use Rattle.constraints.proofs.Operand.{said-past}

@@ -12,7 +12,7 @@ use Rattle.definition.specs.Uses.{slotOf}
 use Rattle.definition.specs.Admit.{mappedAt}
 use Rattle.definition.specs.Place.{mapOne, slotD}
 use Rattle.layout.specs.declared.Layout.{Layout}
-use Rattle.constraints.specs.declared.WorkLayout.{WorkLayout}
+use Rattle.work_layout.specs.declared.WorkLayout.{WorkLayout}
 use Rattle.constraints.specs.Ready.{operandsIn, Mapping}
 use Rattle.part_maps.specs.declared.GroupSlot.{GroupSlot}
 

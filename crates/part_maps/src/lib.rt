@@ -1,5 +1,5 @@
 // The group operands of a part's uses mapped to a new group, in the work slice's table of mappings.
-use constraints::WorkLayout;
+use work_layout::WorkLayout;
 use definition::Inst;
 use definition::Use;
 use definition::UseKind;

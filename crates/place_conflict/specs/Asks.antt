@@ -33,7 +33,7 @@ use Rattle.vreg_insert.specs.Ask.{Ask, first-use-le}
 use Rattle.vreg_insert.specs.Opened.{Opened}
 use Rattle.vreg_put.specs.Written.{Written}
 use Rattle.constraints.specs.declared.Held.{Held}
-use Rattle.constraints.specs.declared.WorkLayout.{WorkLayout}
+use Rattle.work_layout.specs.declared.WorkLayout.{WorkLayout}
 use Rattle.constraints.specs.Ready as constraints
 use Rattle.part_maps.specs.Maps.{MapApart, Outside}
 use Rattle.vreg_weight.specs.Fair.{Fair}

@@ -18,7 +18,7 @@ use Rattle.uses.specs.Rows.{useRow}
 use Rattle.layout.specs.declared.Layout.{Layout}
 use Rattle.job.specs.Job.{jobBy, jobOf}
 use Rattle.virt_regs.specs.Each.{Each, each-append, each-one, each-none}
-use Rattle.constraints.specs.declared.WorkLayout.{WorkLayout}
+use Rattle.work_layout.specs.declared.WorkLayout.{WorkLayout}
 use Rattle.constraints.specs.Ready.{Ready}
 use Rattle.vreg_weight.specs.Typed.{row-typed}
 use Rattle.vreg_weight.specs.Sound.{Sound, sound-param}

@@ -3,7 +3,7 @@ use conflict_piece::Param;
 use conflict_piece::map_conflict;
 use conflict_piece::write_conflict;
 use constraints::Held;
-use constraints::WorkLayout;
+use work_layout::WorkLayout;
 use definition::Inst;
 use definition::LiveRangePoint;
 use definition::RegClass;

@@ -19,7 +19,7 @@ use Rattle.layout.specs.declared.Layout.{Layout}
 use Rattle.virt_regs.specs.declared.OutLayout.{OutLayout}
 use Rattle.virt_regs.specs.Each.{Each, each-append, each-one, each-get}
 use Rattle.virt_regs.specs.Encoding.{countsOf}
-use Rattle.constraints.specs.declared.WorkLayout.{WorkLayout}
+use Rattle.work_layout.specs.declared.WorkLayout.{WorkLayout}
 use Rattle.constraints.specs.Ready.{Stands}
 use Rattle.vreg_weight.specs.Fair.{Fair}
 use Rattle.part_maps.specs.Maps.{Outside}

@@ -6,7 +6,7 @@ use native.Mathlib.Omega.{arith}
 use Rattle.words.specs.Words.{wordCount, wordsOf}
 use Rattle.layout.specs.declared.Layout.{Layout}
 use Rattle.job.specs.Job.{jobBy, jobOf}
-use Rattle.constraints.specs.declared.WorkLayout.{WorkLayout}
+use Rattle.work_layout.specs.declared.WorkLayout.{WorkLayout}
 use Rattle.constraints.specs.Ready.{Ready}
 use Rattle.vreg_weight.specs.Weighed.{Weighable}
 

@@ -26,7 +26,7 @@ use Rattle.vreg_put.specs.Written.{Written}
 use Rattle.vreg_find.specs.declared.Place.{Place}
 use Rattle.vreg_find.specs.declared.Place.the-variants as found
 use Rattle.vreg_find.specs.Ends.{endsBy, pickPlace, placeOf}
-use Rattle.constraints.specs.declared.WorkLayout.{WorkLayout}
+use Rattle.work_layout.specs.declared.WorkLayout.{WorkLayout}
 use Rattle.constraints.specs.Ready.{operandsIn, Mapping, Stands}
 use Rattle.part_maps.specs.Maps.{MapsTo, Maps}
 use Rattle.part_maps.proofs.Kept.{outside-none}

@@ -29,7 +29,7 @@ use Rattle.virt_regs.specs.Encoding.{roomOf, countsOf, Holds}
 use Rattle.vreg_weight.specs.Fair.{Fair}
 use Rattle.members.specs.Places.{groupOf}
 use Rattle.constraints.specs.declared.Held.{Held}
-use Rattle.constraints.specs.declared.WorkLayout.{WorkLayout}
+use Rattle.work_layout.specs.declared.WorkLayout.{WorkLayout}
 use Rattle.constraints.specs.Held.{heldOf}
 use Rattle.constraints.specs.Ready.{operandsIn, Mapping, Ready}
 use Rattle.part_pieces.proofs.Rows.{own-segs}

@@ -37,7 +37,7 @@ use Rattle.vreg_insert.specs.Opened.{Opened}
 use Rattle.vreg_weight.specs.Fair.{Fair, fair-inserted}
 use Rattle.members.specs.Places.{regOf, groupOf}
 use Rattle.constraints.specs.declared.Held.{Held}
-use Rattle.constraints.specs.declared.WorkLayout.{WorkLayout}
+use Rattle.work_layout.specs.declared.WorkLayout.{WorkLayout}
 use Rattle.constraints.specs.Held.{heldOf}
 use Rattle.part_pieces.proofs.Rows.{count-pieces-of, count-part-uses}
 use Rattle.part_maps.proofs.Kept.{outside-none}

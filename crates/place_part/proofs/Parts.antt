@@ -34,7 +34,7 @@ use Rattle.vreg_weight.specs.Weighed.{Weighable}
 use Rattle.vreg_weight.specs.Fair.{Fair, fair-insts, fair-typed, fair-inside}
 use Rattle.use_costs.specs.Book.{SmallBook}
 use Rattle.constraints.specs.declared.Held.{Held}
-use Rattle.constraints.specs.declared.WorkLayout.{WorkLayout}
+use Rattle.work_layout.specs.declared.WorkLayout.{WorkLayout}
 use Rattle.constraints.specs.Held.{heldOf}
 use Rattle.constraints.specs.Ready as constraints
 use Rattle.part_pieces.proofs.Rows.{own-segs, count-pieces-of, count-part-uses}

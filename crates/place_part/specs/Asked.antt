@@ -25,7 +25,7 @@ use Rattle.vreg_find.specs.declared.Place.the-variants.{At}
 use Rattle.vreg_find.specs.Ends.{placeOf}
 use Rattle.members.specs.Places.{regOf, groupOf}
 use Rattle.constraints.specs.declared.Held.{Held}
-use Rattle.constraints.specs.declared.WorkLayout.{WorkLayout}
+use Rattle.work_layout.specs.declared.WorkLayout.{WorkLayout}
 use Rattle.constraints.specs.Held.{heldOf}
 use Rattle.constraints.specs.Ready.{Ready, Stands}
 use Rattle.use_costs.specs.Book.{SmallBook}

@@ -1,6 +1,6 @@
 // builder.rs: a working part placed as a register: in no group, in a new group, in a group's empty place, or merged into a member.
 use constraints::Held;
-use constraints::WorkLayout;
+use work_layout::WorkLayout;
 use definition::Stop;
 use definition::ValueSet;
 use definition::VirtReg;

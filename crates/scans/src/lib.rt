@@ -1,7 +1,7 @@
 // builder.rs: the scans over uses, and the step that they lead to.
 use constraints::Admission;
 use constraints::Held;
-use constraints::WorkLayout;
+use work_layout::WorkLayout;
 use definition::Inst;
 use definition::RegClass;
 use definition::Stop;

@@ -10,7 +10,7 @@ use Rattle.set_part.proofs.Bounds.{first-le-end}
 use Rattle.set_cuts.specs.declared.Parts.{Parts}
 use Rattle.set_cuts.proofs.Kept.{Sides}
 use Rattle.turned.specs.declared.TurnedRow.{TurnedRow}
-use Rattle.constraints.specs.declared.WorkLayout.{WorkLayout}
+use Rattle.work_layout.specs.declared.WorkLayout.{WorkLayout}
 use Rattle.constraints.specs.Ready.{Ready}
 use Rattle.constraints.proofs.Kept.{ready-kept}
 use Rattle.part_maps.specs.Maps.{MapApart, Outside}

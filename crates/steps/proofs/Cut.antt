@@ -33,7 +33,7 @@ use Rattle.set_cuts.specs.Cut.{cutPart}
 use Rattle.set_cuts.proofs.Sides.{cut-left, cut-right}
 use Rattle.set_cuts.proofs.Kept.{Sides, cut-sides}
 use Rattle.virt_regs.specs.Each.{Each}
-use Rattle.constraints.specs.declared.WorkLayout.{WorkLayout}
+use Rattle.work_layout.specs.declared.WorkLayout.{WorkLayout}
 use Rattle.constraints.specs.Ready.{Ready}
 use Rattle.part_maps.specs.Maps.{MapApart, Outside}
 use Rattle.part_maps.proofs.Kept.{ready-kept}

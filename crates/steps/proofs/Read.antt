@@ -11,7 +11,7 @@ use Rattle.set_part.specs.declared.SetPart.{SetPart}
 use Rattle.set_part.specs.Part.{PartOk}
 use Rattle.turned.specs.declared.TurnedRow.{TurnedRow}
 use Rattle.turned.specs.Turned.{turnedRow}
-use Rattle.constraints.specs.declared.WorkLayout.{WorkLayout}
+use Rattle.work_layout.specs.declared.WorkLayout.{WorkLayout}
 use Rattle.steps.specs.Turns.{turnedWords, turnedOnce, TurnRoom}
 use Rattle.steps.proofs.Turn.{row-number}
 

@@ -33,7 +33,7 @@ use Rattle.turned.proofs.Marks.{turn-part}
 use Rattle.turned.proofs.Kept.{kept-part}
 use Rattle.virt_regs.specs.declared.OutLayout.{OutLayout}
 use Rattle.virt_regs.specs.Each.{Each}
-use Rattle.constraints.specs.declared.WorkLayout.{WorkLayout}
+use Rattle.work_layout.specs.declared.WorkLayout.{WorkLayout}
 use Rattle.constraints.specs.Ready.{Ready, Stands}
 use Rattle.constraints.proofs.Kept.{Same, ready-kept, stands-kept}
 use Rattle.part_maps.specs.Maps.{MapApart}

@@ -25,7 +25,7 @@ use Rattle.set_part.specs.Part.{partSegs}
 use Rattle.set_cuts.specs.Cut.{cutPart}
 use Rattle.turned.specs.Turned.{turnedRow}
 use Rattle.virt_regs.specs.declared.OutLayout.{OutLayout}
-use Rattle.constraints.specs.declared.WorkLayout.{WorkLayout}
+use Rattle.work_layout.specs.declared.WorkLayout.{WorkLayout}
 use Rattle.part_maps.specs.Maps.{Outside}
 use Rattle.conflict_piece.specs.Conflict.{turnedRowsOf}
 use Rattle.place_end.specs.declared.Ended.{Ended}

@@ -11,7 +11,7 @@ use Rattle.layout.specs.declared.Layout.{Layout}
 use Rattle.set_part.specs.declared.SetPart.{SetPart}
 use Rattle.virt_regs.specs.declared.OutLayout.{OutLayout}
 use Rattle.virt_regs.specs.Encoding.{countsOf}
-use Rattle.constraints.specs.declared.WorkLayout.{WorkLayout}
+use Rattle.work_layout.specs.declared.WorkLayout.{WorkLayout}
 use Rattle.constraints.specs.Ready.{Stands}
 use Rattle.conflict_piece.specs.Conflict.{turnedRowsOf}
 use Rattle.place_end.specs.declared.Ended.{Ended}

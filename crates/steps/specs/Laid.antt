@@ -17,7 +17,7 @@ use Rattle.job.specs.Job.{jobOf}
 use Rattle.set_part.specs.declared.SetPart.{SetPart}
 use Rattle.set_part.specs.Part.{PartOk, partSegs}
 use Rattle.virt_regs.specs.Each.{Each}
-use Rattle.constraints.specs.declared.WorkLayout.{WorkLayout}
+use Rattle.work_layout.specs.declared.WorkLayout.{WorkLayout}
 use Rattle.constraints.specs.Ready.{Ready}
 use Rattle.part_maps.specs.Maps.{MapApart}
 use Rattle.conflict_piece.specs.Conflict.{RowsOk}

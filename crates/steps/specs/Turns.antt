@@ -6,7 +6,7 @@ use lib.ListN.{set}
 use Rattle.rows.specs.Parts.{splice}
 use Rattle.layout.specs.declared.Layout.{Layout}
 use Rattle.turned.specs.declared.TurnedRow.{TurnedRow}
-use Rattle.constraints.specs.declared.WorkLayout.{WorkLayout}
+use Rattle.work_layout.specs.declared.WorkLayout.{WorkLayout}
 
 -- value, use number, whether it has a parameter, the parameter
 unfoldable pub turnedWords : TurnedRow → List ℕ

@@ -1,6 +1,6 @@
 // The steps over the working part of a set (builder.rs `compute_constraints`).
 use constraints::Held;
-use constraints::WorkLayout;
+use work_layout::WorkLayout;
 use definition::Inst;
 use definition::RegClass;
 use layout::Layout;

@@ -1,0 +1,61 @@
+-- What a build leaves in the lent result tables, byte for byte, and answers. Assumes nothing.
+use mathlib.Core.Path.{_≡_}
+use mathlib.Core.Bool.{cond}
+use mathlib.Core.List.{List, [], _++_}
+use Prim.Native.Nat.{ℕ, _+_, _-_, _*_, _/_}
+use lib.Dec.{ltb}
+use lib.ListN.{length, replicate}
+use Rattle.rows.specs.Parts.{pad}
+use Rattle.words.specs.Words.{wordsOf, bytesOf}
+use Rattle.definition.specs.Types.{State, Out, done, refused, numberOf}
+use Rattle.definition.specs.Place.{usesOf, segsOf}
+use Rattle.definition.specs.Build.{Result}
+use Rattle.virt_regs.specs.declared.OutLayout.{OutLayout}
+use Rattle.virt_regs.specs.Encoding.{allPieces, registerRows, pieceRows, useRows, groupRows, Holds}
+use Rattle.build_answer.specs.declared.BuildEnd.{BuildEnd}
+
+-- ---- the tables in a lent slice of n words, cut by the numbers of rows that the caller names: where the slice is too short, the tables have fewer rows
+
+abbrev pub lesser : ℕ → ℕ → ℕ
+lesser a b = cond (ltb a b) a b
+
+-- of the rows named, those that fit; and no more than a word counts
+abbrev pub rowsIn : ℕ → ℕ → ℕ → ℕ
+rowsIn n k a = lesser (lesser a 4294967294) (n / k)
+
+unfoldable pub outLayoutOf : ℕ → ℕ → ℕ → ℕ → ℕ → OutLayout
+outLayoutOf n a b c d =
+    let r = rowsIn n 8 a in
+    let s = rowsIn (n - r * 8) 7 b in
+    let u = rowsIn (n - r * 8 - s * 7) 6 c in
+    record { regs = r; segs = s; uses = u; groups = rowsIn (n - r * 8 - s * 7 - u * 6) 9 d }
+
+-- ---- the content of the tables at exit
+
+-- the rows of registers, segments, uses and groups, zeros behind the rows of each table
+unfoldable pub resultWords : OutLayout → Result → List ℕ
+unfolding allPieces usesOf
+resultWords ol res =
+    pad (ol .regs * 8) (registerRows 0 (res .registers)) ++ pad (ol .segs * 7) (pieceRows 0 (allPieces (res .registers)))
+    ++ pad (ol .uses * 6) (useRows (usesOf (segsOf (allPieces (res .registers))))) ++ pad (ol .groups * 9) (groupRows (res .groups))
+
+-- the bytes of a slice of n bytes: "the result and zeros behind it, or zeros"
+unfoldable pub bytesLeft : ℕ → OutLayout → Out Result → List ℕ
+unfolding resultWords
+bytesLeft n ol (done res) = pad n (bytesOf (resultWords ol res))
+bytesLeft n ol (refused f) = replicate n 0
+
+-- the answer: "0 or the number, and how many registers and groups"
+unfoldable pub endLeft : Out Result → BuildEnd
+endLeft (done res) = record { number = 0; registers = length (res .registers); groups = length (res .groups) }
+endLeft (refused f) = record { number = numberOf f; registers = 0; groups = 0 }
+
+-- the state with a result's registers and groups
+abbrev pub stateOf : Result → State
+stateOf res = record { registers = res .registers; groups = res .groups; mapping = [] }
+
+-- A build of which o is the definition's answer ended with r and left the bytes x in a slice of n bytes with these tables. Where it is accepted, the rows can be read back.
+pub record Answered (n : ℕ) (ol : OutLayout) (o : Out Result) (r : BuildEnd) (x : List ℕ) : Type 0 where
+  pub end : r ≡ endLeft o
+  pub bytes : x ≡ bytesLeft n ol o
+  pub holds : (res : Result) → o ≡ done res → Holds ol (wordsOf x) (stateOf res)
