@@ -1,5 +1,4 @@
 // The piece of a conflict register, from rows of turned uses in the work slice: four words each, value, use number, whether it has a parameter (0 or 1), the parameter.
-use work_layout::WorkLayout;
 use definition::Inst;
 use definition::LiveRangePoint;
 use definition::Use;
@@ -8,6 +7,7 @@ use definition::Value;
 use layout::Layout;
 use virt_regs::OutLayout;
 use virt_regs::PieceRow;
+use work_layout::WorkLayout;
 ghost use mathlib.Core.Path.{_≡_};
 ghost use mathlib.Core.Bool.{cond};
 ghost use mathlib.Core.Option.{Option};

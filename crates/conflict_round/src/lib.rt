@@ -1,10 +1,10 @@
 // builder.rs emit_vregs_for_conflicts: a round over rows of turned uses in the work slice, in place; runs of rows of one instruction.
 use constraints::Admission;
 use constraints::Held;
-use work_layout::WorkLayout;
 use definition::RegClass;
 use layout::Layout;
 use virt_regs::OutLayout;
+use work_layout::WorkLayout;
 ghost use mathlib.Core.Path.{_≡_};
 ghost use mathlib.Core.List.{List, _∷_};
 ghost use Prim.Native.Nat.{ℕ, _+_, _*_, _≤_, _<_};

@@ -1,5 +1,4 @@
 // The group operands of a part's uses mapped to a new group, in the work slice's table of mappings.
-use work_layout::WorkLayout;
 use definition::Inst;
 use definition::Use;
 use definition::UseKind;
@@ -7,6 +6,7 @@ use layout::Layout;
 use operands::Chains;
 use operands::FoundOperand;
 use set_part::SetPart;
+use work_layout::WorkLayout;
 ghost use mathlib.Core.Path.{_≡_};
 ghost use mathlib.Core.Option.{some};
 ghost use Prim.Native.Nat.{_+_, _<_};

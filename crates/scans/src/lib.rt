@@ -1,7 +1,6 @@
 // builder.rs: the scans over uses, and the step that they lead to.
 use constraints::Admission;
 use constraints::Held;
-use work_layout::WorkLayout;
 use definition::Inst;
 use definition::RegClass;
 use definition::Stop;
@@ -10,6 +9,7 @@ use definition::UseKind;
 use definition::ValueSet;
 use layout::Layout;
 use virt_regs::OutLayout;
+use work_layout::WorkLayout;
 ghost use mathlib.Core.Path.{_≡_};
 ghost use mathlib.Core.Bool.{false};
 ghost use mathlib.Core.List.{List};
