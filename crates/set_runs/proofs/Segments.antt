@@ -1,11 +1,10 @@
 -- The set and the top class of a segment off the job's tables, and the runs of segments of one set. Assumes nothing.
 use mathlib.Core.Path.{_≡_, refl, sym, ap, _∙_}
 use mathlib.Core.List.{List, _∷_}
-use Prim.Native.Nat.{ℕ, _+_, _-_, _*_, _≤_, _<_}
+use Prim.Native.Nat.{ℕ, _+_, _*_, _≤_, _<_}
 use native.Mathlib.Nat.{mul-one}
 use native.Mathlib.Omega.{arith}
 use lib.ListN.{length, getD, List·getD-eq-default}
-use Rattle.rows.specs.Tab.{tab}
 use Rattle.rows.specs.RowsAt.{rowsAt, getD-rows-at, length-rows-at}
 use Rattle.definition.specs.declared.Value.{Value}
 use Rattle.definition.specs.declared.ValueSet.{ValueSet}

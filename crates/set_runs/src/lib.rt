@@ -6,7 +6,7 @@ use definition::ValueSet;
 use layout::Layout;
 ghost use mathlib.Core.Path.{_≡_};
 ghost use mathlib.Core.List.{_∷_};
-ghost use Prim.Native.Nat.{_+_, _≤_, _<_};
+ghost use Prim.Native.Nat.{_≤_, _<_};
 ghost use lib.ListN.{getD};
 ghost use Rattle.words.specs.Words.{wordCount, wordsOf};
 ghost use Rattle.definition.specs.Types.{cls};
