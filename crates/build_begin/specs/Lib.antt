@@ -1,0 +1,6 @@
+pub mod Begun
+pub mod Rules
+pub mod Begins
+pub mod Empty
+pub mod Sets
+pub mod Laid
