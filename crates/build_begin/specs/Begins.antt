@@ -1,5 +1,5 @@
 -- An accepted and prepared job is what the builder needs. Assumes nothing.
-use Prim.Native.Nat.{ℕ, _+_, _*_, _^_, _≤_, _<_}
+use Prim.Native.Nat.{ℕ, _+_, _^_, _≤_, _<_}
 use native.Mathlib.Omega.{arith}
 use mathlib.Core.Path.{_≡_, sym, _∙_}
 use mathlib.Core.Bool.{true}
@@ -11,7 +11,6 @@ use Rattle.words.specs.Laws.{words-small}
 use Rattle.definition.specs.Entry.{chained, notAfter, entry, entryTests}
 use Rattle.definition.proofs.Entries.{lowest-none}
 use Rattle.hints.specs.Hints.{hintAt}
-use Rattle.layout.specs.declared.Table.{Table}
 use Rattle.layout.specs.declared.Layout.{Layout}
 use Rattle.job.specs.Job.{jobOf}
 use Rattle.set_part.specs.Part.{CountsRise}
@@ -19,7 +18,7 @@ use Rattle.work_layout.specs.declared.WorkLayout.{WorkLayout}
 use Rattle.work_layout.specs.Regions.{maxWork}
 use Rattle.work_layout.proofs.Parts.{heads-are}
 use Rattle.entry.specs.Accepted.{Accepted, Prepared}
-use Rattle.entry.proofs.Rows.{index-room, job-none, job-insts, use-owner, use-passed}
+use Rattle.entry.proofs.Rows.{index-room, job-none, job-insts, use-passed}
 use Rattle.virt_regs.specs.declared.OutLayout.{OutLayout}
 use Rattle.virt_regs.specs.Encoding.{tablesEnd}
 use Rattle.use_costs.proofs.Accepted.{accepted-book}

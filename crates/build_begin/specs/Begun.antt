@@ -1,5 +1,5 @@
 -- What holds of an accepted job and of the work slice from its first set to its last. Assumes nothing.
-use Prim.Native.Nat.{ℕ, _+_, _*_, _≤_, _<_}
+use Prim.Native.Nat.{ℕ, _+_, _≤_, _<_}
 use native.Mathlib.Omega.{arith}
 use mathlib.Core.Path.{_≡_, refl, _∙_}
 use mathlib.Core.Bool.{true}
@@ -9,7 +9,6 @@ use lib.ListN.{getD}
 use Rattle.rows.specs.RowsAt.{rowsAt}
 use Rattle.definition.specs.Entry.{chained, notAfter, entry}
 use Rattle.hints.specs.Hints.{hintAt}
-use Rattle.layout.specs.declared.Table.{Table}
 use Rattle.layout.specs.declared.Layout.{Layout}
 use Rattle.job.specs.Job.{jobOf}
 use Rattle.set_part.specs.declared.SetPart.{SetPart}

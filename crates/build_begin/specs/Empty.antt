@@ -1,7 +1,7 @@
 -- The state that a build begins with: what it is, and that cleared tables and a prepared work slice stand for it. Assumes nothing.
-use Prim.Native.Nat.{ℕ, _+_, _-_, _*_, _≤_, _<_}
+use Prim.Native.Nat.{ℕ, zero, suc, _+_, _-_, _*_, _≤_, _<_}
 use native.Mathlib.Omega.{arith}
-use mathlib.Core.Path.{_≡_, refl, sym, ap, _∙_}
+use mathlib.Core.Path.{_≡_, refl, sym, _∙_}
 use mathlib.Core.List.{List, []}
 use lib.ListN.{length, getD, replicate, length-replicate, getD-replicate}
 use lib.Seq.{ext-getD}
@@ -11,7 +11,6 @@ use Rattle.definition.specs.Types.{Job}
 use Rattle.definition.specs.Admit.{mappedAt}
 use Rattle.definition.specs.Place.{total, piecesIn, usesIn, usesOf}
 use Rattle.definition.specs.Build.{empty}
-use Rattle.layout.specs.declared.Table.{Table}
 use Rattle.layout.specs.declared.Layout.{Layout}
 use Rattle.operands.proofs.Rows.{long}
 use Rattle.virt_regs.specs.declared.OutLayout.{OutLayout}
@@ -20,7 +19,7 @@ use Rattle.virt_regs.specs.Part.{part, length-part, part-get}
 use Rattle.virt_regs.specs.Encoding.{segBase, useBase, groupBase, tablesEnd, allPieces, countsOf, Holds}
 use Rattle.work_layout.specs.declared.WorkLayout.{WorkLayout}
 use Rattle.entry.specs.Accepted.{Prepared}
-use Rattle.constraints.specs.Ready.{operandsIn, Mapping, Stands}
+use Rattle.constraints.specs.Ready.{operandsIn, Mapping}
 use Rattle.place_end.specs.Ends.{Sane}
 use Rattle.build_state.specs.Fits.{GroupsFit, StateFits, StandsAs}
 
@@ -43,6 +42,12 @@ empty-fits J = record { sane = tt; groups = tt; fit = no-mapping J }
 -- words that are all 0, up to word e
 abbrev pub Clear : ℕ → List ℕ → Type 0
 Clear e O = (i : ℕ) → i < e → getD O i 0 ≡ 0
+
+-- a slice of zeros is, to any word
+pub clear-zeros : (n e : ℕ) → Clear e (replicate n 0)
+clear-zeros zero e i h = refl
+clear-zeros (suc n) e zero h = refl
+clear-zeros (suc n) e (suc i) h = clear-zeros n e i (omega arith)
 
 clear-part : (O : List ℕ) (a b e n : ℕ) → n ≡ b - a → a ≤ b → b ≤ e → e ≤ length O → Clear e O → part a b O ≡ pad n []
 clear-part O a b e n q h l m z =

@@ -1,27 +1,23 @@
 -- Each set of an accepted job is laid out for the builder's steps. Assumes nothing.
-use Prim.Native.Nat.{ℕ, zero, suc, _+_, _-_, _*_, _≤_, _<_}
+use Prim.Native.Nat.{ℕ, suc, _+_, _-_, _≤_, _<_}
 use native.Mathlib.Omega.{arith}
 use mathlib.Core.Path.{_≡_, refl, sym, ap, subst, _∙_}
 use mathlib.Core.Bool.{Bool, true, false}
 use mathlib.Core.List.{List, [], _∷_}
-use lib.ListN.{length, getD}
+use lib.ListN.{length}
 use Rattle.definition.specs.declared.Use.{Use}
 use Rattle.definition.specs.Types.{Segment}
 use Rattle.definition.specs.Uses.{isClassUse}
 use Rattle.definition.specs.Place.{usesOf}
 use Rattle.definition.specs.Build.{one, classUses, runs, sameSet}
-use Rattle.layout.specs.declared.Table.{Table}
 use Rattle.layout.specs.declared.Layout.{Layout}
-use Rattle.layout.specs.declared.SegRow.{SegRow}
 use Rattle.layout.specs.Layout.{segAt, nextUse}
 use Rattle.job.specs.Job.{jobOf}
-use Rattle.set_part.specs.declared.SetPart.{SetPart}
-use Rattle.set_part.specs.Part.{PartOk, CountsRise, partSegs, wholePart}
+use Rattle.set_part.specs.Part.{PartOk, partSegs, wholePart}
 use Rattle.set_part.proofs.Bounds.{first-le-end}
 use Rattle.set_part.proofs.Uses.{part-count}
 use Rattle.set_part.proofs.Whole as whole
 use Rattle.work_layout.specs.declared.WorkLayout.{WorkLayout}
-use Rattle.conflict_piece.specs.Conflict.{RowsOk}
 use Rattle.steps.specs.Laid.{SegsFair, usesLeft, Laid}
 use Rattle.steps.specs.Built.{Changed}
 use Rattle.build_begin.specs.Begun.{Begun, Onward, KeptFrom, kept-changed, kept-then, onward-kept}

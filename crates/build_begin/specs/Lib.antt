@@ -4,3 +4,4 @@ pub mod Begins
 pub mod Empty
 pub mod Sets
 pub mod Laid
+pub mod Loop

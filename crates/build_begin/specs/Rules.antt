@@ -18,7 +18,7 @@ use Rattle.definition.specs.declared.Use.{Use}
 use Rattle.definition.specs.Types.{Segment, Job}
 use Rattle.definition.specs.RegInfo.{classAt, noClass}
 use Rattle.definition.specs.Build.{withUses}
-use Rattle.definition.specs.Entry.{bookOk, bookTests, chained, classOk, classTests, conj, entry, entryTests, every, functionOk, groupUseOk, insts, limitTests, limitsOk, membersOf, segmentOk, segmentTests, segmentsOk, sized, useOk, usesOk}
+use Rattle.definition.specs.Entry.{bookOk, bookTests, chained, classOk, classTests, entry, entryTests, every, functionOk, groupUseOk, insts, limitTests, limitsOk, membersOf, segmentOk, segmentTests, segmentsOk, sized, useOk, usesOk}
 use Rattle.definition.specs.Promised.{bitAt}
 use Rattle.definition.proofs.Places.{All, all-map, all-getD}
 use Rattle.definition.proofs.Tables.{operandAt, uses-are}
@@ -121,7 +121,7 @@ module _ (J : Job) (e : entry J ≡ none) where
   unfolding entry
   uses-passed = every-all (usesOk J) (J .segments) (lowest-none (entryTests J) e .1 .1 .1 .1 .1 .0)
 
-  segments-passed : All (λ s. segmentOk J s ≡ true) (J .segments)
+  pub segments-passed : All (λ s. segmentOk J s ≡ true) (J .segments)
   unfolding entry segmentsOk
   segments-passed = every-all (segmentOk J) (J .segments) (and-both _ _ (lowest-none (entryTests J) e .1 .1 .1 .1 .0) .0)
 

@@ -6,10 +6,8 @@ use mathlib.Core.Bool.{Bool, true, false, cond}
 use mathlib.Core.Option.{none}
 use mathlib.Core.List.{List, [], _∷_, _++_}
 use Rattle.rows.specs.Tab.{tab, tab-more, tab-done, tab-append}
-use Rattle.definition.specs.declared.Use.{Use}
 use Rattle.definition.specs.Types.{Segment, Job}
 use Rattle.definition.specs.RegInfo.{setOf}
-use Rattle.definition.specs.Place.{usesOf}
 use Rattle.definition.specs.Build.{onto, runs, sameSet}
 use Rattle.definition.specs.Entry.{behind, chained, every, entry, entryTests, segmentOk, segmentsOk}
 use Rattle.definition.proofs.Places.{All, all-split}
@@ -18,12 +16,11 @@ use Rattle.definition.proofs.Fits.{SegsFit}
 use Rattle.definition.proofs.Order.{Rise, runs-rise}
 use Rattle.definition.proofs.Admission.{UseFits, SegFits}
 use Rattle.uses.specs.Rows.{useRow}
-use Rattle.layout.specs.declared.Table.{Table}
 use Rattle.layout.specs.declared.Layout.{Layout}
 use Rattle.layout.specs.Layout.{segmentOf}
 use Rattle.job.specs.Job.{jobBy, jobOf}
 use Rattle.virt_regs.specs.Each.{Each, each-front, each-back}
-use Rattle.vreg_weight.specs.Sorted.{Sorted, fit-sorted}
+use Rattle.vreg_weight.specs.Sorted.{fit-sorted}
 use Rattle.vreg_weight.specs.Sound.{Sound, all-each, each-uses, accepted-sound}
 use Rattle.steps.specs.Laid.{SegsFair}
 use Rattle.build_begin.specs.Rules.{accepted-kinds, accepted-good, accepted-ends}
@@ -65,7 +62,7 @@ module _ (W : List ℕ) (lay : Layout) where
       ∙ ap (λ (ss : List Segment). segsFrom W lay 0 a ++ ss) (segs-split a b (lay .segments .n) h l)
 
   -- what is so for all of the job's is so for these
-  all-from : (P : Segment → Type 0) (a b : ℕ) → a ≤ b → b ≤ lay .segments .n → All P (jobOf W lay .segments) → All P (segsFrom W lay a b)
+  pub all-from : (P : Segment → Type 0) (a b : ℕ) → a ≤ b → b ≤ lay .segments .n → All P (jobOf W lay .segments) → All P (segsFrom W lay a b)
   all-from P a b h l p =
       let q = subst (λ (ss : List Segment). All P ss) (job-split a b h l) p in
       all-split P (segsFrom W lay a b) (segsFrom W lay b (lay .segments .n)) (all-split P (segsFrom W lay 0 a) (segsFrom W lay a b ++ segsFrom W lay b (lay .segments .n)) q .1) .0

@@ -16,7 +16,7 @@ use Rattle.job.specs.Job.{rawJob}
 use Rattle.job_shape.specs.Shape.{layoutOf, shapeOk}
 use Rattle.job_shape.specs.Answer.{binaryJob, answerIf, binaryAnswer}
 use Rattle.job_shape.proofs.Tests.{passed, failed}
-use Rattle.entry.specs.Number.{numberIn, firstNumber, tableTests, numberFor, entryIf, entryOf, entryNumber}
+use Rattle.entry.specs.Number.{numberIn, firstNumber, tableTests, numberFor, entryOf, entryNumber}
 
 -- ---- tests one after the other: one of which a callee answered t
 
