@@ -4,10 +4,8 @@ use native.Mathlib.Omega.{arith}
 use mathlib.Core.Path.{_≡_, sym, _∙_}
 use mathlib.Core.Bool.{true}
 use mathlib.Core.List.{List}
-use lib.ListN.{getD}
 use Rattle.rows.specs.RowsAt.{rowsAt}
 use Rattle.words.specs.Words.{wordCount, wordsOf}
-use Rattle.words.specs.Laws.{words-small}
 use Rattle.definition.specs.Entry.{chained, notAfter, entry, entryTests}
 use Rattle.definition.proofs.Entries.{lowest-none}
 use Rattle.hints.specs.Hints.{hintAt}
@@ -21,7 +19,6 @@ use Rattle.entry.specs.Accepted.{Accepted, Prepared}
 use Rattle.entry.proofs.Rows.{index-room, job-none, job-insts, use-passed}
 use Rattle.virt_regs.specs.declared.OutLayout.{OutLayout}
 use Rattle.virt_regs.specs.Encoding.{tablesEnd}
-use Rattle.use_costs.proofs.Accepted.{accepted-book}
 use Rattle.constraints.specs.Ready.{Ready}
 use Rattle.constraints.proofs.Accepted.{ready-of}
 use Rattle.part_maps.specs.Maps.{MapApart}
@@ -72,11 +69,17 @@ module _ {s K : List ℕ} {lay : Layout} {wl : WorkLayout} {n : ℕ} (a : Accept
   onward-begin f h p = record { ready = ready h p; marks = λ u l m. p .marks u m }
 
   -- with result tables in o words
-  pub builds : (o : ℕ) (ol : OutLayout) → ((i : ℕ) → getD s i 0 < 256) → tablesEnd ol ≤ o → ol .regs < 2 ^ 32 → ol .segs < 2 ^ 32 → ol .uses < 2 ^ 32 → ol .groups + 1 < 2 ^ 32 → Builds o (wordsOf s) lay ol
-  builds o ol bytes long regs segs uses groups =
+  pub builds : (o : ℕ) (ol : OutLayout) → tablesEnd ol ≤ o → ol .regs < 2 ^ 32 → ol .segs < 2 ^ 32 → ol .uses < 2 ^ 32 → ol .groups + 1 < 2 ^ 32 → Builds o (wordsOf s) lay ol
+  builds o ol long regs segs uses groups =
       let e = job-none a in
       record {
-        book = accepted-book (wordsOf s) lay (words-small s bytes) e;
+        book = record {
+          adjust = a .limited .adjust;
+          move = a .booked .cheaperThanMove;
+          load = a .booked .cheaperThanLoad;
+          indirect = a .booked .indirect;
+          costs = a .booked .costs;
+        };
         masks = accepted-masks (jobOf (wordsOf s) lay) e;
         sizes = accepted-sizes (jobOf (wordsOf s) lay) e;
         widths = accepted-widths (jobOf (wordsOf s) lay) e;

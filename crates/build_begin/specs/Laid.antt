@@ -81,3 +81,8 @@ module _ {w : ℕ} {W : List ℕ} {lay : Layout} {wl : WorkLayout} (g : Begun w 
   -- which is segment b's first use, if there is a segment b
   pub next-first : b < lay .segments .n → nextUse W lay (b - 1) ≡ segAt W lay b .first
   next-first m = let e : b - 1 + 1 ≡ b = omega arith in whole.next-inner W lay (b - 1) (omega arith) ∙ ap (λ (i : ℕ). segAt W lay i .first) e
+
+  -- what a loop carries: wherever a set begins, this holds of its first use
+  pub onward-set : {t : ℕ} {K K₁ K₂ : List ℕ} {n : ℕ} → Onward t w W K lay wl (segAt W lay a .first) → Changed lay wl (wholePart W lay a b) n K K₁
+      → KeptFrom wl (nextUse W lay (b - 1)) K₁ K₂ → b < lay .segments .n → Onward t w W K₂ lay wl (segAt W lay b .first)
+  onward-set {t} {K} {K₁} {K₂} o c k m = subst (λ (f : ℕ). Onward t w W K₂ lay wl f) (next-first m) (onward-next o c k)
