@@ -3,7 +3,6 @@ use Prim.Native.Nat.{ℕ, suc, _/_, _≤_, _<_}
 use native.Mathlib.Omega.{arith}
 use mathlib.Core.Path.{_≡_, refl, sym, ap, subst, _∙_}
 use mathlib.Core.Bool.{Bool, true, false, not, _&&_}
-use mathlib.Core.Option.{none}
 use mathlib.Core.List.{List}
 use lib.Dec.{leb, ltb}
 use lib.ListN.{length, getD}
@@ -25,8 +24,7 @@ use Rattle.layout.specs.declared.Table.{Table}
 use Rattle.layout.specs.declared.Layout.{Layout}
 use Rattle.layout.specs.Layout.{Fits}
 use Rattle.job.specs.Job.{rawJob}
-use Rattle.job_shape.specs.declared.Shape.{Shape}
-use Rattle.job_shape.specs.Shape.{layoutOf, shapeOk, Shaped, Formed}
+use Rattle.job_shape.specs.Shape.{Shaped}
 use Rattle.job_shape.proofs.Tests.{passed}
 use Rattle.entry_book.specs.Limits.{Limited}
 use Rattle.entry_book.proofs.Limits.{limited}
@@ -39,10 +37,10 @@ use Rattle.entry_uses.proofs.Typed.{raw-is-job}
 use Rattle.work_layout.specs.declared.WorkLayout.{WorkLayout}
 use Rattle.work_layout.specs.Regions.{maxWork, Regions, chainsIn}
 use Rattle.work_layout.proofs.Parts.{heads-are}
-use Rattle.entry.specs.Number.{entryNumber}
+use Rattle.entry.specs.Number.{numberFor}
 use Rattle.entry.specs.declared.Entered.{Entered}
 use Rattle.entry.specs.Accepted.{noEntry, Accepted}
-use Rattle.entry.proofs.Numbers.{number-is, number-none}
+use Rattle.entry.proofs.Numbers.{entry-none}
 use Rattle.entry.proofs.Counts.{rising}
 
 -- the number of instructions
@@ -50,22 +48,16 @@ pub raw-insts : (W : List ℕ) (lay : Layout) → insts (rawJob W lay) ≡ insts
 unfolding insts
 raw-insts W lay = ap instsOf (raw-blocks W lay)
 
--- test 1 is passed
-pub record Began (s : List ℕ) (lay : Layout) : Type 0 where
-  pub found : lay ≡ layoutOf (wordsOf s)
-  pub ok : shapeOk s ≡ true
-  pub shaped : Shaped s lay
-
-pub began : {s : List ℕ} {r : Shape} → Formed s r → not (r .ok) ≡ false → Began s (r .lay)
-began {s} {r} f h = let t = not-false (r .ok) h in record { found = f .found t; ok = sym (f .is) ∙ t; shaped = f .shaped t }
-
 -- a test failed
-pub no-entry : {r : Entered} (lay : Layout) (k : ℕ) (s K : List ℕ) → r ≡ noEntry (suc k) lay → suc k ≡ entryNumber s → (r .number ≡ entryNumber s) × (r .number ≡ 0 → Accepted s K (r .lay) (r .wl) (r .insts))
-no-entry lay k s K e d = let n = ap (λ (x : Entered). x .number) e in (n ∙ d, λ z. absurd (omega (arith, n, z)))
+pub no-entry : {r : Entered} (lay : Layout) (k : ℕ) (s K : List ℕ) → r ≡ noEntry (suc k) lay → suc k ≡ numberFor (wordsOf s) lay
+    → ((r .number ≡ numberFor (wordsOf s) lay) × (r .lay ≡ lay)) × (r .number ≡ 0 → Accepted s K (r .lay) (r .wl) (r .insts))
+no-entry lay k s K e d =
+    let n = ap (λ (x : Entered). x .number) e in
+    ((n ∙ d, ap (λ (x : Entered). x .lay) e), λ z. absurd (omega (arith, n, z)))
 
 -- test 2 is passed
-pub few : {s : List ℕ} {lay : Layout} {t : Bool} → Began s lay → not t ≡ false → t ≡ limitsOk (rawJob (wordsOf s) lay) → Limited (wordsOf s) lay
-few {s} {lay} b h e = limited (wordsOf s) lay (b .shaped .counts) (passed h e)
+pub few : {s : List ℕ} {lay : Layout} {t : Bool} → Shaped s lay → not t ≡ false → t ≡ limitsOk (rawJob (wordsOf s) lay) → Limited (wordsOf s) lay
+few {s} {lay} b h e = limited (wordsOf s) lay (b .counts) (passed h e)
 
 -- test 4 is passed, and its call left the work slice as long as it was
 pub ready : {N a b : ℕ} {W K : List ℕ} {lay : Layout} {c : Chains} {t : Bool} → Fits N lay → limitsOk (rawJob W lay) ≡ true → Indexes (a / 4) W lay c → b ≡ a → not t ≡ false → t ≡ functionOk (rawJob W lay)
@@ -96,15 +88,12 @@ indexes {W} {lay} {wl} {c} {w} {n} h e r q =
 indexed : (W K : List ℕ) (lay : Layout) (wl : WorkLayout) (c : Chains) → c ≡ chainsIn lay wl → Chained K c (operandsOf W c) → Chained K (chainsIn lay wl) (operandsAt W (lay .operands .at) (lay .operands .n))
 indexed W K lay wl c q h = subst (λ (x : Chains). Chained K x (operandsOf W x)) q h
 
-module _ (s : List ℕ) (lay : Layout) (b : Began s lay) (zero : entryNumber s ≡ 0) where
+module _ (s : List ℕ) (lay : Layout) (b : Shaped s lay) (zero : numberFor (wordsOf s) lay ≡ 0) where
   abbrev W : List ℕ
   W = wordsOf s
 
   abbrev job : Job
   job = rawJob (wordsOf s) lay
-
-  pub entry-none : entry job ≡ none
-  entry-none = number-none (entry job) (sym (number-is s lay (b .found) (b .ok)) ∙ zero)
 
   abbrev os : List Operand
   os = operandsAt W (lay .operands .at) (lay .operands .n)
@@ -124,19 +113,19 @@ module _ (s : List ℕ) (lay : Layout) (b : Began s lay) (zero : entryNumber s �
       → (c : Chains) → c ≡ chainsIn lay wl → Chained K c (operandsOf W c) → Accepted s K lay wl n
   unfolding entry
   accepted K wl n bytes d r c q h =
-      let a = lowest-none (entryTests job) entry-none in
+      let none-failed = entry-none (wordsOf s) lay zero in
+      let a = lowest-none (entryTests job) none-failed in
       record {
-        layout = b .found;
-        shaped = b .shaped;
-        limited = limited W lay (b .shaped .counts) (a .0);
+        shaped = b;
+        limited = limited W lay (b .counts) (a .0);
         booked = book-bytes s lay bytes (a .1 .0);
-        accepted = entry-none;
+        accepted = none-failed;
         same = raw-is-job W lay (a .1 .1 .0) (a .1 .1 .1 .1 .1 .0);
         insts = d;
         regions = r;
         index = indexed W K lay wl c q h;
         under = operands-under n d (a .1 .1 .0);
         single = operands-single (a .1 .1 .0);
-        rising = rising W lay (b .shaped .counts);
+        rising = rising W lay (b .counts);
         sorted = hints-sorted (a .1 .1 .1 .0);
       }

@@ -1,5 +1,5 @@
 -- The number of the first test that fails. Assumes nothing.
-use Prim.Native.Nat.{ℕ}
+use Prim.Native.Nat.{ℕ, suc}
 use native.Mathlib.Omega.{arith}
 use mathlib.Core.Path.{_≡_, refl, sym, ap, _∙_}
 use mathlib.Core.Bool.{Bool, true, false, not}
@@ -16,7 +16,7 @@ use Rattle.job.specs.Job.{rawJob}
 use Rattle.job_shape.specs.Shape.{layoutOf, shapeOk}
 use Rattle.job_shape.specs.Answer.{binaryJob, answerIf, binaryAnswer}
 use Rattle.job_shape.proofs.Tests.{passed, failed}
-use Rattle.entry.specs.Number.{numberIn, firstNumber, tableTests, entryIf, entryOf, entryNumber}
+use Rattle.entry.specs.Number.{numberIn, firstNumber, tableTests, numberFor, entryOf, entryNumber}
 
 -- ---- tests one after the other: one of which a callee answered t
 
@@ -50,53 +50,74 @@ unfolding numberIn
 number-none none e = refl
 number-none (some r) e = absurd (named r e)
 
--- ---- the number of a slice
+-- ---- the number of a job
 
-pub number-off : (s : List ℕ) → shapeOk s ≡ false → 1 ≡ entryNumber s
-unfolding entryNumber entryOf numberIn
-number-off s e = rw e
-
-module _ (s : List ℕ) (lay : Layout) (found : lay ≡ layoutOf (wordsOf s)) (ok : shapeOk s ≡ true) where
+module _ (W : List ℕ) (lay : Layout) where
   abbrev job : Job
-  job = rawJob (wordsOf s) lay
+  job = rawJob W lay
 
-  job-is : binaryJob s ≡ job
-  unfolding binaryJob
-  job-is = ap (λ (l : Layout). rawJob (wordsOf s) l) (sym found)
-
-  pub number-is : entryNumber s ≡ numberIn (entry job)
-  unfolding entryNumber entryOf
-  number-is = rw (ok, job-is)
+  number-entry : numberFor W lay ≡ numberIn (entry job)
+  unfolding numberFor
+  number-entry = refl
 
   entry-is : numberIn (entry job) ≡ firstNumber ((limitsOk job, OverALimit) ∷ (bookOk job, BadBook) ∷ tableTests job)
   unfolding entry firstNumber
   entry-is = refl
 
-  pub number-limits : {t : Bool} → not t ≡ true → t ≡ limitsOk job → 2 ≡ entryNumber s
-  number-limits h e = fails OverALimit ((bookOk job, BadBook) ∷ tableTests job) h e ∙ sym entry-is ∙ sym number-is
+  pub number-limits : {t : Bool} → not t ≡ true → t ≡ limitsOk job → 2 ≡ numberFor W lay
+  number-limits h e = fails OverALimit ((bookOk job, BadBook) ∷ tableTests job) h e ∙ sym entry-is ∙ sym number-entry
 
-  pub number-book : {t u : Bool} → not t ≡ false → t ≡ limitsOk job → not u ≡ true → u ≡ bookOk job → 3 ≡ entryNumber s
-  number-book h e i f = passes OverALimit ((bookOk job, BadBook) ∷ tableTests job) h e (fails BadBook (tableTests job) i f) ∙ sym entry-is ∙ sym number-is
+  pub number-book : {t u : Bool} → not t ≡ false → t ≡ limitsOk job → not u ≡ true → u ≡ bookOk job → 3 ≡ numberFor W lay
+  number-book h e i f = passes OverALimit ((bookOk job, BadBook) ∷ tableTests job) h e (fails BadBook (tableTests job) i f) ∙ sym entry-is ∙ sym number-entry
 
-  pub number-tables : {t u : Bool} {n : ℕ} → not t ≡ false → t ≡ limitsOk job → not u ≡ false → u ≡ bookOk job → n ≡ firstNumber (tableTests job) → n ≡ entryNumber s
-  number-tables h e i f g = passes OverALimit ((bookOk job, BadBook) ∷ tableTests job) h e (passes BadBook (tableTests job) i f g) ∙ sym entry-is ∙ sym number-is
+  pub number-tables : {t u : Bool} {n : ℕ} → not t ≡ false → t ≡ limitsOk job → not u ≡ false → u ≡ bookOk job → n ≡ firstNumber (tableTests job) → n ≡ numberFor W lay
+  number-tables h e i f g = passes OverALimit ((bookOk job, BadBook) ∷ tableTests job) h e (passes BadBook (tableTests job) i f g) ∙ sym entry-is ∙ sym number-entry
 
--- ---- the answer to a slice
+  -- number 0: no refusal
+  pub entry-none : numberFor W lay ≡ 0 → entry job ≡ none
+  entry-none e = number-none (entry job) (sym number-entry ∙ e)
 
-pub answer-by : (s : List ℕ) (room : Room) → binaryAnswer s room ≡ answerTo (entryOf s) (binaryJob s) room
-unfolding binaryAnswer answerIf answer answerTo entryOf
-answer-by s room = by (shapeOk s)
-  where
-    by : (b : Bool) → answerIf b (binaryJob s) room ≡ answerTo (entryIf b (binaryJob s)) (binaryJob s) room
-    by true = refl
-    by false = refl
+  -- ---- the answer to it
 
--- number 0: what is built
-pub answer-built : (s : List ℕ) (room : Room) → entryNumber s ≡ 0 → binaryAnswer s room ≡ build (binaryJob s) room
-unfolding entryNumber answerTo
-answer-built s room e = answer-by s room ∙ ap (λ (o : Option Refusal). answerTo o (binaryJob s) room) (number-none (entryOf s) e)
+  -- number 0: what is built
+  pub answer-built : (room : Room) → numberFor W lay ≡ 0 → answer job room ≡ build job room
+  unfolding answer answerTo
+  answer-built room e = ap (λ (o : Option Refusal). answerTo o job room) (entry-none e)
 
--- any other: the refusal of that number
-pub answer-refused : (s : List ℕ) (room : Room) (r : Refusal) → entryOf s ≡ some r → (binaryAnswer s room ≡ refused r) × (entryNumber s ≡ numberOf r)
-unfolding entryNumber answerTo numberIn
-answer-refused s room r e = (answer-by s room ∙ ap (λ (o : Option Refusal). answerTo o (binaryJob s) room) e, ap numberIn e)
+  -- any other: the refusal of that number
+  pub answer-refused : (room : Room) (r : Refusal) → entry job ≡ some r → (answer job room ≡ refused r) × (numberFor W lay ≡ numberOf r)
+  unfolding answer answerTo numberIn
+  answer-refused room r e = (ap (λ (o : Option Refusal). answerTo o job room) e, number-entry ∙ ap numberIn e)
+
+  pub answer-number : (room : Room) (n : ℕ) → numberFor W lay ≡ suc n → (r : Refusal) × (answer job room ≡ refused r) × (numberOf r ≡ suc n)
+  unfolding numberIn
+  answer-number room n e = go (entry job) refl (sym number-entry ∙ e)
+    where
+      go : (o : Option Refusal) → entry job ≡ o → numberIn o ≡ suc n → (r : Refusal) × (answer job room ≡ refused r) × (numberOf r ≡ suc n)
+      go none d f = absurd (omega (arith, f))
+      go (some r) d f = (r, answer-refused room r d .0, f)
+
+-- ---- a binary job
+
+-- a slice off its shape
+pub number-off : (s : List ℕ) → shapeOk s ≡ false → 1 ≡ entryNumber s
+unfolding entryNumber entryOf numberIn
+number-off s e = rw e
+
+pub binary-off : (s : List ℕ) (room : Room) → shapeOk s ≡ false → binaryAnswer s room ≡ refused NotARecord
+unfolding binaryAnswer answerIf
+binary-off s room e = rw e
+
+-- a slice of good shape
+module _ (s : List ℕ) (lay : Layout) (found : lay ≡ layoutOf (wordsOf s)) (ok : shapeOk s ≡ true) where
+  job-is : binaryJob s ≡ rawJob (wordsOf s) lay
+  unfolding binaryJob
+  job-is = ap (λ (l : Layout). rawJob (wordsOf s) l) (sym found)
+
+  pub number-is : entryNumber s ≡ numberFor (wordsOf s) lay
+  unfolding entryNumber entryOf numberFor
+  number-is = rw (ok, job-is)
+
+  pub binary-on : (room : Room) → binaryAnswer s room ≡ answer (rawJob (wordsOf s) lay) room
+  unfolding binaryAnswer answerIf
+  binary-on room = rw (ok, job-is)

@@ -114,7 +114,6 @@ module _ {s K : List ℕ} {lay : Layout} {wl : WorkLayout} {n : ℕ} (a : Accept
   still-accepted : Accepted s X lay wl n
   still-accepted =
       record {
-        layout = a .layout;
         shaped = a .shaped;
         limited = a .limited;
         booked = a .booked;

@@ -141,7 +141,8 @@ module _ {s K : List ℕ} {lay : Layout} {wl : WorkLayout} {n : ℕ} (a : Accept
   group-width g h =
       subst (λ (ms : List Value). length ms ≤ 8) (members-row W lay (record { 0 = g }) h) (members-few (rawJob W lay) passed-function (record { 0 = g }) (omega (arith, vgroups-count W lay)))
 
-  job-none : entry (jobOf W lay) ≡ none
+  -- the job that code reads is accepted
+  pub job-none : entry (jobOf W lay) ≡ none
   job-none = subst (λ (j : Job). entry j ≡ none) (a .same) (a .accepted)
 
   passed-uses : every (usesOk (jobOf W lay)) (jobOf W lay .segments) ≡ true
@@ -156,7 +157,7 @@ module _ {s K : List ℕ} {lay : Layout} {wl : WorkLayout} {n : ℕ} (a : Accept
   pub use-passed : (u : ℕ) (h : u < lay .uses .n) → useOk (jobOf W lay) (segmentOf useRow W lay (use-owner u h .seg)) (useRow W (lay .uses .at + u * 6)) ≡ true
   use-passed u h = use-passes W lay u h passed-uses (use-owner u h)
 
-  job-insts : insts (jobOf W lay) ≡ instsOf (blocksAt W (lay .blocks .at) (lay .blocks .n))
+  pub job-insts : insts (jobOf W lay) ≡ instsOf (blocksAt W (lay .blocks .at) (lay .blocks .n))
   unfolding insts jobOf jobBy
   job-insts = refl
 

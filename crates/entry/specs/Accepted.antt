@@ -16,7 +16,7 @@ use Rattle.operands.specs.Chains.{Under, Chained}
 use Rattle.layout.specs.declared.Table.{Table}
 use Rattle.layout.specs.declared.Layout.{Layout}
 use Rattle.job.specs.Job.{rawJob, jobOf}
-use Rattle.job_shape.specs.Shape.{layoutOf, Shaped}
+use Rattle.job_shape.specs.Shape.{Shaped}
 use Rattle.entry_book.specs.Limits.{Limited}
 use Rattle.entry_book.specs.Book.{Booked}
 use Rattle.entry_uses.specs.Tests.{Rising}
@@ -35,7 +35,6 @@ noEntry number lay = record {
 
 -- The job of the bytes s is accepted, and the work words K hold the index of its operands by its n instructions.
 pub record Accepted (s K : List ℕ) (lay : Layout) (wl : WorkLayout) (n : ℕ) : Type 0 where
-  pub layout : lay ≡ layoutOf (wordsOf s)
   pub shaped : Shaped s lay
   pub limited : Limited (wordsOf s) lay
   pub booked : Booked (wordsOf s) lay

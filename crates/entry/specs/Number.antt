@@ -1,4 +1,4 @@
--- The number of a binary job's entry. Assumes nothing.
+-- The number of a job's entry. Assumes nothing.
 use Prim.Native.Nat.{ℕ}
 use mathlib.Core.Bool.{Bool, true, false}
 use mathlib.Core.Option.{Option, none, some}
@@ -7,6 +7,8 @@ use Rattle.definition.specs.declared.Refusal.{Refusal}
 use Rattle.definition.specs.declared.Refusal.the-variants.{NotARecord, BadFunction, BadHint, BadSegment, BadUse}
 use Rattle.definition.specs.Types.{Job, numberOf}
 use Rattle.definition.specs.Entry.{every, functionOk, hintsOk, segmentsOk, usesOk, lowestOf, entry}
+use Rattle.layout.specs.declared.Layout.{Layout}
+use Rattle.job.specs.Job.{rawJob}
 use Rattle.job_shape.specs.Shape.{shapeOk}
 use Rattle.job_shape.specs.Answer.{binaryJob}
 
@@ -26,6 +28,13 @@ listTests job = (hintsOk job, BadHint) ∷ (segmentsOk job, BadSegment) ∷ (eve
 
 abbrev pub tableTests : Job → List (Bool × Refusal)
 tableTests job = (functionOk job, BadFunction) ∷ listTests job
+
+-- that of the job with the words W: 0 if it is accepted
+unfoldable pub numberFor : List ℕ → Layout → ℕ
+unfolding numberIn entry rawJob
+numberFor W lay = numberIn (entry (rawJob W lay))
+
+-- ---- of a binary job
 
 abbrev pub entryIf : Bool → Job → Option Refusal
 unfolding entry

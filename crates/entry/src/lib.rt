@@ -1,4 +1,4 @@
-// The entry tests on a binary job, lowest number first, and the work slice of a job that passes them.
+// The entry tests on a job of good shape, lowest number first, and the work slice of a job that passes them.
 use layout::Layout;
 use operands::Chains;
 use work_layout::WorkLayout;
@@ -10,11 +10,12 @@ ghost use Rattle.definition.specs.Entry.{limitsOk};
 ghost use Rattle.layout.specs.Layout.{Fits};
 ghost use Rattle.operands.specs.Chains.{Chained, operandsOf};
 ghost use Rattle.job.specs.Job.{rawJob};
+ghost use Rattle.job_shape.specs.Shape.{Shaped};
 ghost use Rattle.entry_function.specs.Counts.{Indexes};
 ghost use Rattle.entry_kinds.specs.Tests.{Ready};
 ghost use Rattle.entry_uses.specs.Tests.{Rising};
 ghost use Rattle.work_layout.specs.Regions.{maxWork};
-ghost use Rattle.entry.specs.Number.{listTests, tableTests, firstNumber, entryNumber};
+ghost use Rattle.entry.specs.Number.{listTests, tableTests, firstNumber, numberFor};
 ghost use Rattle.entry.specs.Accepted.{noEntry, Accepted, Prepared, prepared};
 
 // The answer: 0, or the number of the lowest test that fails. Where it is 0, the job's layout, the parts of the work slice and the number of instructions.
@@ -74,17 +75,12 @@ fn test_tables(job: &[u8], lay: Layout, work: &mut [u8], c: Chains) -> u32
     test_lists(job, lay, work, c)
 }
 
-// Tests 1 to 7.
-pub fn enter(job: &[u8], work: &mut [u8]) -> Entered
-    requires { ⌜ maxWork ≤ wordCount (now work) ⌝ }
-    ensures { λ r. ⌜ r .number ≡ entryNumber (now (job .entry)) ⌝ }
+// Tests 2 to 7, of a job that passed 1 with the layout `lay`.
+pub fn enter(job: &[u8], lay: Layout, work: &mut [u8]) -> Entered
+    requires { ⌜ Shaped (now job) lay × (maxWork ≤ wordCount (now work)) ⌝ }
+    ensures { λ r. ⌜ (r .number ≡ numberFor (wordsOf (now (job .entry))) lay) × (r .lay ≡ lay) ⌝ }
     ensures { λ r. ⌜ (r .number ≡ 0 → Accepted (now (job .entry)) (wordsOf (now (work .exit))) (r .lay) (r .wl) (r .insts)) ⌝ }
 {
-    let shape = job_shape::find_layout(job);
-    let lay = shape.lay;
-    if !shape.ok {
-        return refuse(1, lay);
-    }
     if !entry_book::limits_ok(job, lay) {
         return refuse(2, lay);
     }
@@ -120,12 +116,12 @@ pub fn prepare(job: &[u8], e: Entered, work: &mut [u8])
 }
 
 // The tests, and the work slice of a job that passes them.
-pub fn enter_prepared(job: &[u8], work: &mut [u8]) -> Entered
-    requires { ⌜ maxWork ≤ wordCount (now work) ⌝ }
-    ensures { λ r. ⌜ r .number ≡ entryNumber (now (job .entry)) ⌝ }
+pub fn enter_prepared(job: &[u8], lay: Layout, work: &mut [u8]) -> Entered
+    requires { ⌜ Shaped (now job) lay × (maxWork ≤ wordCount (now work)) ⌝ }
+    ensures { λ r. ⌜ (r .number ≡ numberFor (wordsOf (now (job .entry))) lay) × (r .lay ≡ lay) ⌝ }
     ensures { λ r. ⌜ (r .number ≡ 0 → Accepted (now (job .entry)) (wordsOf (now (work .exit))) (r .lay) (r .wl) (r .insts) × Prepared (wordsOf (now (job .entry))) (wordsOf (now (work .exit))) (r .lay) (r .wl)) ⌝ }
 {
-    let e = enter(job, work);
+    let e = enter(job, lay, work);
     if e.number != 0 {
         return e;
     }

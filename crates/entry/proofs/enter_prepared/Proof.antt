@@ -9,7 +9,7 @@ returns c = (c .before .before .before .before .enter .ensures .0, λ e. absurd 
 prepare-requires : tie.Need-prepare-requires
 prepare-requires c κs =
     let e = c .before .before .before .before .before .enter in
-    (e .ensures .1 (c .before .if1 .left), omega (arith, e .kept .1 .0, c .before .before .before .before .before .before .before .before .before .pre))
+    (e .ensures .1 (c .before .if1 .left), omega (arith, e .kept .1 .1 .0, c .before .before .before .before .before .before .before .before .before .pre .1))
 
 returns-2 : tie.Need-returns-2
 returns-2 c = (c .before .before .before .before .before .before .before .before .enter .ensures .0, λ e. c .before .before .prepare .ensures .1)
