@@ -18,7 +18,7 @@ use Rattle.definition.specs.Place.{alone, lead, join, merge, placeGroup, placeB
 use Rattle.members.specs.Places.{regOf, groupOf, given}
 use Rattle.constraints.specs.declared.Held.{Held}
 use Rattle.constraints.specs.Held.{heldOf}
-use Rattle.place_part.specs.Asked.{groupHeld}
+use Rattle.place_laws.specs.Held.{groupHeld}
 
 -- a number + 1
 pub group-of : (n : ℕ) → (n ≡ 0 → ⊥) → groupOf n ≡ some (vrgroup (n - 1))
