@@ -1,6 +1,5 @@
 // builder.rs: a working part placed as a register: in no group, in a new group, in a group's empty place, or merged into a member.
 use constraints::Held;
-use work_layout::WorkLayout;
 use definition::Stop;
 use definition::ValueSet;
 use definition::VirtReg;
@@ -22,6 +21,7 @@ use vreg_find::Place;
 use vreg_find::find_place;
 use vreg_insert::open_gaps;
 use vreg_put::has_room;
+use work_layout::WorkLayout;
 ghost use mathlib.Core.Path.{_≡_};
 ghost use mathlib.Core.Bool.{true};
 ghost use mathlib.Core.Option.{some};
