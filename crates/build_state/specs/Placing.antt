@@ -24,13 +24,14 @@ use Rattle.definition.specs.Uses.{slotOf}
 use Rattle.definition.specs.Weights.{weightOf}
 use Rattle.definition.specs.Admit.{scan, through, fresh, membersAt, mappedAt, registerAt, noRegister}
 use Rattle.definition.specs.Place.{alone, aloneState, firstFrom, groupWeight, hasRoom, inserted, isNone, join, joinState, lastTo, lead, leadState, made, mapOne, mapUses, merge, mergeState, onMapping, orElse, overlaps, place, placeBy, placeGroup, segsOf, slotD, spread, update, usesOf, withPieces}
-use Rattle.definition.specs.Build.{asOwn}
+use Rattle.definition.specs.Build.{asOwn, empty}
 use Rattle.definition.proofs.Places.{All, Ok, Members, Groups, all-map, all-append, all-getD, all-set, members-ok, gate-done, placed, scan-target, update-length, own-uses}
 use Rattle.definition.proofs.Classes.{Masks}
 use Rattle.definition.proofs.Tables.{nth, memb, memb-all, Inside, spread-in, spread-out, spread-len, nth-left, nth-last}
 use Rattle.definition.proofs.Admission.{asked, sizeOf, UseFits, Sizes}
 use Rattle.definition.proofs.Builder.{Placing}
-use Rattle.place_end.specs.Ends.{Sane}
+use Rattle.virt_regs.specs.Each.{each-none}
+use Rattle.place_end.specs.Ends.{FairAt, Sane}
 use Rattle.build_state.specs.Fits.{GroupsFit, StateFits}
 use Rattle.build_state.specs.Held.{GroupFit, MapFit, OperandFit, scan-fit}
 
@@ -314,3 +315,8 @@ pub part-fits : (J : Job) → Masks J → Sizes J → (room : Room) (u : ValueSe
     → place J room u h (asOwn ss) st ≡ done st′ → StateFits J st → Sane J st′ → StateFits J st′
 part-fits J ms sz room u top h ss st st′ e kf q f s =
     placing-state J ms sz room u (asOwn ss) st st′ (subst (All (UseFits J)) (sym (own-uses ss)) kf) (record { top = top; held = h; admitted = rw (own-uses ss) e; put = q }) f s
+
+-- the state that a build starts from
+pub empty-fits : (J : Job) → StateFits J empty
+unfolding Sane
+empty-fits J = record { sane = each-none (FairAt J); groups = tt; fit = make J empty tt (found-empty (PlacesFit J [])) }
