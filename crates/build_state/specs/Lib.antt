@@ -1,2 +1,5 @@
 pub mod Fits
 pub mod Builds
+pub mod Held
+pub mod Placing
+pub mod Rounds

@@ -39,7 +39,8 @@ use Rattle.place.specs.Ready.{Left}
 use Rattle.place_end.specs.declared.Ended.the-variants as ended
 use Rattle.place_end.specs.declared.PlaceEnd.{PlaceEnd}
 use Rattle.place_end.specs.Ends.{Sane, Ends, gate-stopped, gate-full, gate-done, sane-added, sane-spread}
-use Rattle.place_part.specs.Asked.{newPieces, groupHeld, Standing, HeldFits, Asked, RoomEnds, LeadPut}
+use Rattle.place_laws.specs.Held.{HeldFits, groupHeld}
+use Rattle.place_part.specs.Asked.{newPieces, Standing, Asked, RoomEnds, LeadPut}
 
 -- ---- by the answer b to whether there is room
 

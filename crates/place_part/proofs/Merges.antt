@@ -46,7 +46,8 @@ use Rattle.place.specs.Laws.{filled}
 use Rattle.place_end.specs.declared.Ended.the-variants as ended
 use Rattle.place_end.specs.declared.PlaceEnd.{PlaceEnd}
 use Rattle.place_end.specs.Ends.{Sane, Ends, gate-stopped, gate-full, gate-done, sane-at, sane-update, sane-spread}
-use Rattle.place_part.specs.Asked.{newPieces, groupHeld, Standing, HeldFits, Asked, RoomEnds, PlacedAt, MergePut}
+use Rattle.place_laws.specs.Held.{HeldFits, groupHeld}
+use Rattle.place_part.specs.Asked.{newPieces, Standing, Asked, RoomEnds, PlacedAt, MergePut}
 use Rattle.place_part.proofs.Parts.{fair-weighed, fair-each, written-own, RoomSaid, asked-room}
 
 -- ---- where a part begins and ends

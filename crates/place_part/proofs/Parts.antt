@@ -44,7 +44,8 @@ use Rattle.place.specs.Room.{room-counts, space}
 use Rattle.place_end.specs.declared.Ended.the-variants as ended
 use Rattle.place_end.specs.declared.PlaceEnd.{PlaceEnd}
 use Rattle.place_end.specs.Ends.{Sane, Ends, gate-full, gate-done, sane-added}
-use Rattle.place_part.specs.Asked.{newPieces, Standing, HeldFits, Asked}
+use Rattle.place_laws.specs.Held.{HeldFits}
+use Rattle.place_part.specs.Asked.{newPieces, Standing, Asked}
 
 -- ---- tests of an answer that is negated
 

@@ -1,7 +1,6 @@
 -- What is asked before a part is placed. Assumes nothing.
 use mathlib.Core.Path.{_≡_}
 use mathlib.Core.Bool.{Bool, true, false}
-use mathlib.Core.Option.{some}
 use mathlib.Core.List.{List}
 use Prim.Native.Nat.{ℕ, _+_, _^_, _≤_, _<_}
 use lib.ListN.{length}
@@ -9,9 +8,8 @@ use Rattle.definition.specs.declared.ValueSet.{ValueSet}
 use Rattle.definition.specs.declared.LiveRangePoint.{LiveRangePoint}
 use Rattle.definition.specs.declared.VirtReg.{VirtReg}
 use Rattle.definition.specs.declared.VirtRegGroup.{VirtRegGroup}
-use Rattle.definition.specs.Types.{Job, HeldGroup, Piece, Mapped, State}
-use Rattle.definition.specs.RegInfo.{classAt}
-use Rattle.definition.specs.Admit.{registerAt, membersAt}
+use Rattle.definition.specs.Types.{Job, Piece, Mapped, State}
+use Rattle.definition.specs.Admit.{registerAt}
 use Rattle.definition.specs.Place.{hasRoom, leadState, mergeState}
 use Rattle.definition.specs.Build.{asOwn}
 use Rattle.layout.specs.declared.Layout.{Layout}
@@ -23,7 +21,6 @@ use Rattle.virt_regs.specs.declared.Counts.{Counts}
 use Rattle.virt_regs.specs.Encoding.{tablesEnd, roomOf, countsOf, Holds}
 use Rattle.vreg_find.specs.declared.Place.the-variants.{At}
 use Rattle.vreg_find.specs.Ends.{placeOf}
-use Rattle.members.specs.Places.{regOf, groupOf}
 use Rattle.constraints.specs.declared.Held.{Held}
 use Rattle.work_layout.specs.declared.WorkLayout.{WorkLayout}
 use Rattle.constraints.specs.Held.{heldOf}
@@ -32,6 +29,7 @@ use Rattle.use_costs.specs.Book.{SmallBook}
 use Rattle.vreg_weight.specs.Fair.{Fair}
 use Rattle.part_maps.specs.Maps.{MapApart}
 use Rattle.place.specs.Ready.{Left}
+use Rattle.place_laws.specs.Held.{HeldFits, groupHeld}
 use Rattle.place_end.specs.declared.Ended.the-variants as ended
 use Rattle.place_end.specs.declared.PlaceEnd.{PlaceEnd}
 use Rattle.place_end.specs.Ends.{Sane}
@@ -40,21 +38,11 @@ use Rattle.place_end.specs.Ends.{Sane}
 abbrev pub newPieces : List ℕ → WorkLayout → List ℕ → Layout → SetPart → List Piece
 newPieces K wl W lay sp = asOwn (partSegs K (wl .marks) W lay sp)
 
--- what is held of a group
-abbrev pub groupHeld : Held → HeldGroup
-groupHeld h = record { index = h .index; mapped = groupOf (h .mapped); sets = h .sets }
-
 -- the slices stand for st, with the counts c, and its registers can be weighed
 pub record Standing (J : Job) (ol : OutLayout) (O W K : List ℕ) (lay : Layout) (wl : WorkLayout) (c : Counts) (st : State) : Type 0 where
   pub stands : Stands ol O W K lay wl st
   pub counts : c ≡ countsOf st
   pub sane : Sane J st
-
--- what is held fits the state: a place of the class, a group and a register of the state
-pub record HeldFits (J : Job) (st : State) (h : Held) : Type 0 where
-  pub index : h .grouped ≡ true → (h .index < classAt J (h .class) .size) × (classAt J (h .class) .size ≤ 8)
-  pub group : h .grouped ≡ true → (g : VirtRegGroup) → groupOf (h .mapped) ≡ some g → (g .0 < length (st .groups)) × (h .index < length (membersAt st g))
-  pub target : h .grouped ≡ true → (v : VirtReg) → regOf (h .target) ≡ some v → v .0 < length (st .registers)
 
 -- the job is accepted, the work slice has its parts, the tables hold some state with the counts c that the held fits, and the part is one of the job
 pub record Asked (t w o : ℕ) (W K O : List ℕ) (lay : Layout) (ol : OutLayout) (wl : WorkLayout) (sp : SetPart) (h : Held) (c : Counts) : Type 0 where

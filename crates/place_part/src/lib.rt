@@ -35,7 +35,8 @@ ghost use Rattle.constraints.specs.Held.{heldOf};
 ghost use Rattle.vreg_weight.specs.Fair.{Fair};
 ghost use Rattle.place_end.specs.Ends.{Ends};
 ghost use Rattle.members.specs.Places.{regOf, groupOf};
-ghost use Rattle.place_part.specs.Asked.{newPieces, groupHeld, Standing, HeldFits, Asked, LeadPut, PlacedAt, MergePut};
+ghost use Rattle.place_laws.specs.Held.{HeldFits, groupHeld};
+ghost use Rattle.place_part.specs.Asked.{newPieces, Standing, Asked, LeadPut, PlacedAt, MergePut};
 
 // In no group.
 pub fn place_alone(

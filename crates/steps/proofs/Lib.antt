@@ -5,4 +5,3 @@ pub mod Cut
 pub mod Ways
 pub mod Changed
 pub mod Moved
-pub mod Fitting
