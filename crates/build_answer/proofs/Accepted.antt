@@ -30,8 +30,17 @@ number-in BadUse = (omega arith, omega arith)
 number-in (Stopped s) = (omega arith, omega arith)
 number-in Full = (omega arith, omega arith)
 
+-- the answer to an accepted job, and to a refused one
+pub end-done : (n : ℕ) (ol : OutLayout) (o : Out Result) (r : BuildEnd) (x : List ℕ) (res : Result) → Answered n ol o r x → o ≡ done res → r .number ≡ 0
+unfolding endLeft
+end-done n ol o r x res a e = ap (λ (b : BuildEnd). b .number) (a .end ∙ ap endLeft e)
+
+pub end-refused : (n : ℕ) (ol : OutLayout) (o : Out Result) (r : BuildEnd) (x : List ℕ) (f : Refusal) → Answered n ol o r x → o ≡ refused f → r .number ≡ numberOf f
+unfolding endLeft
+end-refused n ol o r x f a e = ap (λ (b : BuildEnd). b .number) (a .end ∙ ap endLeft e)
+
 -- what is read where the definition's answer is done
-read-done : (n : ℕ) (ol : OutLayout) (o : Out Result) (r : BuildEnd) (x : List ℕ) (res : Result) → Answered n ol o r x → o ≡ done res → resultIn ol r x ≡ res
+pub read-done : (n : ℕ) (ol : OutLayout) (o : Out Result) (r : BuildEnd) (x : List ℕ) (res : Result) → Answered n ol o r x → o ≡ done res → resultIn ol r x ≡ res
 unfolding endLeft
 read-done n ol o r x res a e =
     let h : Holds ol (wordsOf x) (stateOf res) = a .holds res e in

@@ -14,6 +14,8 @@ use Rattle.definition.specs.declared.Value.{Value}
 use Rattle.definition.specs.declared.ValueSet.{ValueSet}
 use Rattle.definition.specs.declared.RegClass.{RegClass}
 use Rattle.definition.specs.declared.Use.{Use}
+use Rattle.definition.specs.declared.Refusal.{Refusal}
+use Rattle.definition.specs.Types.{done, refused, numberOf}
 use Rattle.definition.specs.RegInfo.{setOf}
 use Rattle.definition.specs.Uses.{classOf, isClassUse}
 use Rattle.definition.specs.Build.{Result}
@@ -27,7 +29,7 @@ use Rattle.virt_regs.specs.Encoding.{roomOf}
 use Rattle.virt_regs.specs.View.{registersIn, groupsIn}
 use Rattle.build_answer.specs.declared.BuildEnd.{BuildEnd}
 use Rattle.build_answer.specs.Answered.{Answered, resultIn}
-use Rattle.build_answer.proofs.Accepted.{accepted, zeros-left}
+use Rattle.build_answer.proofs.Accepted.{end-done, end-refused, read-done, accepted, zeros-left}
 
 -- ---- every job gets an answer
 
@@ -37,6 +39,17 @@ use Rattle.build_answer.proofs.Accepted.{accepted, zeros-left}
 pub promise-answered : (n : ℕ) (ol : OutLayout) (s : List ℕ) (r : BuildEnd) (x : List ℕ) → Answered n ol (binaryAnswer s (roomOf ol)) r x
     → (r .number ≤ 9) × ((r .number ≡ 0 → ⊥) → (x ≡ replicate n 0) × (r .registers ≡ 0) × (r .groups ≡ 0))
 promise-answered n ol s r x a = zeros-left n ol (binaryAnswer s (roomOf ol)) r x a
+
+-- "A job is accepted if the rules give it no number; its result is the one they define." The answer to the bytes s (1 where they are off the shape of a job, else the answer of the
+-- rules to the job) is what the call answers: 0, and the rows read back are the rules' result; or the rules' number.
+-- Rules out: a build that refuses all with 9; a build that answers 0 and leaves the tables as they were.
+pub promise-result : (n : ℕ) (ol : OutLayout) (s : List ℕ) (r : BuildEnd) (x : List ℕ) → Answered n ol (binaryAnswer s (roomOf ol)) r x
+    → ((res : Result) → binaryAnswer s (roomOf ol) ≡ done res → (r .number ≡ 0) × (resultIn ol r x ≡ res))
+    × ((f : Refusal) → binaryAnswer s (roomOf ol) ≡ refused f → r .number ≡ numberOf f)
+promise-result n ol s r x a = (
+  λ res e. (end-done n ol (binaryAnswer s (roomOf ol)) r x res a e, read-done n ol (binaryAnswer s (roomOf ol)) r x res a e),
+  λ f e. end-refused n ol (binaryAnswer s (roomOf ol)) r x f a e,
+)
 
 -- ---- read back
 

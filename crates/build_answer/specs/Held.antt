@@ -77,28 +77,28 @@ held-left n k ol p st l f e h =
 
 -- ---- how a build has answered
 
--- accepted: the slice s was cleared, and the part of it that the tables take, `&mut s[..tablesEnd ol * 4]`, was lent and then held the state
-module _ (n : ℕ) (ol : OutLayout) (s p : List ℕ) (st : State) (z : s ≡ replicate n 0) (l : length p ≡ tablesEnd ol * 4) (fit : tablesEnd ol * 4 ≤ n)
-    (f : (i : ℕ) → getD (p ++ drop (tablesEnd ol * 4) s) i 0 < 256) (h : Holds ol (wordsOf p) st) where
-  behind : drop (tablesEnd ol * 4) s ≡ replicate (n - tablesEnd ol * 4) 0
-  behind = ap (λ (t : List ℕ). drop (tablesEnd ol * 4) t) z ∙ drop-replicate (tablesEnd ol * 4) n 0
+-- accepted: the slice s was cleared, and the part of it that the tables take, `&mut s[..e]`, was lent and then held the state
+module _ (n e : ℕ) (ol : OutLayout) (s p : List ℕ) (st : State) (cleared : s ≡ replicate n 0) (takes : e ≡ tablesEnd ol * 4) (fit : e ≤ n) (l : length p ≡ e)
+    (f : (i : ℕ) → getD (p ++ drop e s) i 0 < 256) (h : Holds ol (wordsOf p) st) where
+  behind : drop e s ≡ replicate (n - e) 0
+  behind = ap (λ (t : List ℕ). drop e t) cleared ∙ drop-replicate e n 0
 
-  pub part-left : p ++ drop (tablesEnd ol * 4) s ≡ bytesLeft n ol (done (resultOf st))
+  pub part-left : p ++ drop e s ≡ bytesLeft n ol (done (resultOf st))
   part-left =
-      let b : (i : ℕ) → i < length p → getD p i 0 < 256 = λ i k. rw (sym (List·getD-append p (drop (tablesEnd ol * 4) s) 0 i k)) (f i) in
-      ap (λ (t : List ℕ). p ++ t) behind ∙ held-left n (n - tablesEnd ol * 4) ol p st l b (omega arith) h
+      let b : (i : ℕ) → i < length p → getD p i 0 < 256 = λ i k. rw (sym (List·getD-append p (drop e s) 0 i k)) (f i) in
+      ap (λ (t : List ℕ). p ++ t) behind ∙ held-left n (n - e) ol p st (l ∙ takes) b (omega arith) h
 
-  pub part-holds : Holds ol (wordsOf (p ++ drop (tablesEnd ol * 4) s)) (stateOf (resultOf st))
+  pub part-holds : Holds ol (wordsOf (p ++ drop e s)) (stateOf (resultOf st))
   part-holds =
-      subst (λ (w : List ℕ). Holds ol w (stateOf (resultOf st))) (sym (words-append p (drop (tablesEnd ol * 4) s) (omega arith)))
-      (holds-mapping ol _ st [] (holds-front ol (wordsOf p) (wordsOf (drop (tablesEnd ol * 4) s)) st h))
+      subst (λ (w : List ℕ). Holds ol w (stateOf (resultOf st))) (sym (words-append p (drop e s) (omega arith)))
+      (holds-mapping ol _ st [] (holds-front ol (wordsOf p) (wordsOf (drop e s)) st h))
 
-  pub answered-done : (o : Out Result) (r : BuildEnd) → o ≡ done (resultOf st) → r ≡ endLeft (done (resultOf st)) → Answered n ol o r (p ++ drop (tablesEnd ol * 4) s)
-  answered-done o r q e =
+  pub answered-done : (o : Out Result) (r : BuildEnd) → o ≡ done (resultOf st) → r ≡ endLeft (done (resultOf st)) → Answered n ol o r (p ++ drop e s)
+  answered-done o r q d =
       record {
-        end = e ∙ ap endLeft (sym q);
+        end = d ∙ ap endLeft (sym q);
         bytes = part-left ∙ ap (λ (u : Out Result). bytesLeft n ol u) (sym q);
-        holds = λ res d. let m : resultOf st ≡ res = cc in subst (λ (t : Result). Holds ol (wordsOf (p ++ drop (tablesEnd ol * 4) s)) (stateOf t)) m part-holds;
+        holds = λ res is. let m : resultOf st ≡ res = cc in subst (λ (t : Result). Holds ol (wordsOf (p ++ drop e s)) (stateOf t)) m part-holds;
       }
 
 -- refused: the slice is cleared

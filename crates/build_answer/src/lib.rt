@@ -1,7 +1,8 @@
 // How a build ends, and the tables in the slice that the caller lends for the result.
 use virt_regs::OutLayout;
 ghost use mathlib.Core.Path.{_≡_};
-ghost use Prim.Native.Nat.{_≤_};
+ghost use Prim.Native.Nat.{_*_, _≤_, _<_};
+ghost use Rattle.virt_regs.specs.Encoding.{tablesEnd};
 ghost use Rattle.build_answer.specs.Answered.{lesser, namedIn, Cut};
 
 // Number 0 and how many registers and groups there are; or the refusal's number, and zeros.
@@ -46,4 +47,12 @@ pub fn out_layout(n: usize, regs: u32, segs: u32, uses: u32, groups: u32) -> Out
         uses: c,
         groups: d,
     }
+}
+
+// How many bytes the tables take.
+pub fn tables_bytes(ol: OutLayout) -> usize
+    requires { ⌜ tablesEnd ol < 4611686018427387904 ⌝ }
+    ensures { λ r. ⌜ r ≡ tablesEnd ol * 4 ⌝ }
+{
+    (ol.regs * 8 + ol.segs * 7 + ol.uses * 6 + ol.groups * 9) * 4
 }
