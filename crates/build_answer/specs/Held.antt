@@ -3,20 +3,20 @@ use mathlib.Core.Path.{_≡_, sym, ap, subst, _∙_}
 use mathlib.Core.List.{List, [], _∷_, _++_}
 use Prim.Native.Nat.{ℕ, _+_, _-_, _*_, _/_, _%_, _≤_, _<_}
 use native.Mathlib.Omega.{arith}
-use lib.ListN.{length, getD, take, drop, replicate, length-append, length-drop, length-replicate, take-append-drop, List·getD-append}
-use lib.Seq.{drop-drop, take-all}
+use lib.ListN.{length, getD, take, drop, replicate, replicate-append-replicate, length-append, length-drop, length-replicate, take-append-drop, List·getD-append}
+use lib.Seq.{drop-drop, take-all, take-at}
 use Rattle.rows.specs.Parts.{pad, drop-replicate}
 use Rattle.words.specs.Words.{wordsOf, bytesOf}
-use Rattle.words.specs.Laws.{length-words, words-append, bytes-words}
+use Rattle.words.specs.Laws.{length-words, words-replicate, words-append, bytes-words}
 use Rattle.definition.specs.declared.Refusal.{Refusal}
-use Rattle.definition.specs.Types.{State, Out, done, refused}
+use Rattle.definition.specs.Types.{Mapped, State, Out, done, refused}
 use Rattle.definition.specs.Build.{Result}
 use Rattle.virt_regs.specs.declared.OutLayout.{OutLayout}
 use Rattle.virt_regs.specs.Part.{part, part-front}
 use Rattle.virt_regs.specs.Encoding.{segBase, useBase, groupBase, tablesEnd, Holds}
-use Rattle.virt_regs.specs.Reads.{holds-mapping}
+use Rattle.virt_regs.specs.Reads.{holds-none, holds-mapping}
 use Rattle.build_answer.specs.declared.BuildEnd.{BuildEnd}
-use Rattle.build_answer.specs.Answered.{resultWords, bytesLeft, endLeft, resultOf, stateOf, Answered}
+use Rattle.build_answer.specs.Answered.{outLayoutOf, Cut, resultWords, bytesLeft, endLeft, resultOf, stateOf, Answered}
 
 -- ---- the words
 
@@ -75,9 +75,23 @@ held-left n k ol p st l f e h =
     let m : k ≡ n - length (bytesOf (resultWords ol (resultOf st))) = omega (arith, ap length b) in
     λ i. b i ++ replicate (m i) 0
 
+-- ---- a cleared slice s, of which the part that the tables take is lent: `&mut s[..e]`
+
+-- at first the part is zeros, and holds no register and no group
+pub lent-zeros : (n e : ℕ) (s : List ℕ) → s ≡ replicate n 0 → e ≤ n → take e s ≡ replicate e 0
+lent-zeros n e s z h =
+    let k : n ≡ e + (n - e) = omega arith in
+    ap (λ (t : List ℕ). take e t) (z ∙ ap (λ (m : ℕ). replicate m 0) k ∙ sym (replicate-append-replicate e (n - e) 0)) ∙ take-at (replicate e 0) _ e (length-replicate e 0)
+
+pub lent-holds : (n e : ℕ) (ol : OutLayout) (s : List ℕ) (ms : List Mapped) → s ≡ replicate n 0 → e ≡ tablesEnd ol * 4 → e ≤ n
+    → Holds ol (wordsOf (take e s)) (record { registers = []; groups = []; mapping = ms })
+lent-holds n e ol s ms z takes h =
+    subst (λ (w : List ℕ). Holds ol w (record { registers = []; groups = []; mapping = ms })) (sym (ap wordsOf (lent-zeros n e s z h) ∙ words-replicate e))
+    (holds-none ol (e / 4) ms (omega arith))
+
 -- ---- how a build has answered
 
--- accepted: the slice s was cleared, and the part of it that the tables take, `&mut s[..e]`, was lent and then held the state
+-- accepted: the part then holds the state
 module _ (n e : ℕ) (ol : OutLayout) (s p : List ℕ) (st : State) (cleared : s ≡ replicate n 0) (takes : e ≡ tablesEnd ol * 4) (fit : e ≤ n) (l : length p ≡ e)
     (f : (i : ℕ) → getD (p ++ drop e s) i 0 < 256) (h : Holds ol (wordsOf p) st) where
   behind : drop e s ≡ replicate (n - e) 0
@@ -111,3 +125,8 @@ answered-refused n ol o f r x q e z =
       bytes = z ∙ ap (λ (u : Out Result). bytesLeft n ol u) (sym q);
       holds = λ res d. absurd (let w : _≡_ {A = ℕ} 0 1 = cc in omega arith);
     }
+
+-- with the tables that the caller's numbers of rows give in a slice of n bytes, which has m words
+pub answered-cut : (n m a b c d : ℕ) (ol : OutLayout) (o : OutLayout → Out Result) (r : BuildEnd) (x : List ℕ) → Cut m a b c d ol → m ≡ n / 4 → Answered n ol (o ol) r x
+    → Answered n (outLayoutOf (n / 4) a b c d) (o (outLayoutOf (n / 4) a b c d)) r x
+answered-cut n m a b c d ol o r x k e h = subst (λ (t : OutLayout). Answered n t (o t) r x) (k .is ∙ ap (λ (w : ℕ). outLayoutOf w a b c d) e) h
