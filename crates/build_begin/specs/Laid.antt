@@ -21,7 +21,8 @@ use Rattle.work_layout.specs.declared.WorkLayout.{WorkLayout}
 use Rattle.steps.specs.Laid.{SegsFair, usesLeft, Laid}
 use Rattle.steps.specs.Built.{Changed}
 use Rattle.build_begin.specs.Begun.{Begun, Onward, KeptFrom, kept-changed, kept-then, onward-kept}
-use Rattle.build_begin.specs.Sets.{segsFrom, set-fair}
+use Rattle.set_runs.specs.Sets.{segsFrom}
+use Rattle.build_begin.specs.Sets.{set-fair}
 
 class-few : (us : List Use) → classUses us ≤ length us
 unfolding classUses

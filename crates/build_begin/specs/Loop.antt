@@ -6,7 +6,7 @@ use mathlib.Core.Bool.{true}
 use mathlib.Core.Option.{none}
 use mathlib.Core.List.{List, [], _∷_}
 use lib.ListN.{length}
-use borrow.Author.Tests.{ltb-true, eq-eqb, ne-eqb}
+use borrow.Author.Tests.{ltb-true}
 use Rattle.rows.specs.RowsAt.{length-rows-at}
 use Rattle.definition.specs.declared.Value.{Value}
 use Rattle.definition.specs.Types.{Segment, Job, Room, State, Out, done}
@@ -21,8 +21,9 @@ use Rattle.coalescing.specs.Rows.{valueRow, valuesAt}
 use Rattle.layout.specs.declared.Layout.{Layout}
 use Rattle.layout.specs.Layout.{segAt, segmentOf}
 use Rattle.job.specs.Job.{jobBy, jobOf}
+use Rattle.set_runs.specs.Sets.{segsFrom, all-segs, first-seg, seg-value}
 use Rattle.build_begin.specs.Rules.{segments-passed}
-use Rattle.build_begin.specs.Sets.{jobSeg, segsFrom, segs-all, segs-none, segs-more, all-from, run-ends}
+use Rattle.build_begin.specs.Sets.{jobSeg, segs-none, all-from}
 
 -- a set that begins with s: the steps over its segments, then the conflict registers
 set-by : (J : Job) (room : Room) (s : Segment) (ss : List Segment) (st : State)
@@ -30,10 +31,6 @@ set-by : (J : Job) (room : Room) (s : Segment) (ss : List Segment) (st : State)
     ≡ (run J room (setOf J (s .value)) (topOf J (s .value)) st (s ∷ ss) [] >>= λ r. conflicts J room (setOf J (s .value)) (topOf J (s .value)) (runs sameInst (r .turned)) (r .state))
 unfolding buildSet run
 set-by J room s ss st = refl
-
-seg-value : (W : List ℕ) (lay : Layout) (i : ℕ) → jobSeg W lay i .value ≡ segAt W lay i .value
-unfolding segmentOf
-seg-value W lay i = refl
 
 -- the answer where all sets are built
 abbrev pub finished : State → Out Result
@@ -50,7 +47,7 @@ module _ (W : List ℕ) (lay : Layout) (room : Room) where
   unfolding build buildFrom
   build-begins =
       ap (λ (ss : List Segment). buildSets (jobOf W lay) room (runs (sameSet (jobOf W lay)) ss) empty >>= λ st. finished st)
-      (segs-all W lay)
+      (sym (all-segs W lay))
 
   -- no segment is left
   pub build-ends : (a : ℕ) (st : State) → lay .segments .n ≤ a → buildFrom a st ≡ done st
@@ -71,28 +68,12 @@ module _ (W : List ℕ) (lay : Layout) (room : Room) where
       >>= λ r. conflicts (jobOf W lay) room (setOf (jobOf W lay) v) (topOf (jobOf W lay) v) (runs sameInst (r .turned)) (r .state))
   set-runs a b st v h e =
       let J = jobOf W lay in
-      let m = sym (segs-more W lay a b h) in
+      let m = sym (first-seg W lay a b h) in
       let q : jobSeg W lay a .value ≡ v = seg-value W lay a ∙ sym e in
       let p = set-by J room (jobSeg W lay a) (segsFrom W lay (a + 1) b) st in
       subst (λ (ss : List Segment). buildSet J room ss st ≡ (run J room (setOf J v) (topOf J v) st ss [] >>= λ r. conflicts J room (setOf J v) (topOf J v) (runs sameInst (r .turned)) (r .state))) m
       (subst (λ (x : Value). buildSet J room (jobSeg W lay a ∷ segsFrom W lay (a + 1) b) st
       ≡ (run J room (setOf J x) (topOf J x) st (jobSeg W lay a ∷ segsFrom W lay (a + 1) b) [] >>= λ r. conflicts J room (setOf J x) (topOf J x) (runs sameInst (r .turned)) (r .state))) q p)
-
--- ---- where a set ends, by the numbers of sets
-
--- the number of segment i's set
-abbrev pub setNumber : List ℕ → Layout → ℕ → ℕ
-setNumber W lay i = setOf (jobOf W lay) (segAt W lay i .value) .0
-
--- segments a to b - 1 are of one set, and segment b is not: they are the first set from a on
-pub set-ends : (W : List ℕ) (lay : Layout) (a b : ℕ) → a < b → b ≤ lay .segments .n → ((i : ℕ) → a ≤ i → i < b → setNumber W lay i ≡ setNumber W lay a)
-    → (b < lay .segments .n → setNumber W lay b ≡ setNumber W lay a → ⊥)
-    → runs (sameSet (jobOf W lay)) (segsFrom W lay a (lay .segments .n)) ≡ segsFrom W lay a b ∷ runs (sameSet (jobOf W lay)) (segsFrom W lay b (lay .segments .n))
-unfolding segmentOf
-set-ends W lay a b h l s d =
-    run-ends W lay (sameSet (jobOf W lay)) a b (lay .segments .n) h l
-    (λ i x y. eq-eqb (setNumber W lay i) (setNumber W lay (i + 1)) (s i x (omega arith) ∙ sym (s (i + 1) (omega arith) y)))
-    (λ m. ne-eqb (setNumber W lay (b - 1)) (setNumber W lay b) (λ e. d m (sym e ∙ s (b - 1) (omega arith) (omega arith))))
 
 -- ---- the value of a segment is one of the job's
 
@@ -105,5 +86,5 @@ unfolding segmentOk segmentOf
 value-known W lay e i h =
     let J = jobOf W lay in
     let p : All (λ s. segmentOk J s ≡ true) (jobSeg W lay i ∷ segsFrom W lay (i + 1) (i + 1)) =
-    subst (λ (ss : List Segment). All (λ s. segmentOk J s ≡ true) ss) (segs-more W lay i (i + 1) (omega arith)) (all-from W lay (λ s. segmentOk J s ≡ true) i (i + 1) (omega arith) (omega arith) (segments-passed J e)) in
+    subst (λ (ss : List Segment). All (λ s. segmentOk J s ≡ true) ss) (first-seg W lay i (i + 1) (omega arith)) (all-from W lay (λ s. segmentOk J s ≡ true) i (i + 1) (omega arith) (omega arith) (segments-passed J e)) in
     omega (arith, job-values W lay, ltb-true (segAt W lay i .value .0) (length (J .values)) (conj-all (segmentTests J (jobSeg W lay i)) (p .0) .1 .0))

@@ -1,14 +1,14 @@
 -- The segments of a job by number, and the sets among them: what the entry rules say of each set. Assumes nothing.
-use Prim.Native.Nat.{ℕ, zero, suc, _+_, _-_, _*_, _≤_, _<_}
+use Prim.Native.Nat.{ℕ, _+_, _-_, _*_, _≤_, _<_}
 use native.Mathlib.Omega.{arith}
 use mathlib.Core.Path.{_≡_, refl, sym, ap, subst, _∙_}
-use mathlib.Core.Bool.{Bool, true, false, cond}
+use mathlib.Core.Bool.{Bool, true}
 use mathlib.Core.Option.{none}
 use mathlib.Core.List.{List, [], _∷_, _++_}
-use Rattle.rows.specs.Tab.{tab, tab-more, tab-done, tab-append}
+use Rattle.rows.specs.Tab.{tab, tab-done, tab-append}
 use Rattle.definition.specs.Types.{Segment, Job}
 use Rattle.definition.specs.RegInfo.{setOf}
-use Rattle.definition.specs.Build.{onto, runs, sameSet}
+use Rattle.definition.specs.Build.{runs, sameSet}
 use Rattle.definition.specs.Entry.{behind, chained, every, entry, entryTests, segmentOk, segmentsOk}
 use Rattle.definition.proofs.Places.{All, all-split}
 use Rattle.definition.proofs.Entries.{and-both, lowest-none, Good}
@@ -22,6 +22,7 @@ use Rattle.job.specs.Job.{jobBy, jobOf}
 use Rattle.virt_regs.specs.Each.{Each, each-front, each-back}
 use Rattle.vreg_weight.specs.Sorted.{fit-sorted}
 use Rattle.vreg_weight.specs.Sound.{Sound, all-each, each-uses, accepted-sound}
+use Rattle.set_runs.specs.Sets.{segsFrom, all-segs, first-seg}
 use Rattle.steps.specs.Laid.{SegsFair}
 use Rattle.build_begin.specs.Rules.{accepted-kinds, accepted-good, accepted-ends}
 
@@ -29,23 +30,10 @@ use Rattle.build_begin.specs.Rules.{accepted-kinds, accepted-good, accep
 abbrev pub jobSeg : List ℕ → Layout → ℕ → Segment
 jobSeg W lay i = segmentOf useRow W lay i
 
--- segments a to b - 1
-unfoldable pub segsFrom : List ℕ → Layout → ℕ → ℕ → List Segment
-unfolding segmentOf
-segsFrom W lay a b = tab (segmentOf useRow W lay) a (b - a)
-
 module _ (W : List ℕ) (lay : Layout) where
-  pub segs-all : jobOf W lay .segments ≡ segsFrom W lay 0 (lay .segments .n)
-  unfolding jobOf jobBy segsFrom
-  segs-all = let e : lay .segments .n ≡ lay .segments .n - 0 = omega arith in ap (λ (k : ℕ). tab (segmentOf useRow W lay) 0 k) e
-
   pub segs-none : (a b : ℕ) → b ≤ a → segsFrom W lay a b ≡ []
   unfolding segsFrom
   segs-none a b h = tab-done (segmentOf useRow W lay) a b h
-
-  pub segs-more : (a b : ℕ) → a < b → segsFrom W lay a b ≡ segmentOf useRow W lay a ∷ segsFrom W lay (a + 1) b
-  unfolding segsFrom
-  segs-more a b h = tab-more (segmentOf useRow W lay) a b h
 
   pub segs-split : (a b c : ℕ) → a ≤ b → b ≤ c → segsFrom W lay a c ≡ segsFrom W lay a b ++ segsFrom W lay b c
   unfolding segsFrom
@@ -58,7 +46,7 @@ module _ (W : List ℕ) (lay : Layout) where
   -- the job's segments before a, from a to b, and from b on
   pub job-split : (a b : ℕ) → a ≤ b → b ≤ lay .segments .n → jobOf W lay .segments ≡ segsFrom W lay 0 a ++ (segsFrom W lay a b ++ segsFrom W lay b (lay .segments .n))
   job-split a b h l =
-      segs-all ∙ segs-split 0 a (lay .segments .n) (omega arith) (omega arith)
+      sym (all-segs W lay) ∙ segs-split 0 a (lay .segments .n) (omega arith) (omega arith)
       ∙ ap (λ (ss : List Segment). segsFrom W lay 0 a ++ ss) (segs-split a b (lay .segments .n) h l)
 
   -- what is so for all of the job's is so for these
@@ -98,13 +86,13 @@ module _ (W : List ℕ) (lay : Layout) (e : entry (jobOf W lay) ≡ none) where
   ordered a h =
       let c = and-both (every (segmentOk (jobOf W lay)) (jobOf W lay .segments)) (chained (behind (jobOf W lay)) (jobOf W lay .segments)) (lowest-none (entryTests (jobOf W lay)) e .1 .1 .1 .1 .0) .1 in
       chained-back (behind (jobOf W lay)) (segsFrom W lay 0 a) (segsFrom W lay a (lay .segments .n))
-      (subst (λ (ss : List Segment). chained (behind (jobOf W lay)) ss ≡ true) (segs-all W lay ∙ segs-split W lay 0 a (lay .segments .n) (omega arith) h) c)
+      (subst (λ (ss : List Segment). chained (behind (jobOf W lay)) ss ≡ true) (sym (all-segs W lay) ∙ segs-split W lay 0 a (lay .segments .n) (omega arith) h) c)
 
   -- the sets from segment a on rise
   pub sets-rise : (a : ℕ) → a < lay .segments .n → (t : ℕ) × Rise (jobOf W lay) t (runs (sameSet (jobOf W lay)) (segsFrom W lay a (lay .segments .n)))
   sets-rise a h =
       let J = jobOf W lay in
-      let m = segs-more W lay a (lay .segments .n) h in (
+      let m = first-seg W lay a (lay .segments .n) h in (
         setOf J (segmentOf useRow W lay a .value) .0,
         subst (λ (ss : List Segment). Rise J (setOf J (segmentOf useRow W lay a .value) .0) (runs (sameSet J) ss)) (sym m)
             (runs-rise J (segmentOf useRow W lay a) (segsFrom W lay (a + 1) (lay .segments .n))
@@ -127,55 +115,3 @@ module _ (W : List ℕ) (lay : Layout) (e : entry (jobOf W lay) ≡ none) where
             fit-sorted 0 4096 (segsFrom W lay a b) fit
             (all-each (λ s. s .to .0 ≤ 4 * 4096) (segsFrom W lay a b) (all-from W lay (λ s. s .to .0 ≤ 4 * 4096) a b (omega arith) l (accepted-ends J e)));
       }
-
--- ---- where a set ends
-
-onto-alike : {A : Type 0} (alike : A → A → Bool) (x y : A) (ys : List A) (rest : List (List A)) → alike x y ≡ true → onto alike x ((y ∷ ys) ∷ rest) ≡ (x ∷ y ∷ ys) ∷ rest
-onto-alike alike x y ys rest e = rw e
-
-onto-other : {A : Type 0} (alike : A → A → Bool) (x y : A) (rs : List (List A)) → alike x y ≡ false → onto alike x (onto alike y rs) ≡ (x ∷ []) ∷ onto alike y rs
-onto-other alike x y [] e = rw e
-onto-other alike x y ([] ∷ rs) e = rw e
-onto-other {A} alike x y ((z ∷ zs) ∷ rs) e = go (alike y z)
-  where
-    go : (b : Bool) → onto alike x (cond b ((y ∷ z ∷ zs) ∷ rs) ((y ∷ []) ∷ (z ∷ zs) ∷ rs)) ≡ (x ∷ []) ∷ cond b ((y ∷ z ∷ zs) ∷ rs) ((y ∷ []) ∷ (z ∷ zs) ∷ rs)
-    go true = rw e
-    go false = rw e
-
-module _ (W : List ℕ) (lay : Layout) (alike : Segment → Segment → Bool) where
-  -- a run of one
-  run-one : (a n : ℕ) → a < n → (a + 1 < n → alike (jobSeg W lay a) (jobSeg W lay (a + 1)) ≡ false)
-      → runs alike (segsFrom W lay a n) ≡ segsFrom W lay a (a + 1) ∷ runs alike (segsFrom W lay (a + 1) n)
-  unfolding runs
-  run-one a n h d =
-      let one : segsFrom W lay a (a + 1) ≡ jobSeg W lay a ∷ [] =
-      segs-more W lay a (a + 1) (omega arith) ∙ ap (λ (ss : List Segment). jobSeg W lay a ∷ ss) (segs-none W lay (a + 1) (a + 1) (omega arith)) in
-      ap (runs alike) (segs-more W lay a n h) ∙ go (n - (a + 1)) refl ∙ ap (λ (ss : List Segment). ss ∷ runs alike (segsFrom W lay (a + 1) n)) (sym one)
-    where
-      go : (k : ℕ) → n - (a + 1) ≡ k → onto alike (jobSeg W lay a) (runs alike (segsFrom W lay (a + 1) n)) ≡ (jobSeg W lay a ∷ []) ∷ runs alike (segsFrom W lay (a + 1) n)
-      go zero q = rw (segs-none W lay (a + 1) n (omega arith))
-      go (suc k) q =
-          rw (segs-more W lay (a + 1) n (omega arith))
-          (onto-other alike (jobSeg W lay a) (jobSeg W lay (a + 1)) (runs alike (segsFrom W lay (a + 1 + 1) n)) (d (omega arith)))
-
-  run-of : (k a b n : ℕ) → a + k + 1 ≡ b → b ≤ n → ((i : ℕ) → a ≤ i → i + 1 < b → alike (jobSeg W lay i) (jobSeg W lay (i + 1)) ≡ true)
-      → (b < n → alike (jobSeg W lay (b - 1)) (jobSeg W lay b) ≡ false) → runs alike (segsFrom W lay a n) ≡ segsFrom W lay a b ∷ runs alike (segsFrom W lay b n)
-  unfolding runs
-  run-of zero a b n e l s d =
-      let q : a + 1 ≡ b = omega arith in
-      let x : b - 1 ≡ a = omega arith in
-      subst (λ (m : ℕ). runs alike (segsFrom W lay a n) ≡ segsFrom W lay a m ∷ runs alike (segsFrom W lay m n)) q
-      (run-one a n (omega arith)
-      (λ m. subst (λ (i : ℕ). alike (jobSeg W lay a) (jobSeg W lay i) ≡ false) (sym q) (subst (λ (i : ℕ). alike (jobSeg W lay i) (jobSeg W lay b) ≡ false) x (d (omega arith)))))
-  run-of (suc k) a b n e l s d =
-      let ih : runs alike (segsFrom W lay (a + 1) n) ≡ segsFrom W lay (a + 1) b ∷ runs alike (segsFrom W lay b n) = run-of k (a + 1) b n (omega arith) l (λ i x y. s i (omega arith) y) d in
-      let tail = runs alike (segsFrom W lay b n) in
-      let more = segs-more W lay (a + 1) b (omega arith) in
-      ap (runs alike) (segs-more W lay a n (omega arith)) ∙ ap (onto alike (jobSeg W lay a)) (ih ∙ ap (λ (ss : List Segment). ss ∷ tail) more)
-      ∙ onto-alike alike (jobSeg W lay a) (jobSeg W lay (a + 1)) (segsFrom W lay (a + 1 + 1) b) tail (s a (omega arith) (omega arith))
-      ∙ ap (λ (ss : List Segment). ss ∷ tail) (sym (segs-more W lay a b (omega arith) ∙ ap (λ (ss : List Segment). jobSeg W lay a ∷ ss) more))
-
-  -- Each of the segments a to b - 1 is like the next one, and the last is not like segment b: they are the first run from a on.
-  pub run-ends : (a b n : ℕ) → a < b → b ≤ n → ((i : ℕ) → a ≤ i → i + 1 < b → alike (jobSeg W lay i) (jobSeg W lay (i + 1)) ≡ true)
-      → (b < n → alike (jobSeg W lay (b - 1)) (jobSeg W lay b) ≡ false) → runs alike (segsFrom W lay a n) ≡ segsFrom W lay a b ∷ runs alike (segsFrom W lay b n)
-  run-ends a b n h l s d = run-of (b - a - 1) a b n (omega arith) l s d
