@@ -21,23 +21,13 @@ use Rattle.work_layout.specs.declared.WorkLayout.{WorkLayout}
 use Rattle.entry.specs.Accepted.{Prepared}
 use Rattle.constraints.specs.Ready.{operandsIn, Mapping}
 use Rattle.place_end.specs.Ends.{Sane}
-use Rattle.build_state.specs.Fits.{GroupsFit, StateFits, StandsAs}
+use Rattle.build_state.specs.Fits.{StandsAs}
+use Rattle.build_state.specs.Placing.{empty-fits}
 
 -- no operand is mapped
 pub empty-mapping : {W K : List ℕ} {lay : Layout} {wl : WorkLayout} → Prepared W K lay wl → Mapping K (wl .mapping) (operandsIn W lay) []
 unfolding mappedAt
 empty-mapping {W} {K} {lay} {wl} p = record { is = λ k h. p .mapping k (omega (arith, long W (lay .operands .at) (lay .operands .n), h)) }
-
-no-mapping : (J : Job) → GroupsFit J empty
-unfolding mappedAt
-no-mapping J = record {
-  mapped = λ p s g e. absurd (let z : _≡_ {A = ℕ} 0 1 = cc e in omega arith);
-  members = λ g i v h e. absurd (omega (arith, h));
-}
-
-pub empty-fits : (J : Job) → StateFits J empty
-unfolding Sane Each
-empty-fits J = record { sane = tt; groups = tt; fit = no-mapping J }
 
 -- words that are all 0, up to word e
 abbrev pub Clear : ℕ → List ℕ → Type 0
