@@ -1,6 +1,5 @@
 // The steps over the working part of a set (builder.rs `compute_constraints`).
 use constraints::Held;
-use work_layout::WorkLayout;
 use definition::Inst;
 use definition::RegClass;
 use layout::Layout;
@@ -10,6 +9,7 @@ use set_part::SetPart;
 use turned::TurnedRow;
 use virt_regs::Counts;
 use virt_regs::OutLayout;
+use work_layout::WorkLayout;
 ghost use mathlib.Core.Path.{_≡_};
 ghost use mathlib.Core.Bool.{true, cond};
 ghost use Prim.Native.Nat.{_+_, _-_, _*_, _≤_, _<_};
@@ -60,7 +60,7 @@ fn put_turned(work: &mut [u8], turned: usize, n: usize, row: TurnedRow)
 }
 
 // How far c is behind a; 0 where it is not.
-fn behind(c: usize, a: usize) -> usize
+pub fn behind(c: usize, a: usize) -> usize
     ensures { λ r. ⌜ r ≡ c - a ⌝ }
 {
     if c < a {
