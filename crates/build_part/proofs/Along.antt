@@ -26,7 +26,7 @@ use Rattle.steps.specs.Laid.{Laid}
 use Rattle.steps.specs.Built.{Changed}
 use Rattle.steps.proofs.Changed.{changed-none}
 use Rattle.build_part.specs.declared.Step.{Step}
-use Rattle.build_part.specs.Steps.{onStep, stepEnd, BuiltFit, Begun, Stepped, GoesOn, StepTo}
+use Rattle.build_part.specs.Steps.{onStep, stepEnd, BuiltFit, StepReady, Stepped, GoesOn, StepTo}
 
 -- changes within a part of the part
 changed-on : (lay : Layout) (wl : WorkLayout) (sp sp₁ : SetPart) (n n₁ : ℕ) (K K₁ K₂ : List ℕ) → sp .first ≤ sp₁ .first → sp₁ .end ≡ sp .end → n ≤ n₁ → Changed lay wl sp n K K₁ → Changed lay wl sp₁ n₁ K₁ K₂
@@ -47,7 +47,7 @@ StepsTo W lay ol wl vs top O K sp c n O′ K′ r =
 -- The slices were out₀ and work₀, and the part sp₀; now they are out and work, and the part sp is left.
 pub record Along (job : List ℕ) (lay : Layout) (ol : OutLayout) (wl : WorkLayout) (vs : ValueSet) (top : RegClass) (out₀ work₀ : List ℕ) (sp₀ : SetPart) (c₀ : Counts) (n₀ : ℕ) (out work : List ℕ) (sp : SetPart) (c : Counts) (n : ℕ)
     : Type 0 where
-  pub begun : Begun (wordCount job) (wordCount work) (wordCount out) (wordsOf job) (wordsOf work) (wordsOf out) lay ol wl sp c n
+  pub ready : StepReady (wordCount job) (wordCount work) (wordCount out) (wordsOf job) (wordsOf work) (wordsOf out) lay ol wl sp c n
   pub changed : Changed lay wl sp₀ n₀ (wordsOf work₀) (wordsOf work)
   pub first : sp₀ .first ≤ sp .first
   pub end : sp .end ≡ sp₀ .end
@@ -63,7 +63,7 @@ module _ (job : List ℕ) (lay : Layout) (ol : OutLayout) (wl : WorkLayout) (vs 
       → ((st : State) × StandsAs (jobOf (wordsOf job) lay) ol (wordsOf out₀) (wordsOf job) (wordsOf work₀) lay wl c₀ st)
       → Along job lay ol wl vs top out₀ work₀ sp₀ c₀ n₀ out₀ work₀ sp₀ c₀ n₀
   along-start l b s = record {
-    begun = record { laid = l; builds = b; state = s .0; stands = s .1 };
+    ready = record { laid = l; builds = b; state = s .0; stands = s .1 };
     changed = changed-none lay wl sp₀ n₀ (wordsOf work₀);
     first = omega arith;
     end = refl;
@@ -85,13 +85,13 @@ module _ (job : List ℕ) (lay : Layout) (ol : OutLayout) (wl : WorkLayout) (vs 
     pub along-next : r .go ≡ true → Along job lay ol wl vs top out₀ work₀ sp₀ c₀ n₀ out′ work′ (r .part) (r .counts) (r .turned)
     along-next q =
         let o = f .goes q in
-        let s = g (a .begun .state) (a .begun .stands) .goes q in
+        let s = g (a .ready .state) (a .ready .stands) .goes q in
         let wc : wordCount work ≡ wordCount work′ = ap (λ (k : ℕ). k / 4) (sym ew) in
         let oc : wordCount out ≡ wordCount out′ = ap (λ (k : ℕ). k / 4) (sym eo) in
         record {
-          begun = record {
+          ready = record {
             laid = subst (λ (k : ℕ). Laid (wordCount job) k (wordsOf job) (wordsOf work′) lay wl (r .part) (r .turned)) wc (o .laid);
-            builds = subst (λ (k : ℕ). Builds k (wordsOf job) lay ol) oc (a .begun .builds);
+            builds = subst (λ (k : ℕ). Builds k (wordsOf job) lay ol) oc (a .ready .builds);
             state = s .state;
             stands = s .stands;
           };

@@ -38,7 +38,7 @@ use Rattle.build_state.specs.Fits.{StandsAs}
 use Rattle.steps.specs.Turns.{turnedOnce}
 use Rattle.steps.specs.Built.{isDone}
 use Rattle.build_part.specs.declared.Step.{Step}
-use Rattle.build_part.specs.Steps.{overStep, onStep, Begun, Moves, Stepped, StepTo}
+use Rattle.build_part.specs.Steps.{overStep, onStep, StepReady, Moves, Stepped, StepTo}
 use Rattle.build_part.proofs.Parts.{standing, whole-held, whole-fair, whole-to, whole-stepped, halt-to, halt-stepped}
 use Rattle.build_part.proofs.Turns.{turn-stepped, turn-to}
 use Rattle.build_part.proofs.Cuts.{cutStep, front-held, front-fair, cut-stepped, cut-to}
@@ -56,7 +56,7 @@ Places W K O lay ol wl c vs q h O′ K′ r =
     (st : State) → Standing (jobOf W lay) ol O W K lay wl c st → HeldFits (jobOf W lay) st h → Fair (jobOf W lay) 4096 (newPieces K wl W lay q)
     → Ends (jobOf W lay) ol W lay wl K O′ K′ r (place (jobOf W lay) (roomOf ol) vs (heldOf h) (newPieces K wl W lay q) st)
 
-module _ {t w o n : ℕ} {W K O : List ℕ} {lay : Layout} {ol : OutLayout} {wl : WorkLayout} {sp : SetPart} {c : Counts} (g : Begun t w o W K O lay ol wl sp c n) (top : RegClass) (vs : ValueSet) where
+module _ {t w o n : ℕ} {W K O : List ℕ} {lay : Layout} {ol : OutLayout} {wl : WorkLayout} {sp : SetPart} {c : Counts} (g : StepReady t w o W K O lay ol wl sp c n) (top : RegClass) (vs : ValueSet) where
   -- all is placed
   pub step-whole : (h : Held) → Moves W K O lay ol wl top sp (whole (heldOf h)) → (r : PlaceEnd) (O′ K′ : List ℕ) → Places W K O lay ol wl c vs sp h O′ K′ r → (x : Step) → x ≡ overStep sp r n
       → Steps t w W K O lay ol wl sp c n top vs O′ K′ x

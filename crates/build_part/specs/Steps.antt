@@ -58,7 +58,7 @@ BuiltFit J ol W lay wl O K r (refused f) = endOf f (r .end)
 -- ---- one step
 
 -- The part sp is laid out behind n turned rows, the job is accepted, and the slices stand for some state. The job has t words, the work slice w, the result tables o.
-pub record Begun (t w o : ℕ) (W K O : List ℕ) (lay : Layout) (ol : OutLayout) (wl : WorkLayout) (sp : SetPart) (c : Counts) (n : ℕ) : Type 0 where
+pub record StepReady (t w o : ℕ) (W K O : List ℕ) (lay : Layout) (ol : OutLayout) (wl : WorkLayout) (sp : SetPart) (c : Counts) (n : ℕ) : Type 0 where
   pub laid : Laid t w W K lay wl sp n
   pub builds : Builds o W lay ol
   pub state : State

@@ -30,7 +30,7 @@ ghost use Rattle.build_state.specs.Builds.{Builds};
 ghost use Rattle.build_state.specs.Fits.{StandsAs};
 ghost use Rattle.steps.specs.Laid.{Laid};
 ghost use Rattle.steps.specs.Built.{Changed};
-ghost use Rattle.build_part.specs.Steps.{overStep, onStep, BuiltFit, Begun, Moves, Stepped, StepTo};
+ghost use Rattle.build_part.specs.Steps.{overStep, onStep, BuiltFit, StepReady, Moves, Stepped, StepTo};
 
 // One step. `go`: the steps go on with `part`, `counts` and `turned`; else they ended with `end`.
 pub struct Step {
@@ -84,7 +84,7 @@ fn step_cut(
     c: Counts,
     n: usize,
 ) -> Step
-    requires { ⌜ Begun (wordCount (now job)) (wordCount (now work)) (wordCount (now out)) (wordsOf (now job)) (wordsOf (now work)) (wordsOf (now out)) lay ol wl sp c n
+    requires { ⌜ StepReady (wordCount (now job)) (wordCount (now work)) (wordCount (now out)) (wordsOf (now job)) (wordsOf (now work)) (wordsOf (now out)) lay ol wl sp c n
         × Moves (wordsOf (now job)) (wordsOf (now work)) (wordsOf (now out)) lay ol wl top sp (cut p) ⌝ }
     ensures { λ r. ⌜ Stepped (wordCount (now (job .entry))) (wordCount (now (work .entry))) (wordsOf (now (job .entry))) (wordsOf (now (work .entry))) (wordsOf (now (work .exit))) lay wl sp n r ⌝ }
     ensures { λ r. ⌜ ((st : State) → StandsAs (jobOf (wordsOf (now (job .entry))) lay) ol (wordsOf (now (out .entry))) (wordsOf (now (job .entry))) (wordsOf (now (work .entry))) lay wl c st
@@ -122,7 +122,7 @@ fn one_step(
     c: Counts,
     n: usize,
 ) -> Step
-    requires { ⌜ Begun (wordCount (now job)) (wordCount (now work)) (wordCount (now out)) (wordsOf (now job)) (wordsOf (now work)) (wordsOf (now out)) lay ol wl sp c n ⌝ }
+    requires { ⌜ StepReady (wordCount (now job)) (wordCount (now work)) (wordCount (now out)) (wordsOf (now job)) (wordsOf (now work)) (wordsOf (now out)) lay ol wl sp c n ⌝ }
     ensures { λ r. ⌜ Stepped (wordCount (now (job .entry))) (wordCount (now (work .entry))) (wordsOf (now (job .entry))) (wordsOf (now (work .entry))) (wordsOf (now (work .exit))) lay wl sp n r ⌝ }
     ensures { λ r. ⌜ ((st : State) → StandsAs (jobOf (wordsOf (now (job .entry))) lay) ol (wordsOf (now (out .entry))) (wordsOf (now (job .entry))) (wordsOf (now (work .entry))) lay wl c st
         → StepTo (wordsOf (now (job .entry))) lay ol wl set top (wordsOf (now (out .exit))) (wordsOf (now (work .exit))) r

@@ -16,7 +16,7 @@ loop-holds : tie.Need-loop-holds Inv-loop μ-loop
 loop-holds c = let s = c .before .before .before in along-start _ _ _ _ _ _ _ _ _ _ _ (s .pre .0) (s .pre .1) (s .pre .2)
 
 one-step-requires : tie.Need-one-step-requires Inv-loop μ-loop
-one-step-requires c κs = c .before .before .loop .inv .begun
+one-step-requires c κs = c .before .before .loop .inv .ready
 
 same-length : tie.Need-same-length Inv-loop μ-loop
 same-length c = c .before .before .before .before .before .before .before .one-step .kept .1 .1 .0 ∙ c .before .before .before .before .before .before .before .before .before .before .loop .inv .long-out
