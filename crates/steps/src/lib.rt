@@ -4,7 +4,6 @@ use definition::Inst;
 use definition::RegClass;
 use layout::Layout;
 use place_end::Ended;
-use place_end::PlaceEnd;
 use set_part::SetPart;
 use turned::TurnedRow;
 use virt_regs::Counts;
@@ -31,7 +30,7 @@ ghost use Rattle.virt_regs.specs.Encoding.{tablesEnd};
 ghost use Rattle.constraints.specs.Held.{heldOf};
 ghost use Rattle.constraints.specs.Ready.{Ready, Stands};
 ghost use Rattle.turned.specs.Turned.{turnedRow};
-ghost use Rattle.steps.specs.Built.{isDone, endedAs};
+ghost use Rattle.steps.specs.Built.{isDone};
 ghost use Rattle.steps.specs.Turns.{turnedWords, turnedOnce, TurnRoom};
 
 // How the steps ended, the rows in use then, and how many uses are turned.
@@ -60,7 +59,7 @@ fn put_turned(work: &mut [u8], turned: usize, n: usize, row: TurnedRow)
 }
 
 // How far c is behind a; 0 where it is not.
-fn behind(c: usize, a: usize) -> usize
+pub fn behind(c: usize, a: usize) -> usize
     ensures { λ r. ⌜ r ≡ c - a ⌝ }
 {
     if c < a {
@@ -133,18 +132,5 @@ pub fn is_done(e: Ended) -> bool
         Ended::Done => true,
         Ended::Stopped(_) => false,
         Ended::Full => false,
-    }
-}
-
-// The steps end as placing does.
-pub fn ended(r: PlaceEnd, turned: usize) -> StepsEnd
-    ensures { λ s. ⌜ s ≡ endedAs r turned ⌝ }
-{
-    let end = r.end;
-    let counts = r.counts;
-    StepsEnd {
-        end,
-        counts,
-        turned,
     }
 }

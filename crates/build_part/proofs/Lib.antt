@@ -1,0 +1,5 @@
+pub mod Parts
+pub mod Turns
+pub mod Cuts
+pub mod Ways
+pub mod Along
