@@ -2,18 +2,15 @@
 use mathlib.Core.Path.{_≡_, refl, sym, ap, _∙_, subst}
 use mathlib.Core.Logic.{_⊎_, inl, inr}
 use mathlib.Core.Bool.{Bool, true, false, cond}
-use mathlib.Core.List.{List, [], _∷_, _++_}
+use mathlib.Core.List.{List, []}
 use Prim.Native.Nat.{ℕ, _+_, _≤_, _<_}
 use native.Mathlib.Omega.{arith}
-use lib.ListN.{length, take}
-use Rattle.definition.specs.Types.{State}
+use lib.ListN.{length}
 use Rattle.virt_regs.specs.declared.OutLayout.{OutLayout}
-use Rattle.virt_regs.specs.Encoding.{Holds}
 use Rattle.sheet_output.specs.declared.Cursor.{Cursor}
 use Rattle.sheet_output.specs.declared.Put.{Put}
-use Rattle.sheet_output.specs.declared.Page.{Page}
-use Rattle.sheet_output.specs.Left.{Stands, rowsLeft}
-use Rattle.sheet_output.specs.Pages.{Shows, Went, Goes, Stepped, Paged, Filled}
+use Rattle.sheet_output.specs.Left.{rowsLeft}
+use Rattle.sheet_output.specs.Pages.{Shows, Goes, Stepped, Filled}
 
 -- the first `at` of the n bytes B and what is left at the cursor c are what was left at c₀
 pub record Filling (ol : OutLayout) (w : ℕ) (O : List ℕ) (regs groups : ℕ) (c₀ : Cursor) (n : ℕ) (c : Cursor) (at : ℕ) (B : List ℕ) : Type 0 where
@@ -54,9 +51,9 @@ next {ol = ol} {regs = regs} {groups = groups} {c₀ = c₀} {c = c} {at = at} {
       shows = shows-next (f .shows) s;
       fewer = inr (less ol regs groups c₀ c (r .cur) at (f .fewer) (s .fewer));
       goes = λ st h n m k.
-        let g = f .goes st h n m k in
-        let q = s .goes st h n m (g .stands) in
-        record { stands = q .stands; text = q .text ∙ g .text };
+          let g = f .goes st h n m k in
+          let q = s .goes st h n m (g .stands) in
+          record { stands = q .stands; text = q .text ∙ g .text };
     }
 
 module _ {ol : OutLayout} {w : ℕ} {O : List ℕ} {regs groups : ℕ} {c₀ c : Cursor} {n at : ℕ} {B : List ℕ} (f : Filling ol w O regs groups c₀ n c at B) where

@@ -1,6 +1,6 @@
 -- A line written, by its kind. Assumes nothing.
 use mathlib.Core.Path.{_≡_, refl, sym, ap, _∙_, subst}
-use mathlib.Core.Bool.{Bool, true, false, cond}
+use mathlib.Core.Bool.{Bool, false, cond}
 use mathlib.Core.List.{List, [], _∷_, _++_, append-assoc}
 use Prim.Native.Nat.{ℕ, _+_, _*_, _^_, _≤_, _<_}
 use native.Mathlib.Omega.{arith}
@@ -14,14 +14,14 @@ use Rattle.lines.specs.Wrote.{Wrote}
 use Rattle.virt_regs.specs.declared.OutLayout.{OutLayout}
 use Rattle.virt_regs.specs.declared.PieceRow.{PieceRow}
 use Rattle.virt_regs.specs.declared.RegisterRow.{RegisterRow}
-use Rattle.virt_regs.specs.Encoding.{segBase, useBase, groupBase, Holds}
+use Rattle.virt_regs.specs.Encoding.{segBase, useBase, groupBase}
 use Rattle.virt_regs.specs.Reads.{pieceAt, firstPiece, firstUse, pieceIn, piece-held}
 use Rattle.register_sheet.specs.Typed.{endLine}
 use Rattle.sheet_output.specs.declared.Cursor.{Cursor}
 use Rattle.sheet_output.specs.declared.Put.{Put}
-use Rattle.sheet_output.specs.Left.{openLines, linesLeft, textLeft, Stands, rowsLeft}
+use Rattle.sheet_output.specs.Left.{openLines, linesLeft, textLeft, rowsLeft}
 use Rattle.sheet_output.specs.Rows.{registerIn, useText, segText, vregText, groupText, behindUse, behindSeg, behindVreg, behindGroup, behindEnd}
-use Rattle.sheet_output.specs.Pages.{Shows, Went, Goes, Stepped}
+use Rattle.sheet_output.specs.Pages.{Shows, Goes, Stepped}
 use Rattle.sheet_output.proofs.Nexts.{first-use-le, first-piece-le, first-use-next, first-piece-next, use-next, seg-next, vreg-next, group-next, end-next}
 use Rattle.sheet_output.proofs.Texts.{kind-held, size-most, register-held, use-text, seg-text, vreg-text, group-text}
 
@@ -40,23 +40,11 @@ module _ {ol : OutLayout} {w : ℕ} {O : List ℕ} {regs groups : ℕ} {c : Curs
   pub seg-asked : c .segs < c .«segs_end» → c .segs < ol .segs
   seg-asked l = omega (arith, seg-in l, a .holds .fit-segments)
 
-  pub vreg-asked : c .regs < regs → (c .regs * 8 + 8 ≤ w) × (c .regs < 2 ^ 32)
-  vreg-asked l = (
-    omega (arith, a .has-registers, a .holds .fit-registers, a .long),
-    omega (arith, a .has-registers, a .holds .fit-registers, a .few-regs),
-  )
-
   pub group-asked : c .groups < groups → (c .groups < ol .groups) × (c .groups < 2 ^ 32) × (getD O (groupBase ol + c .groups * 9) 0 ≤ 8)
   group-asked l = (
     omega (arith, a .has-groups, a .holds .fit-groups),
     omega (arith, a .has-groups, a .holds .fit-groups, a .few-groups),
     size-most ol O (a .st) (a .holds) (c .groups) (omega (arith, a .has-groups)),
-  )
-
-  pub end-asked : (regs < 2 ^ 32) × (groups < 2 ^ 32)
-  end-asked = (
-    omega (arith, a .has-registers, a .holds .fit-registers, a .few-regs),
-    omega (arith, a .has-groups, a .holds .fit-groups, a .few-groups),
   )
 
 -- ---- a line more
@@ -102,7 +90,7 @@ module _ (ol : OutLayout) (O : List ℕ) (regs groups : ℕ) (c : Cursor) (at : 
         record {
           stands = record { uses = omega arith; uses-end = s .uses-end; segs = s .segs; segs-end = s .segs-end; regs = s .regs; groups = s .groups };
           text = step-text st c (behindUse c) at (r .at) B B′ _ _ t (use-text ol O st h (c .uses) i)
-            (open-next st c (behindUse c) _ o refl (use-next st (c .regs) (c .segs) (c .uses) (c .groups) k));
+              (open-next st c (behindUse c) _ o refl (use-next st (c .regs) (c .segs) (c .uses) (c .groups) k));
         })
 
     pub seg-step : c .«uses_end» ≤ c .uses → c .segs < c .«segs_end» → Wrote 256 at B (r .at) B′ (segText ol O (c .segs)) → r .cur ≡ behindSeg ol O c
@@ -126,7 +114,7 @@ module _ (ol : OutLayout) (O : List ℕ) (regs groups : ℕ) (c : Cursor) (at : 
             groups = s .groups;
           };
           text = step-text st c (behindSeg ol O c) at (r .at) B B′ _ _ t (seg-text ol O st h (c .segs) i)
-            (open-next st c (behindSeg ol O c) _ o refl (seg-next st (c .regs) (c .segs) (c .uses) (c .groups) u k));
+              (open-next st c (behindSeg ol O c) _ o refl (seg-next st (c .regs) (c .segs) (c .uses) (c .groups) u k));
         })
 
     pub vreg-step : c .«uses_end» ≤ c .uses → c .«segs_end» ≤ c .segs → c .regs < regs → Wrote 256 at B (r .at) B′ (vregText O (c .regs)) → r .cur ≡ behindVreg O c
@@ -150,7 +138,7 @@ module _ (ol : OutLayout) (O : List ℕ) (regs groups : ℕ) (c : Cursor) (at : 
             groups = s .groups;
           };
           text = step-text st c (behindVreg O c) at (r .at) B B′ _ _ t (vreg-text ol O st h (c .regs) i)
-            (open-next st c (behindVreg O c) _ o refl (vreg-next st (c .regs) (c .segs) (c .uses) (c .groups) u v i));
+              (open-next st c (behindVreg O c) _ o refl (vreg-next st (c .regs) (c .segs) (c .uses) (c .groups) u v i));
         })
 
     pub group-step : c .«uses_end» ≤ c .uses → c .«segs_end» ≤ c .segs → regs ≤ c .regs → c .groups < groups → Wrote 256 at B (r .at) B′ (groupText ol O (c .groups)) → r .cur ≡ behindGroup c
@@ -165,7 +153,7 @@ module _ (ol : OutLayout) (O : List ℕ) (regs groups : ℕ) (c : Cursor) (at : 
         record {
           stands = record { uses = s .uses; uses-end = s .uses-end; segs = s .segs; segs-end = s .segs-end; regs = s .regs; groups = omega arith };
           text = step-text st c (behindGroup c) at (r .at) B B′ _ _ t (group-text ol O st h (c .groups) i)
-            (open-next st c (behindGroup c) _ o refl (group-next st (c .regs) (c .segs) (c .uses) (c .groups) u v f i));
+              (open-next st c (behindGroup c) _ o refl (group-next st (c .regs) (c .segs) (c .uses) (c .groups) u v f i));
         })
 
     pub end-step : c .«uses_end» ≤ c .uses → c .«segs_end» ≤ c .segs → regs ≤ c .regs → groups ≤ c .groups → Wrote 256 at B (r .at) B′ (endLine regs groups) → r .cur ≡ behindEnd c
@@ -181,6 +169,6 @@ module _ (ol : OutLayout) (O : List ℕ) (regs groups : ℕ) (c : Cursor) (at : 
         record {
           stands = record { uses = s .uses; uses-end = s .uses-end; segs = s .segs; segs-end = s .segs-end; regs = s .regs; groups = s .groups };
           text = step-text st c (behindEnd c) at (r .at) B B′ _ (end-line (length (st .registers)) (length (st .groups))) t
-            ((λ x. lineBytes (end-line (n x) (m x))))
-            (open-left st c c o ∙ end-next st (c .regs) (c .segs) (c .uses) (c .groups) u v f g);
+              ((λ x. lineBytes (end-line (n x) (m x))))
+              (open-left st c c o ∙ end-next st (c .regs) (c .segs) (c .uses) (c .groups) u v f g);
         })

@@ -1,8 +1,8 @@
 -- The lines of rows that hold a state are the lines of what they hold. Assumes nothing.
-use mathlib.Core.Path.{_≡_, refl, sym, ap, _∙_}
+use mathlib.Core.Path.{_≡_, refl, ap, _∙_}
 use mathlib.Core.Bool.{Bool, true, false, cond}
 use mathlib.Core.Option.{Option, none, some}
-use mathlib.Core.List.{List, [], _∷_, _++_, map}
+use mathlib.Core.List.{List, [], _∷_, map}
 use Prim.Native.Nat.{ℕ, zero, suc, _+_, _*_, _≤_, _<_}
 use native.Mathlib.Numerals.{add-one}
 use native.Mathlib.Omega.{arith}
@@ -28,8 +28,8 @@ use Rattle.definition.specs.Lines as lines
 use Rattle.definition.specs.JobSheet.{useOf, flagsOf}
 use Rattle.definition.specs.RegisterSheet.{lineBytes}
 use Rattle.virt_regs.specs.declared.OutLayout.{OutLayout}
-use Rattle.virt_regs.specs.Encoding.{segBase, useBase, groupBase, groupWord, placeWord, originWord, hintWord, registerRow, pieceRow, useWords, eachRegister, Holds}
-use Rattle.virt_regs.specs.Reads.{pieceAt, firstPiece, firstUse, register-word, use-word, piece-held, size-held, size-le, member-held}
+use Rattle.virt_regs.specs.Encoding.{useBase, groupBase, groupWord, placeWord, originWord, hintWord, registerRow, useWords, eachRegister, Holds}
+use Rattle.virt_regs.specs.Reads.{pieceAt, firstPiece, register-word, use-word, piece-held, size-held, size-le, member-held}
 use Rattle.register_sheet.specs.Typed.{groupOf, memberOf, originOf, vregLine, segLine, useLine, groupLine}
 use Rattle.sheet_output.specs.Rows.{registerIn, useIn, membersIn, useText, segText, segRowText, vregText, vregRowText, groupText}
 use Rattle.sheet_output.proofs.Nexts.{uses}

@@ -142,7 +142,15 @@ fn next_seg(tables: &[u8], ol: OutLayout, cur: Cursor, buf: &mut [u8], at: usize
     ensures { λ r. ⌜ Wrote (256) at (now (buf .entry)) (r .at) (now (buf .exit)) (segText ol (wordsOf (now (tables .entry))) (cur .segs)) × (r .cur ≡ behindSeg ol (wordsOf (now (tables .entry))) cur) ⌝ }
 {
     let row = piece_at(tables, ol, cur.segs);
-    let end = put_seg(buf, at, row.value.0, row.from.0, row.to.0, row.flags, row.origin);
+    let end = put_seg(
+        buf,
+        at,
+        row.value.0,
+        row.from.0,
+        row.to.0,
+        row.flags,
+        row.origin,
+    );
     let c = Cursor {
         regs: cur.regs,
         segs: cur.segs + 1,
