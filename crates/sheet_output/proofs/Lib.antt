@@ -1,0 +1,4 @@
+pub mod Nexts
+pub mod Texts
+pub mod Steps
+pub mod Fills

@@ -1,0 +1,4 @@
+pub mod Left
+pub mod Rows
+pub mod Pages
+pub mod Sheets
