@@ -132,9 +132,7 @@ impl Trials {
 
     /// Compares one call with the oracle. Gives what came out.
     fn judge(&mut self, case: &Case, lent: Lent) -> Result<Made, u32> {
-        let theirs = case
-            .job
-            .map_or(Err(1), |job| expected(job, lent.room()));
+        let theirs = case.job.map_or(Err(1), |job| expected(job, lent.room()));
         let (end, out) = self.call(case, lent);
         let number = end.as_ref().map_or_else(|refused| refused.0, |_| 0);
         let wanted = match &theirs {
@@ -191,7 +189,11 @@ impl Trials {
             return;
         }
         if self.judge(case, Lent::whole(need)).is_err() {
-            differs(case, Lent::whole(need), "what the result needs is not enough");
+            differs(
+                case,
+                Lent::whole(need),
+                "what the result needs is not enough",
+            );
         }
         let table = self.random.below(4);
         if need[table] > 0 {

@@ -4,8 +4,7 @@
 mod common;
 
 use bindings::build::{
-    Class, Counts, JobBytes, Origin, Refused, Remat, Rows, Tables, Use, Work, build,
-    build_in_bytes,
+    Class, Counts, JobBytes, Origin, Refused, Remat, Rows, Tables, Use, Work, build, build_in_bytes,
 };
 use common::{binary, result};
 use oracle::answer::{Room, answer_job};
@@ -288,15 +287,20 @@ fn on_a_small_stack(job: Job) -> Counts {
     });
     let (end, out) = ours.unwrap().join().unwrap();
     assert_eq!(end, Ok(theirs.counts()));
-    assert!(out == theirs.bytes(Room::default(), length), "the tables differ");
+    assert!(
+        out == theirs.bytes(Room::default(), length),
+        "the tables differ"
+    );
     theirs.counts()
 }
 
 #[test]
 fn the_most_cuts_need_no_more_stack_than_2_mb() {
-    let ways: [fn(u32) -> f32; 3] = [|_| 1.0, |number| number as f32, |number| {
-        (512 - number) as f32
-    }];
+    let ways: [fn(u32) -> f32; 3] = [
+        |_| 1.0,
+        |number| number as f32,
+        |number| (512 - number) as f32,
+    ];
     for frequency in ways {
         let mut job = long_job(2, frequency);
         let uses = (0..4096).map(|inst| class_use(inst, 0, 1 + inst % 2));

@@ -149,7 +149,10 @@ fn in_rows(bytes: &mut Vec<u8>, random: &mut Random) {
             let place = random.below(WIDTHS[number]);
             table[at][place] = drawn(random, table[at][place]);
         }
-        5 => table.insert(at, (0..WIDTHS[number]).map(|_| random.pick(&EDGES)).collect()),
+        5 => table.insert(
+            at,
+            (0..WIDTHS[number]).map(|_| random.pick(&EDGES)).collect(),
+        ),
         _ => {}
     }
     *bytes = joined(&words, &rows);
@@ -161,8 +164,14 @@ fn fresh(bytes: &mut Vec<u8>, random: &mut Random) {
         0 => Vec::new(),
         1 => vec![0; 4 * HEADER],
         2 => vec![0xff; 4 * (HEADER + random.below(20))],
-        3 => (0..random.below(200)).map(|_| random.next() as u8).collect(),
-        4 => to_bytes(&(0..HEADER + random.below(40)).map(|_| random.pick(&EDGES)).collect::<Vec<_>>()),
+        3 => (0..random.below(200))
+            .map(|_| random.next() as u8)
+            .collect(),
+        4 => to_bytes(
+            &(0..HEADER + random.below(40))
+                .map(|_| random.pick(&EDGES))
+                .collect::<Vec<_>>(),
+        ),
         _ => return,
     }
 }

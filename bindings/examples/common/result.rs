@@ -38,12 +38,11 @@ impl Made {
     pub fn bytes(&self, room: Room, length: usize) -> Vec<u8> {
         let mut bytes = vec![0; length];
         let mut at = 0;
-        for table in 0..4 {
-            let words = self.tables[table].iter();
-            for (place, word) in bytes[at..].chunks_exact_mut(4).zip(words) {
+        for ((table, width), rows) in self.tables.iter().zip(WIDTHS).zip(room.0) {
+            for (place, word) in bytes[at..].chunks_exact_mut(4).zip(table) {
                 place.copy_from_slice(&word.to_le_bytes());
             }
-            at += 4 * WIDTHS[table] * room.0[table];
+            at += 4 * width * rows;
         }
         bytes
     }

@@ -171,10 +171,7 @@ impl Tables {
     }
 
     pub fn segments(&self, register: &Register) -> impl Iterator<Item = Segment> {
-        register
-            .segments
-            .clone()
-            .map(|place| self.segment(place))
+        register.segments.clone().map(|place| self.segment(place))
     }
 
     /// The use at a place that a segment names.
