@@ -96,7 +96,7 @@ fn step_cut(
         (run (jobOf (wordsOf (now (job .entry))) lay) (roomOf ol) set top st (partSegs (wordsOf (now (work .entry))) (wl .marks) (wordsOf (now (job .entry))) lay sp) (turnedRowsOf (wordsOf (now (work .entry))) (wl .turned) (wordsOf (now (job .entry))) lay 0 n))) ⌝ }
 {
     let f = cut_front(job, lay, out, ol, work, wl, top, sp, p);
-    let left = sp;
+    let left = f.left;
     let held = f.held;
     let r = place_part(job, lay, out, ol, work, wl, left, set, held, c);
     let end = r.end;
