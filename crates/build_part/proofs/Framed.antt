@@ -3,11 +3,10 @@ use mathlib.Core.Path.{_≡_, sym, ap, subst, _∙_}
 use mathlib.Core.List.{List}
 use Prim.Native.Nat.{ℕ, _≤_}
 use native.Mathlib.Omega.{arith}
-use lib.ListN.{length, getD}
+use lib.ListN.{length}
 use Rattle.definition.specs.declared.RegClass.{RegClass}
 use Rattle.definition.specs.declared.ValueSet.{ValueSet}
 use Rattle.definition.specs.Types.{State}
-use Rattle.layout.specs.declared.Table.{Table}
 use Rattle.layout.specs.declared.Layout.{Layout}
 use Rattle.job.specs.Job.{jobOf}
 use Rattle.set_part.specs.declared.SetPart.{SetPart}
@@ -21,7 +20,7 @@ use Rattle.steps.specs.declared.StepsEnd.{StepsEnd}
 use Rattle.steps.specs.Laid.{Laid}
 use Rattle.steps.specs.Built.{Changed}
 use Rattle.build_part.specs.declared.Step.{Step}
-use Rattle.build_part.specs.Frame.{tableIn, layoutIn, outIn, workIn, framed, layout-framed, out-framed, work-framed}
+use Rattle.part_frame.specs.Frame.{layoutIn, outIn, workIn, framed, layout-framed, out-framed, work-framed}
 use Rattle.build_part.specs.Steps.{BuildsTo, StepReady, Stepped, StepsTo}
 
 module _ (lay lay′ : Layout) (ol ol′ : OutLayout) (wl wl′ : WorkLayout) (el : lay ≡ lay′) (eo : ol ≡ ol′) (ew : wl ≡ wl′) where
@@ -40,12 +39,6 @@ module _ (lay lay′ : Layout) (ol ol′ : OutLayout) (wl wl′ : WorkLayout) (e
       → (Changed lay wl sp n K K′ × RowsOk w K′ (wl .turned) lay 0 (r .turned)) × BuildsTo W lay ol wl vs top O K sp c n O′ K′ r
       → (Changed lay′ wl′ sp n K K′ × RowsOk w K′ (wl′ .turned) lay′ 0 (r .turned)) × BuildsTo W lay′ ol′ wl′ vs top O K sp c n O′ K′ r
   built-as w W K O K′ O′ vs top sp c n r = layouts λ a b d. (Changed a d sp n K K′ × RowsOk w K′ (d .turned) a 0 (r .turned)) × BuildsTo W a b d vs top O K sp c n O′ K′ r
-
--- a layout of the tables that the numbers stand for
-pub layout-made : (F : List ℕ) (banks classes regs blocks values vgroups operands hints segments uses : Table) → banks ≡ tableIn F 1 → classes ≡ tableIn F 3 → regs ≡ tableIn F 5 → blocks ≡ tableIn F 7 → values ≡ tableIn F 9 → vgroups ≡ tableIn F 11 → operands ≡ tableIn F 13 → hints ≡ tableIn F 15 → segments ≡ tableIn F 17 → uses ≡ tableIn F 19
-    → _≡_ {A = Layout} (record { opts = getD F 0 0; banks = banks; classes = classes; regs = regs; blocks = blocks; values = values; vgroups = vgroups; operands = operands; hints = hints; segments = segments; uses = uses }) (layoutIn F)
-unfolding layoutIn
-layout-made F banks classes regs blocks values vgroups operands hints segments uses e1 e2 e3 e4 e5 e6 e7 e8 e9 e10 = cc
 
 framed-long : (lay : Layout) (ol : OutLayout) (wl : WorkLayout) → 31 ≤ length (framed lay ol wl)
 unfolding framed

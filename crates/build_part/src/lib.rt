@@ -3,7 +3,10 @@ use definition::Inst;
 use definition::RegClass;
 use definition::ValueSet;
 use layout::Layout;
-use layout::Table;
+use part_frame::frame_of;
+use part_frame::layout_in;
+use part_frame::out_in;
+use part_frame::work_in;
 use place_end::Ended;
 use place_end::PlaceEnd;
 use place_part::place_part;
@@ -33,7 +36,7 @@ ghost use Rattle.build_state.specs.Builds.{Builds};
 ghost use Rattle.build_state.specs.Fits.{StandsAs};
 ghost use Rattle.steps.specs.Laid.{Laid};
 ghost use Rattle.steps.specs.Built.{Changed};
-ghost use Rattle.build_part.specs.Frame.{tableIn, layoutIn, outIn, workIn, framed};
+ghost use Rattle.part_frame.specs.Frame.{layoutIn, outIn, workIn};
 ghost use Rattle.build_part.specs.Steps.{overStep, onStep, BuiltFit, BuildsTo, StepReady, Moves, Stepped, StepTo, StepsTo};
 
 // One step. `go`: the steps go on with `part`, `counts` and `turned`; else they ended with `end`.
@@ -151,104 +154,6 @@ fn one_step(
             let end = Ended::Stopped(s);
             over(sp, PlaceEnd { end, counts: c }, n)
         }
-    }
-}
-
-// The layouts as one table of numbers, which the recursion lends from level to level: a level's stack then holds none of them.
-fn frame_of(lay: Layout, ol: OutLayout, wl: WorkLayout) -> [usize; 31]
-    ensures { λ r. ⌜ r ≡ framed lay ol wl ⌝ }
-{
-    [
-        lay.opts,
-        lay.banks.at,
-        lay.banks.n,
-        lay.classes.at,
-        lay.classes.n,
-        lay.regs.at,
-        lay.regs.n,
-        lay.blocks.at,
-        lay.blocks.n,
-        lay.values.at,
-        lay.values.n,
-        lay.vgroups.at,
-        lay.vgroups.n,
-        lay.operands.at,
-        lay.operands.n,
-        lay.hints.at,
-        lay.hints.n,
-        lay.segments.at,
-        lay.segments.n,
-        lay.uses.at,
-        lay.uses.n,
-        ol.regs,
-        ol.segs,
-        ol.uses,
-        ol.groups,
-        wl.heads,
-        wl.nexts,
-        wl.mapping,
-        wl.starts,
-        wl.marks,
-        wl.turned,
-    ]
-}
-
-// The table whose place and number of rows stand at i.
-fn table_in(frame: &[usize], i: usize) -> Table
-    requires { ⌜ i + 1 < length (now frame) ⌝ }
-    ensures { λ r. ⌜ r ≡ tableIn (now (frame .entry)) i ⌝ }
-{
-    Table {
-        at: frame[i],
-        n: frame[i + 1],
-    }
-}
-
-// The job's layout.
-fn layout_in(frame: &[usize]) -> Layout
-    requires { ⌜ 31 ≤ length (now frame) ⌝ }
-    ensures { λ r. ⌜ r ≡ layoutIn (now (frame .entry)) ⌝ }
-{
-    Layout {
-        opts: frame[0],
-        banks: table_in(frame, 1),
-        classes: table_in(frame, 3),
-        regs: table_in(frame, 5),
-        blocks: table_in(frame, 7),
-        values: table_in(frame, 9),
-        vgroups: table_in(frame, 11),
-        operands: table_in(frame, 13),
-        hints: table_in(frame, 15),
-        segments: table_in(frame, 17),
-        uses: table_in(frame, 19),
-    }
-}
-
-// The result tables' numbers of rows.
-fn out_in(frame: &[usize]) -> OutLayout
-    requires { ⌜ 31 ≤ length (now frame) ⌝ }
-    ensures { λ r. ⌜ r ≡ outIn (now (frame .entry)) ⌝ }
-{
-    OutLayout {
-        regs: frame[21],
-        segs: frame[22],
-        uses: frame[23],
-        groups: frame[24],
-    }
-}
-
-// The places of the work slice.
-fn work_in(frame: &[usize]) -> WorkLayout
-    requires { ⌜ 31 ≤ length (now frame) ⌝ }
-    ensures { λ r. ⌜ r ≡ workIn (now (frame .entry)) ⌝ }
-{
-    WorkLayout {
-        heads: frame[25],
-        nexts: frame[26],
-        mapping: frame[27],
-        starts: frame[28],
-        marks: frame[29],
-        turned: frame[30],
     }
 }
 

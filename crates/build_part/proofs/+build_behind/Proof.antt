@@ -9,7 +9,7 @@ use borrow.Fn.PlainCycle.{Measures, is, falls, and}
 use Rattle.words.specs.Words.{wordsOf}
 use Rattle.place_part.proofs.Parts.{not-true, not-false}
 use Rattle.steps.specs.Laid.{usesLeft}
-use Rattle.build_part.specs.Frame.{layoutIn, workIn}
+use Rattle.part_frame.specs.Frame.{layoutIn, workIn}
 use Rattle.build_part.proofs.Behind.{step-ends, behind-ready, behind-built}
 use Rattle.build_part.proofs.build_behind.Reads as build-behind
 use Rattle.build_part.proofs.build_behind.Kinds as build-behind-kinds

@@ -1,7 +1,7 @@
 use mathlib.Core.Path.{refl}
-use Rattle.build_part.specs.Frame.{framed}
-use Rattle.build_part.proofs.frame_of.Statement.{statement}
-use Rattle.build_part.proofs.frame_of.Tie as tie
+use Rattle.part_frame.specs.Frame.{framed}
+use Rattle.part_frame.proofs.frame_of.Statement.{statement}
+use Rattle.part_frame.proofs.frame_of.Tie as tie
 
 returns : tie.Need-returns
 unfolding framed

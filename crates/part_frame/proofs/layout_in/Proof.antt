@@ -1,8 +1,8 @@
 use native.Mathlib.Omega.{arith}
 use borrow.Author.Needs.{needs}
-use Rattle.build_part.proofs.Framed.{layout-made}
-use Rattle.build_part.proofs.layout_in.Statement.{statement}
-use Rattle.build_part.proofs.layout_in.Tie as tie
+use Rattle.part_frame.proofs.Made.{layout-made}
+use Rattle.part_frame.proofs.layout_in.Statement.{statement}
+use Rattle.part_frame.proofs.layout_in.Tie as tie
 
 table-in-requires-10 : tie.Need-table-in-requires-10
 table-in-requires-10 c κs = omega (arith, c .before .before .before .before .before .before .before .before .before .before .before .pre)
