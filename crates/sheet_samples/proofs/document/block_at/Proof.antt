@@ -2,10 +2,6 @@ use native.Mathlib.Omega.{arith}
 use borrow.Author.Needs.{needs}
 use Rattle.sheet_samples.proofs.document.block_at.Statement.{statement}
 use Rattle.sheet_samples.proofs.document.block_at.Tie as tie
-use Rattle.sheet_samples.proofs.document.block_at.Reads as reads
-use Rattle.sheet_samples.proofs.document.block_at.Lts as lts
-use Rattle.sheet_samples.proofs.document.next_fence.Reads as next-fence-reads
-use Rattle.sheet_samples.proofs.document.next_line.Reads as next-line-reads
 
 next-line-requires : tie.Need-next-line-requires
 next-line-requires c κs = search needs

@@ -4,10 +4,6 @@ use lib.ListN.{length}
 use borrow.Author.Needs.{needs}
 use Rattle.sheet_samples.proofs.document.next_fence.Statement.{statement}
 use Rattle.sheet_samples.proofs.document.next_fence.Tie as tie
-use Rattle.sheet_samples.proofs.document.next_fence.Reads as reads
-use Rattle.sheet_samples.proofs.document.next_fence.Lts as lts
-use Rattle.sheet_samples.proofs.document.next_line.Reads as next-line-reads
-use Rattle.sheet_samples.proofs.document.stands.Reads as stands-reads
 
 abbrev Inv-loop : tie.InvT-loop
 Inv-loop doc at i₀ t4 i = (at ≤ i) × (i ≤ length doc)

@@ -4,8 +4,6 @@ use lib.ListN.{length}
 use borrow.Author.Needs.{needs}
 use Rattle.sheet_samples.proofs.document.next_line.Statement.{statement}
 use Rattle.sheet_samples.proofs.document.next_line.Tie as tie
-use Rattle.sheet_samples.proofs.document.next_line.Reads as reads
-use Rattle.sheet_samples.proofs.document.next_line.Lts as lts
 
 abbrev Inv-loop : tie.InvT-loop
 Inv-loop doc at i₀ i = (at ≤ i) × (i ≤ length doc)

@@ -4,13 +4,6 @@ use Rattle.sheet_samples.proofs.Alone.{alone-inside}
 use borrow.Author.Needs.{needs}
 use Rattle.sheet_samples.proofs.document.sample_at.Statement.{statement}
 use Rattle.sheet_samples.proofs.document.sample_at.Tie as tie
-use Rattle.sheet_samples.proofs.document.sample_at.Reads as reads
-use Rattle.sheet_samples.proofs.document.sample_at.Lts as lts
-use Rattle.sheet_samples.proofs.document.block_at.Reads as block-at-reads
-use Rattle.sheet_samples.proofs.document.next_fence.Reads as next-fence-reads
-use Rattle.sheet_samples.proofs.document.sheet_of.Reads as sheet-of-reads
-use Rattle.sheet_samples.proofs.document.single.Reads as single-reads
-use Rattle.sheet_samples.proofs.document.stands.Reads as stands-reads
 
 sheet-of-requires : tie.Need-sheet-of-requires
 sheet-of-requires c κs = search needs

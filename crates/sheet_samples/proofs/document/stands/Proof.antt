@@ -5,8 +5,6 @@ use lib.ListN.{length}
 use borrow.Author.Needs.{needs}
 use Rattle.sheet_samples.proofs.document.stands.Statement.{statement}
 use Rattle.sheet_samples.proofs.document.stands.Tie as tie
-use Rattle.sheet_samples.proofs.document.stands.Reads as reads
-use Rattle.sheet_samples.proofs.document.stands.Lts as lts
 
 abbrev Inv-loop : tie.InvT-loop
 Inv-loop doc at bytes i₀ i = (i ≤ length bytes) × (at + length bytes ≤ length doc)
