@@ -5,6 +5,7 @@ use mathlib.Core.List.{List, [], _++_, append-assoc, append-nil}
 use Prim.Native.Nat.{ℕ, _+_, _-_, _^_, _≤_, _<_}
 use native.Mathlib.Omega.{arith}
 use lib.ListN.{length, take}
+use lib.Seq.{length-take-le}
 use Rattle.words.specs.Words.{wordCount, wordsOf}
 use Rattle.words.specs.Laws.{length-words}
 use Rattle.definition.specs.declared.Refusal.{Refusal}
@@ -125,6 +126,7 @@ unfolding leftOf
 fill-turned ol r x c p B z l f =
     record {
       within = f .within;
+      counts = sym (length-take-le (p .n) B (f .within));
       fewer = λ e. f .fewer e l;
       paged = λ o g. record {
         printing = record {
@@ -154,6 +156,7 @@ unfolding endLeft
 refused-turned ol r x c p B nz h =
     record {
       within = h .within;
+      counts = sym (length-take-le (p .n) B (h .within));
       fewer = λ e. subst (λ (d : Cursor). rowsLeft ol (r .registers) (r .groups) d < rowsLeft ol (r .registers) (r .groups) c) (sym (h .behind)) (one-less ol (r .registers) (r .groups) c e);
       paged = λ o g. record {
         printing = record { end = g .end; holds = g .holds; stands = λ res e. absurd (nz (number-of o r (g .end) ∙ not-done o res e)) };

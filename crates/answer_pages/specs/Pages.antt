@@ -41,9 +41,10 @@ pub record Paged (ol : OutLayout) (o : Out Result) (r : BuildEnd) (x : List ℕ)
   pub printing : Printing ol o r x (p .cur)
   pub text : leftOf o c ≡ take (p .n) B ++ leftOf o (p .cur)
 
--- it is one of every such answer; and as long as the end was not printed, fewer lines are left behind it
+-- it lies in B, and is one of every such answer; and as long as the end was not printed, fewer lines are left behind it
 pub record Turned (ol : OutLayout) (r : BuildEnd) (x : List ℕ) (c : Cursor) (p : Page) (B : List ℕ) : Type 0 where
   pub within : p .n ≤ length B
+  pub counts : p .n ≡ length (take (p .n) B)
   pub fewer : c .ended ≡ false → rowsLeft ol (r .registers) (r .groups) (p .cur) < rowsLeft ol (r .registers) (r .groups) c
   pub paged : (o : Out Result) → Printing ol o r x c → Paged ol o r x c p B
 
