@@ -3,7 +3,7 @@
 use std::env;
 use std::path::PathBuf;
 
-const ARCHIVES: [&str; 1] = ["find_cut"];
+const ARCHIVES: [&str; 2] = ["find_cut", "build"];
 
 fn main() {
     let here = PathBuf::from(env::var_os("CARGO_MANIFEST_DIR").unwrap());

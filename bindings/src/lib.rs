@@ -1,3 +1,4 @@
 //! The proved entry points as a code generator calls them.
 
+pub mod build;
 pub mod cut;

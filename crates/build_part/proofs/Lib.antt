@@ -2,4 +2,5 @@ pub mod Parts
 pub mod Turns
 pub mod Cuts
 pub mod Ways
-pub mod Along
+pub mod Behind
+pub mod Framed

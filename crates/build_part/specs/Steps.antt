@@ -55,6 +55,12 @@ unfoldable pub BuiltFit : Job → OutLayout → List ℕ → Layout → WorkLayo
 BuiltFit J ol W lay wl O K r (done b) = BuiltNow J ol W lay wl O K r b
 BuiltFit J ol W lay wl O K r (refused f) = endOf f (r .end)
 
+-- for every state that the slices stand for, the definition's answer
+abbrev pub BuildsTo : List ℕ → Layout → OutLayout → WorkLayout → ValueSet → RegClass → List ℕ → List ℕ → SetPart → Counts → ℕ → List ℕ → List ℕ → StepsEnd → Type 0
+BuildsTo W lay ol wl vs top O K sp c n O′ K′ r =
+    (st : State) → StandsAs (jobOf W lay) ol O W K lay wl c st
+    → BuiltFit (jobOf W lay) ol W lay wl O′ K′ r (run (jobOf W lay) (roomOf ol) vs top st (partSegs K (wl .marks) W lay sp) (turnedRowsOf K (wl .turned) W lay 0 n))
+
 -- ---- one step
 
 -- The part sp is laid out behind n turned rows, the job is accepted, and the slices stand for some state. The job has t words, the work slice w, the result tables o.
@@ -92,3 +98,9 @@ pub record GoesOn (W : List ℕ) (lay : Layout) (ol : OutLayout) (wl : WorkLayou
 pub record StepTo (W : List ℕ) (lay : Layout) (ol : OutLayout) (wl : WorkLayout) (vs : ValueSet) (top : RegClass) (O K : List ℕ) (r : Step) (o : Out Built) : Type 0 where
   pub ends : r .go ≡ false → BuiltFit (jobOf W lay) ol W lay wl O K (stepEnd r) o
   pub goes : r .go ≡ true → GoesOn W lay ol wl vs top O K r o
+
+-- for every state that the slices stand for, the step r
+abbrev pub StepsTo : List ℕ → Layout → OutLayout → WorkLayout → ValueSet → RegClass → List ℕ → List ℕ → SetPart → Counts → ℕ → List ℕ → List ℕ → Step → Type 0
+StepsTo W lay ol wl vs top O K sp c n O′ K′ r =
+    (st : State) → StandsAs (jobOf W lay) ol O W K lay wl c st
+    → StepTo W lay ol wl vs top O′ K′ r (run (jobOf W lay) (roomOf ol) vs top st (partSegs K (wl .marks) W lay sp) (turnedRowsOf K (wl .turned) W lay 0 n))

@@ -3,6 +3,7 @@ use definition::Inst;
 use definition::RegClass;
 use definition::ValueSet;
 use layout::Layout;
+use layout::Table;
 use place_end::Ended;
 use place_end::PlaceEnd;
 use place_part::place_part;
@@ -30,7 +31,10 @@ ghost use Rattle.build_state.specs.Builds.{Builds};
 ghost use Rattle.build_state.specs.Fits.{StandsAs};
 ghost use Rattle.steps.specs.Laid.{Laid};
 ghost use Rattle.steps.specs.Built.{Changed};
-ghost use Rattle.build_part.specs.Steps.{overStep, onStep, BuiltFit, StepReady, Moves, Stepped, StepTo};
+ghost use Prim.Native.Nat.{ℕ, _+_, _≤_, _<_};
+ghost use lib.ListN.{length};
+ghost use Rattle.build_part.specs.Frame.{tableIn, layoutIn, outIn, workIn, framed};
+ghost use Rattle.build_part.specs.Steps.{overStep, onStep, BuiltFit, BuildsTo, StepReady, Moves, Stepped, StepTo, StepsTo};
 
 // One step. `go`: the steps go on with `part`, `counts` and `turned`; else they ended with `end`.
 pub struct Step {
@@ -150,6 +154,157 @@ fn one_step(
     }
 }
 
+// The layouts as one table of numbers, which the recursion lends from level to level: a level's stack then holds none of them.
+fn frame_of(lay: Layout, ol: OutLayout, wl: WorkLayout) -> [usize; 31]
+    ensures { λ r. ⌜ r ≡ framed lay ol wl ⌝ }
+{
+    [
+        lay.opts,
+        lay.banks.at,
+        lay.banks.n,
+        lay.classes.at,
+        lay.classes.n,
+        lay.regs.at,
+        lay.regs.n,
+        lay.blocks.at,
+        lay.blocks.n,
+        lay.values.at,
+        lay.values.n,
+        lay.vgroups.at,
+        lay.vgroups.n,
+        lay.operands.at,
+        lay.operands.n,
+        lay.hints.at,
+        lay.hints.n,
+        lay.segments.at,
+        lay.segments.n,
+        lay.uses.at,
+        lay.uses.n,
+        ol.regs,
+        ol.segs,
+        ol.uses,
+        ol.groups,
+        wl.heads,
+        wl.nexts,
+        wl.mapping,
+        wl.starts,
+        wl.marks,
+        wl.turned,
+    ]
+}
+
+// The table whose place and number of rows stand at i.
+fn table_in(frame: &[usize], i: usize) -> Table
+    requires { ⌜ i + 1 < length (now frame) ⌝ }
+    ensures { λ r. ⌜ r ≡ tableIn (now (frame .entry)) i ⌝ }
+{
+    Table {
+        at: frame[i],
+        n: frame[i + 1],
+    }
+}
+
+// The job's layout.
+fn layout_in(frame: &[usize]) -> Layout
+    requires { ⌜ 31 ≤ length (now frame) ⌝ }
+    ensures { λ r. ⌜ r ≡ layoutIn (now (frame .entry)) ⌝ }
+{
+    Layout {
+        opts: frame[0],
+        banks: table_in(frame, 1),
+        classes: table_in(frame, 3),
+        regs: table_in(frame, 5),
+        blocks: table_in(frame, 7),
+        values: table_in(frame, 9),
+        vgroups: table_in(frame, 11),
+        operands: table_in(frame, 13),
+        hints: table_in(frame, 15),
+        segments: table_in(frame, 17),
+        uses: table_in(frame, 19),
+    }
+}
+
+// The result tables' numbers of rows.
+fn out_in(frame: &[usize]) -> OutLayout
+    requires { ⌜ 31 ≤ length (now frame) ⌝ }
+    ensures { λ r. ⌜ r ≡ outIn (now (frame .entry)) ⌝ }
+{
+    OutLayout {
+        regs: frame[21],
+        segs: frame[22],
+        uses: frame[23],
+        groups: frame[24],
+    }
+}
+
+// The places of the work slice.
+fn work_in(frame: &[usize]) -> WorkLayout
+    requires { ⌜ 31 ≤ length (now frame) ⌝ }
+    ensures { λ r. ⌜ r ≡ workIn (now (frame .entry)) ⌝ }
+{
+    WorkLayout {
+        heads: frame[25],
+        nexts: frame[26],
+        mapping: frame[27],
+        starts: frame[28],
+        marks: frame[29],
+        turned: frame[30],
+    }
+}
+
+// One step, with the layouts that the numbers stand for.
+fn step_in(
+    job: &[u8],
+    frame: &[usize],
+    out: &mut [u8],
+    work: &mut [u8],
+    set: ValueSet,
+    top: RegClass,
+    sp: SetPart,
+    c: Counts,
+    n: usize,
+) -> Step
+    requires { ⌜ (31 ≤ length (now frame)) × StepReady (wordCount (now job)) (wordCount (now work)) (wordCount (now out)) (wordsOf (now job)) (wordsOf (now work)) (wordsOf (now out)) (layoutIn (now frame)) (outIn (now frame)) (workIn (now frame)) sp c n ⌝ }
+    ensures { λ r. ⌜ Stepped (wordCount (now (job .entry))) (wordCount (now (work .entry))) (wordsOf (now (job .entry))) (wordsOf (now (work .entry))) (wordsOf (now (work .exit))) (layoutIn (now (frame .entry))) (workIn (now (frame .entry))) sp n r ⌝ }
+    ensures { λ r. ⌜ StepsTo (wordsOf (now (job .entry))) (layoutIn (now (frame .entry))) (outIn (now (frame .entry))) (workIn (now (frame .entry))) set top (wordsOf (now (out .entry))) (wordsOf (now (work .entry))) sp c n (wordsOf (now (out .exit))) (wordsOf (now (work .exit))) r ⌝ }
+{
+    let lay = layout_in(frame);
+    let ol = out_in(frame);
+    let wl = work_in(frame);
+    one_step(job, lay, out, ol, work, wl, set, top, sp, c, n)
+}
+
+// A step, and the part behind the cut by the same steps again. A class use less is left each time.
+fn build_behind(
+    job: &[u8],
+    frame: &[usize],
+    out: &mut [u8],
+    work: &mut [u8],
+    set: ValueSet,
+    top: RegClass,
+    sp: SetPart,
+    c: Counts,
+    n: usize,
+) -> StepsEnd
+    requires { ⌜ (31 ≤ length (now frame)) × StepReady (wordCount (now job)) (wordCount (now work)) (wordCount (now out)) (wordsOf (now job)) (wordsOf (now work)) (wordsOf (now out)) (layoutIn (now frame)) (outIn (now frame)) (workIn (now frame)) sp c n ⌝ }
+    ensures { λ r. ⌜ Changed (layoutIn (now (frame .entry))) (workIn (now (frame .entry))) sp n (wordsOf (now (work .entry))) (wordsOf (now (work .exit))) × RowsOk (wordCount (now (work .exit))) (wordsOf (now (work .exit))) (workIn (now (frame .entry)) .turned) (layoutIn (now (frame .entry))) 0 (r .turned) ⌝ }
+    ensures { λ r. ⌜ BuildsTo (wordsOf (now (job .entry))) (layoutIn (now (frame .entry))) (outIn (now (frame .entry))) (workIn (now (frame .entry))) set top (wordsOf (now (out .entry))) (wordsOf (now (work .entry))) sp c n (wordsOf (now (out .exit))) (wordsOf (now (work .exit))) r ⌝ }
+{
+    let s = step_in(job, frame, out, work, set, top, sp, c, n);
+    let counts = s.counts;
+    let turned = s.turned;
+    if !s.go {
+        let end = s.end;
+        return StepsEnd {
+            end,
+            counts,
+            turned,
+        };
+    }
+    let part = s.part;
+    build_behind(job, frame, out, work, set, top, part, counts, turned)
+}
+
 // All steps over a part, behind n turned uses.
 pub fn build_part(
     job: &[u8],
@@ -171,21 +326,6 @@ pub fn build_part(
         → BuiltFit (jobOf (wordsOf (now (job .entry))) lay) ol (wordsOf (now (job .entry))) lay wl (wordsOf (now (out .exit))) (wordsOf (now (work .exit))) r
         (run (jobOf (wordsOf (now (job .entry))) lay) (roomOf ol) set top st (partSegs (wordsOf (now (work .entry))) (wl .marks) (wordsOf (now (job .entry))) lay sp) (turnedRowsOf (wordsOf (now (work .entry))) (wl .turned) (wordsOf (now (job .entry))) lay 0 n))) ⌝ }
 {
-    let mut part = sp;
-    let mut counts = c;
-    let mut turned = n;
-    loop {
-        let s = one_step(job, lay, out, ol, work, wl, set, top, part, counts, turned);
-        counts = s.counts;
-        turned = s.turned;
-        if !s.go {
-            let end = s.end;
-            return StepsEnd {
-                end,
-                counts,
-                turned,
-            };
-        }
-        part = s.part;
-    }
+    let frame = frame_of(lay, ol, wl);
+    build_behind(job, &frame, out, work, set, top, sp, c, n)
 }

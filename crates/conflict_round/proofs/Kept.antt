@@ -7,20 +7,17 @@ use Prim.Native.Nat.{ℕ, _+_, _-_, _*_, _/_, _≤_, _<_}
 use native.Mathlib.Omega.{arith}
 use lib.Dec.{eqb}
 use lib.ListN.{length, getD}
-use lib.Ieee.{binary32, ofBits}
 use Rattle.rows.specs.Tab.{length-tab, tab-more, tab-done, tab-ext}
-use Rattle.rows.specs.RowsAt.{length-rows-at}
 use Rattle.words.specs.Words.{wordCount, wordsOf}
 use Rattle.words.specs.Laws.{length-words}
-use Rattle.definition.specs.declared.BlockData.{BlockData}
 use Rattle.definition.specs.Types.{State, Turned, val}
-use Rattle.function.specs.Blocks.{blockRow, blocksAt, Starts}
 use Rattle.operands.proofs.Rows.{long}
 use Rattle.uses.specs.Rows.{useRow}
 use Rattle.layout.specs.declared.Layout.{Layout}
 use Rattle.virt_regs.specs.declared.OutLayout.{OutLayout}
 use Rattle.work_layout.specs.declared.WorkLayout.{WorkLayout}
 use Rattle.constraints.specs.Ready.{Ready, Stands}
+use Rattle.constraints.proofs.Kept as kept
 use Rattle.conflict_piece.specs.Conflict.{rowUse, turnedRowAt, turnedRowsOf, RowsOk}
 use Rattle.conflict_round.specs.declared.RowWords.{RowWords}
 use Rattle.conflict_round.specs.Rounds.{rowWords, TurnedApart, Elsewhere}
@@ -103,43 +100,11 @@ module _ (turned a b c d : ℕ) (K K′ : List ℕ) (o : Elsewhere turned a b K 
 
 -- ---- what admission reads is as it was
 
-blocks-long : (W : List ℕ) (at n : ℕ) → length (blocksAt W at n) ≡ n
-blocks-long W at n = length-rows-at blockRow W at 2 n
-
 module _ (lay : Layout) (wl : WorkLayout) (a b : ℕ) (K K′ : List ℕ) (o : Elsewhere (wl .turned) a b K K′) (m : TurnedApart lay wl) where
-  starts-kept : (bs : List BlockData) → length bs ≡ lay .blocks .n → Starts K (wl .starts) bs → Starts K′ (wl .starts) bs
-  starts-kept bs e s =
-      record {
-        first = λ j h. o .before (wl .starts + j * 2) (omega (arith, m .starts)) ∙ s .first j h;
-        bits = λ j h. ap (λ (x : ℕ). ofBits binary32 x) (o .before (wl .starts + j * 2 + 1) (omega (arith, m .starts))) ∙ s .bits j h;
-        finite = λ j h. omega (arith, s .finite j h, o .before (wl .starts + j * 2 + 1) (omega (arith, m .starts)));
-        filled = s .filled;
-      }
-
   pub ready-kept : (t w : ℕ) (W : List ℕ) → Ready t w W K lay wl → Ready t w W K′ lay wl
   ready-kept t w W r =
-      record {
-        fits = r .fits;
-        index = r .index;
-        chained =
-            record {
-              head = λ i h. o .before (wl .heads + i) (omega (arith, r .index .apart, m .index)) ∙ r .chained .head i h;
-              next = λ k h. o .before (wl .nexts + k) (omega (arith, m .index, long W (lay .operands .at) (lay .operands .n))) ∙ r .chained .next k h;
-            };
-        under = r .under;
-        single = r .single;
-        grouped = r .grouped;
-        width = r .width;
-        mapping = r .mapping;
-        some-block = r .some-block;
-        few-blocks = r .few-blocks;
-        few-insts = r .few-insts;
-        room = r .room;
-        starts = starts-kept (blocksAt W (lay .blocks .at) (lay .blocks .n)) (blocks-long W (lay .blocks .at) (lay .blocks .n)) (r .starts);
-        marks = r .marks;
-        within = r .within;
-        backed = r .backed;
-      }
+      kept.ready-kept K′ r (λ i h. o .before (wl .heads + i) (omega (arith, r .index .apart, m .index))) (λ i h. o .before (wl .nexts + i) (omega (arith, m .index)))
+      (λ i h. o .before (wl .starts + i) (omega (arith, m .starts)))
 
   pub stands-kept : (ol : OutLayout) (O W : List ℕ) (st : State) → Stands ol O W K lay wl st → Stands ol O W K′ lay wl st
   stands-kept ol O W st s =

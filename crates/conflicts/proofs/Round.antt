@@ -24,11 +24,10 @@ use Rattle.definition.specs.Build as build
 use Rattle.definition.proofs.Admission.{UseFits}
 use Rattle.definition.proofs.Places.{All}
 use Rattle.layout.specs.declared.Layout.{Layout}
-use Rattle.job.specs.Job.{jobBy, jobOf}
+use Rattle.job.specs.Job.{jobOf}
 use Rattle.virt_regs.specs.declared.OutLayout.{OutLayout}
 use Rattle.virt_regs.specs.declared.Counts.{Counts}
 use Rattle.virt_regs.specs.Encoding.{roomOf, countsOf}
-use Rattle.use_costs.specs.Book.{SmallBook}
 use Rattle.vreg_weight.specs.Weighed.{Weighable}
 use Rattle.work_layout.specs.declared.WorkLayout.{WorkLayout}
 use Rattle.constraints.specs.declared.Held.{Held}
@@ -39,6 +38,7 @@ use Rattle.conflict_piece.specs.Conflict.{rowUse, turnedRowsOf, RowsOk, paramBy
 use Rattle.conflict_piece.proofs.Rows.{rows-uses}
 use Rattle.conflict_round.specs.declared.Round.{Round}
 use Rattle.conflict_round.specs.Rounds.{Elsewhere, tryAll, Tried}
+use Rattle.place_laws.specs.Kept.{weighable}
 use Rattle.conflict_round.proofs.Kept.{ready-kept, stands-kept, rows-none, rows-long, rows-now, rows-part}
 use Rattle.place_laws.specs.Held.{HeldFits}
 use Rattle.place_end.specs.declared.Ended.the-variants as ended
@@ -99,11 +99,6 @@ unfolding rowUse
 uses-fit o W lay ol w K turned a b s r =
     subst (λ (us : List Use). All (UseFits (jobOf W lay)) us) (sym (rows-uses K turned W lay a b))
     (all-tab (UseFits (jobOf W lay)) (rowUse K turned W lay) a (b - a) (λ k x y. s .kinds (getD K (turned + k * 4 + 1) 0) (r .known k x (omega arith))))
-
-pub weighable : (job work : List ℕ) (lay : Layout) (wl : WorkLayout) → Ready (wordCount job) (wordCount work) (wordsOf job) (wordsOf work) lay wl → SmallBook (wordsOf job) lay
-    → Weighable job lay work (wl .starts)
-unfolding jobOf jobBy
-weighable job work lay wl r b = record { fits = r .fits; book = b; filled = r .some-block; few = r .few-blocks; room = r .room; table = r .starts }
 
 -- ---- the round on rows
 

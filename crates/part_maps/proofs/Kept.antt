@@ -1,23 +1,20 @@
 -- What stays where only words of the mapping change. Assumes nothing.
-use mathlib.Core.Path.{_≡_, refl, ap, _∙_}
+use mathlib.Core.Path.{_≡_, refl, _∙_}
 use mathlib.Core.Bool.{Bool, true, false, cond}
 use mathlib.Core.List.{List}
-use Prim.Native.Nat.{ℕ, _+_, _-_, _*_, _<_}
+use Prim.Native.Nat.{ℕ, _+_, _*_, _<_}
 use native.Mathlib.Omega.{arith}
 use lib.Dec.{eqb}
 use lib.ListN.{getD}
-use lib.Ieee.{binary32, ofBits}
 use Rattle.definition.specs.declared.Use.{Use}
-use Rattle.definition.specs.declared.BlockData.{BlockData}
 use Rattle.definition.specs.Build.{turnedUse}
-use Rattle.function.specs.Blocks.{blocksAt, Starts}
-use Rattle.operands.proofs.Rows.{long}
 use Rattle.layout.specs.declared.Layout.{Layout}
 use Rattle.uses.specs.Rows.{useRow}
 use Rattle.job.specs.Job.{jobOf}
 use Rattle.set_part.specs.Part.{markedUse}
 use Rattle.work_layout.specs.declared.WorkLayout.{WorkLayout}
 use Rattle.constraints.specs.Ready.{BackedAsk, Backed, Ready}
+use Rattle.constraints.proofs.Kept as kept
 use Rattle.part_maps.specs.Maps.{MapApart, Outside}
 
 pub outside-none : (lay : Layout) (wl : WorkLayout) (K : List ℕ) → Outside lay wl K K
@@ -33,39 +30,11 @@ module _ (lay : Layout) (wl : WorkLayout) (K K′ : List ℕ) (o : Outside lay w
   unfolding markedUse
   marked-kept W n = rw (o .behind (wl .marks + n) (omega (arith, m .marks)))
 
-  starts-kept : (bs : List BlockData) → Starts K (wl .starts) bs → Starts K′ (wl .starts) bs
-  starts-kept bs s =
-      record {
-        first = λ j h. o .behind (wl .starts + j * 2) (omega (arith, m .starts)) ∙ s .first j h;
-        bits = λ j h. ap (λ (x : ℕ). ofBits binary32 x) (o .behind (wl .starts + j * 2 + 1) (omega (arith, m .starts))) ∙ s .bits j h;
-        finite = λ j h. omega (arith, s .finite j h, o .behind (wl .starts + j * 2 + 1) (omega (arith, m .starts)));
-        filled = s .filled;
-      }
-
+  -- the index and the table of block starts are where they were
   pub ready-kept : (t w : ℕ) (W : List ℕ) → Ready t w W K lay wl → Ready t w W K′ lay wl
   ready-kept t w W r =
-      record {
-        fits = r .fits;
-        index = r .index;
-        chained =
-            record {
-              head = λ i h. o .before (wl .heads + i) (omega (arith, r .index .apart, m .index)) ∙ r .chained .head i h;
-              next = λ k h. o .before (wl .nexts + k) (omega (arith, m .index, long W (lay .operands .at) (lay .operands .n))) ∙ r .chained .next k h;
-            };
-        under = r .under;
-        single = r .single;
-        grouped = r .grouped;
-        width = r .width;
-        mapping = r .mapping;
-        some-block = r .some-block;
-        few-blocks = r .few-blocks;
-        few-insts = r .few-insts;
-        room = r .room;
-        starts = starts-kept (blocksAt W (lay .blocks .at) (lay .blocks .n)) (r .starts);
-        marks = r .marks;
-        within = r .within;
-        backed = r .backed;
-      }
+      kept.ready-kept K′ r (λ i h. o .before (wl .heads + i) (omega (arith, r .index .apart, m .index))) (λ i h. o .before (wl .nexts + i) (omega (arith, m .index)))
+      (λ i h. o .behind (wl .starts + i) (omega (arith, m .starts)))
 
 -- a turned use needs no operand
 pub backed-marked : (t w : ℕ) (W K : List ℕ) (lay : Layout) (wl : WorkLayout) (n : ℕ) (u : Use) → Ready t w W K lay wl → 0 < lay .segments .n → n < lay .uses .n → u ≡ markedUse K (wl .marks) W lay n

@@ -88,9 +88,6 @@ InRegister J g v st = (g .0 < length (st .groups)) × (v .0 < length (st .regist
 abbrev pub HeldIn : Job → Held → State → Type 0
 HeldIn J h st = HeldFits J st h × Sane J st
 
-pub ends-by : (J : Job) (ol : OutLayout) (W : List ℕ) (lay : Layout) (wl : WorkLayout) (K₀ O K : List ℕ) (r : PlaceEnd) (o o′ : Out State) → o ≡ o′ → Ends J ol W lay wl K₀ O K r o → Ends J ol W lay wl K₀ O K r o′
-ends-by J ol W lay wl K₀ O K r o o′ e x = subst (λ (y : Out State). Ends J ol W lay wl K₀ O K r y) e x
-
 pub asks-more : (t w n : ℕ) (W K O : List ℕ) (lay : Layout) (wl : WorkLayout) (ol : OutLayout) (a b : ℕ) (p : Inst) (c : Counts) (F G : State → Type 0) → ((st : State) → F st → G st)
     → Asks t w n W K O lay wl ol a b p c F → Asks t w n W K O lay wl ol a b p c G
 asks-more t w n W K O lay wl ol a b p c F G f k =

@@ -1,5 +1,5 @@
 -- What placing leaves behind, by the definition's answer. Assumes nothing.
-use mathlib.Core.Path.{_≡_}
+use mathlib.Core.Path.{_≡_, subst}
 use mathlib.Core.Bool.{Bool, true, false}
 use mathlib.Core.Option.{Option, none, some}
 use mathlib.Core.List.{List, [], _∷_, _++_}
@@ -62,6 +62,9 @@ Answers J ol W lay wl O K r (refused f) = endOf f (r .end)
 pub record Ends (J : Job) (ol : OutLayout) (W : List ℕ) (lay : Layout) (wl : WorkLayout) (K₀ O K : List ℕ) (r : PlaceEnd) (o : Out State) : Type 0 where
   pub outside : Outside lay wl K₀ K
   pub answers : Answers J ol W lay wl O K r o
+
+pub ends-by : (J : Job) (ol : OutLayout) (W : List ℕ) (lay : Layout) (wl : WorkLayout) (K₀ O K : List ℕ) (r : PlaceEnd) (o o′ : Out State) → o ≡ o′ → Ends J ol W lay wl K₀ O K r o → Ends J ol W lay wl K₀ O K r o′
+ends-by J ol W lay wl K₀ O K r o o′ e x = subst (λ (y : Out State). Ends J ol W lay wl K₀ O K r y) e x
 
 -- ---- the answers
 

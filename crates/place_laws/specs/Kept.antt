@@ -8,7 +8,14 @@ use Rattle.layout.specs.declared.Layout.{Layout}
 use Rattle.job.specs.Job.{jobBy, jobOf}
 use Rattle.work_layout.specs.declared.WorkLayout.{WorkLayout}
 use Rattle.constraints.specs.Ready.{Ready}
+use Rattle.use_costs.specs.Book.{SmallBook}
 use Rattle.vreg_weight.specs.Weighed.{Weighable}
+
+-- an accepted job with its work slice can be weighed
+pub weighable : (job work : List ℕ) (lay : Layout) (wl : WorkLayout) → Ready (wordCount job) (wordCount work) (wordsOf job) (wordsOf work) lay wl → SmallBook (wordsOf job) lay
+    → Weighable job lay work (wl .starts)
+unfolding jobOf jobBy
+weighable job work lay wl r b = record { fits = r .fits; book = b; filled = r .some-block; few = r .few-blocks; room = r .room; table = r .starts }
 
 pub weighable-kept : (t w : ℕ) (job work work₁ : List ℕ) (lay : Layout) (wl : WorkLayout) → Weighable job lay work (wl .starts) → Ready t w (wordsOf job) (wordsOf work₁) lay wl → wordCount work₁ ≡ wordCount work
     → Weighable job lay work₁ (wl .starts)

@@ -21,7 +21,7 @@ use Rattle.definition.specs.Build.{asOwn}
 use Rattle.definition.specs.Weights.{weightOf}
 use Rattle.definition.specs.Place.{usesOf, segsOf, usesOfPieces, hasRoom, gate, made, alone, aloneState}
 use Rattle.layout.specs.declared.Layout.{Layout}
-use Rattle.job.specs.Job.{jobBy, jobOf}
+use Rattle.job.specs.Job.{jobOf}
 use Rattle.set_part.specs.declared.SetPart.{SetPart}
 use Rattle.set_part.specs.Part.{PartOk, partSegs}
 use Rattle.virt_regs.specs.declared.OutLayout.{OutLayout}
@@ -30,9 +30,7 @@ use Rattle.virt_regs.specs.Each.{Each, each-weaker}
 use Rattle.virt_regs.specs.Encoding.{roomOf, countsOf, TypedKind, Typed, Holds}
 use Rattle.vreg_put.specs.Written.{Written}
 use Rattle.vreg_weight.specs.Typed.{TypedUse}
-use Rattle.vreg_weight.specs.Weighed.{Weighable}
 use Rattle.vreg_weight.specs.Fair.{Fair, fair-insts, fair-typed, fair-inside}
-use Rattle.use_costs.specs.Book.{SmallBook}
 use Rattle.constraints.specs.declared.Held.{Held}
 use Rattle.work_layout.specs.declared.WorkLayout.{WorkLayout}
 use Rattle.constraints.specs.Held.{heldOf}
@@ -58,11 +56,6 @@ not-false true e = refl
 not-false false e = absurd (let z : _≡_ {A = ℕ} 0 1 = cc in omega arith)
 
 -- ---- what the callees ask
-
-pub weighable : (job work : List ℕ) (lay : Layout) (wl : WorkLayout) → constraints.Ready (wordCount job) (wordCount work) (wordsOf job) (wordsOf work) lay wl → SmallBook (wordsOf job) lay
-    → Weighable job lay work (wl .starts)
-unfolding jobOf jobBy
-weighable job work lay wl r b = record { fits = r .fits; book = b; filled = r .some-block; few = r .few-blocks; room = r .room; table = r .starts }
 
 kind-typed : (k : UseKind) (p : Inst) → TypedUse (record { pos = p; kind = k }) → TypedKind k
 unfolding TypedKind TypedUse

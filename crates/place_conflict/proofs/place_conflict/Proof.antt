@@ -2,7 +2,8 @@ use mathlib.Core.Path.{refl}
 use borrow.Author.Tests.{not-true, not-false}
 use Rattle.constraints.specs.Held.{heldOf}
 use Rattle.place_laws.specs.Held.{groupHeld, group-some, reg-some, way-alone, way-lead, way-join, way-merge, class-held}
-use Rattle.place_conflict.specs.Asks.{asks-more, ends-by}
+use Rattle.place_end.specs.Ends.{ends-by}
+use Rattle.place_conflict.specs.Asks.{asks-more}
 use borrow.Author.Needs.{needs}
 use Rattle.place_conflict.proofs.place_conflict.Statement.{statement}
 use Rattle.place_conflict.proofs.place_conflict.Tie as tie

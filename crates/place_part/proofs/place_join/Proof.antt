@@ -2,7 +2,8 @@ use mathlib.Core.Path.{refl, sym, _∙_}
 use native.Mathlib.Omega.{arith}
 use Rattle.set_part.proofs.Bounds.{first-le-end}
 use Rattle.place.specs.Laws.{spreadable-written}
-use Rattle.place_part.proofs.Parts.{not-true, not-false, weighable, part-ready, said-at, asked-write, asked-space, held-class}
+use Rattle.place_laws.specs.Kept.{weighable}
+use Rattle.place_part.proofs.Parts.{not-true, not-false, part-ready, said-at, asked-write, asked-space, held-class}
 use Rattle.place_part.proofs.Groups.{asked-index, asked-group, join-full, join-done}
 use borrow.Author.Needs.{needs}
 use Rattle.place_part.proofs.place_join.Statement.{statement}

@@ -1,6 +1,6 @@
 use Rattle.place_part.proofs.Parts.{not-true, not-false}
 use Rattle.place_laws.specs.Held.{group-some, reg-some, way-alone, way-lead, way-join, way-merge}
-use Rattle.place_part.proofs.Ways.{ends-by}
+use Rattle.place_end.specs.Ends.{ends-by}
 use borrow.Author.Needs.{needs}
 use Rattle.place_part.proofs.place_part.Statement.{statement}
 use Rattle.place_part.proofs.place_part.Tie as tie

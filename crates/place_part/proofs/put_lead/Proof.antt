@@ -1,7 +1,8 @@
 use mathlib.Core.Path.{refl, sym, _∙_}
 use native.Mathlib.Omega.{arith}
 use Rattle.set_part.proofs.Bounds.{first-le-end}
-use Rattle.place_part.proofs.Parts.{not-true, not-false, weighable, part-ready, said-at, asked-write, asked-space, asked-room, held-class}
+use Rattle.place_laws.specs.Kept.{weighable}
+use Rattle.place_part.proofs.Parts.{not-true, not-false, part-ready, said-at, asked-write, asked-space, asked-room, held-class}
 use Rattle.place_part.proofs.Groups.{asked-index, asked-groups, room-full, room-done}
 use borrow.Author.Needs.{needs}
 use Rattle.place_part.proofs.put_lead.Statement.{statement}

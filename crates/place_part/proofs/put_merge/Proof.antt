@@ -2,7 +2,8 @@ use mathlib.Core.Path.{refl}
 use native.Mathlib.Omega.{arith}
 use Rattle.set_part.proofs.Bounds.{first-le-end}
 use Rattle.place.specs.Laws.{filled-asks}
-use Rattle.place_part.proofs.Parts.{not-true, not-false, weighable, said-at, asked-room, held-class}
+use Rattle.place_laws.specs.Kept.{weighable}
+use Rattle.place_part.proofs.Parts.{not-true, not-false, said-at, asked-room, held-class}
 use Rattle.place_part.proofs.Groups.{room-full, room-done}
 use Rattle.place_part.proofs.Merges.{placed-before, gap-asks, gap-room, part-filled}
 use borrow.Author.Needs.{needs}
