@@ -25,6 +25,22 @@ fn agreed(t: Tally) -> Tally
     }
 }
 
+// Says which sample it is.
+fn differed(t: Tally) -> Tally
+    requires { ⌜ t .agree + t .differ + t .alone < 2 ^ 63 ⌝ }
+    ensures { λ r. ⌜ r .agree + r .differ + r .alone ≡ t .agree + t .differ + t .alone + 1 ⌝ }
+{
+    let number = t.agree + t.differ + 1;
+    io::write_all(1, b"sample ");
+    io::print_decimal(1, number as u64);
+    io::write_all(1, b" differs\n");
+    Tally {
+        agree: t.agree,
+        differ: t.differ + 1,
+        alone: t.alone,
+    }
+}
+
 fn left_alone(t: Tally) -> Tally
     requires { ⌜ t .agree + t .differ + t .alone < 2 ^ 63 ⌝ }
     ensures { λ r. ⌜ r .agree + r .differ + r .alone ≡ t .agree + t .differ + t .alone + 1 ⌝ }
@@ -36,13 +52,44 @@ fn left_alone(t: Tally) -> Tally
     }
 }
 
+// Whether the answer of a sample is what its sheet is answered.
+fn agrees(
+    doc: &[u8],
+    s: Sample,
+    buf: &mut [u8; 4096],
+    table: &mut [u8; 174680],
+    out: &mut [u8; 460800],
+    work: &mut [u8; 110600],
+) -> bool
+    requires { ⌜ Inside s (length (now doc)) ⌝ }
+{
+    let job = s.job;
+    let from = job.from;
+    let to = job.to;
+    let answer = s.answer;
+    let start = answer.from;
+    let end = answer.to;
+    sheet_replay::is_answer(&doc[from..to], &doc[start..end], buf, table, out, work)
+}
+
 // One more block.
-fn count(doc: &[u8], s: Sample, t: Tally) -> Tally
+fn count(
+    doc: &[u8],
+    s: Sample,
+    t: Tally,
+    buf: &mut [u8; 4096],
+    table: &mut [u8; 174680],
+    out: &mut [u8; 460800],
+    work: &mut [u8; 110600],
+) -> Tally
     requires { ⌜ Inside s (length (now doc)) × (t .agree + t .differ + t .alone < 2 ^ 63) ⌝ }
     ensures { λ r. ⌜ r .agree + r .differ + r .alone ≤ t .agree + t .differ + t .alone + 1 ⌝ }
 {
     if s.paired {
-        return agreed(t);
+        if agrees(doc, s, buf, table, out, work) {
+            return agreed(t);
+        }
+        return differed(t);
     }
     if s.alone {
         return left_alone(t);
@@ -51,7 +98,13 @@ fn count(doc: &[u8], s: Sample, t: Tally) -> Tally
 }
 
 // All blocks of the document.
-fn count_all(doc: &[u8]) -> Tally
+fn count_all(
+    doc: &[u8],
+    buf: &mut [u8; 4096],
+    table: &mut [u8; 174680],
+    out: &mut [u8; 460800],
+    work: &mut [u8; 110600],
+) -> Tally
     requires { ⌜ length (now doc) < 2 ^ 62 ⌝ }
 {
     let mut t = Tally {
@@ -62,7 +115,7 @@ fn count_all(doc: &[u8]) -> Tally
     let mut at = document::next_fence(doc, 0);
     while at < doc.len() {
         let s = document::sample_at(doc, at);
-        t = count(doc, s, t);
+        t = count(doc, s, t, buf, table, out, work);
         at = document::next_fence(doc, s.next);
     }
     t
@@ -70,20 +123,30 @@ fn count_all(doc: &[u8]) -> Tally
 
 fn show(t: Tally) {
     io::print_decimal(1, t.agree as u64);
-    io::write_all(1, b" samples found, ");
+    io::write_all(1, b" samples agree, ");
     io::print_decimal(1, t.differ as u64);
     io::write_all(1, b" differ, ");
     io::print_decimal(1, t.alone as u64);
     io::write_all(1, b" blocks have no partner\n");
 }
 
+fn run(doc: &[u8])
+    requires { ⌜ length (now doc) < 2 ^ 62 ⌝ }
+{
+    let mut buf = [0u8; 4096];
+    let mut table = [0u8; 174680];
+    let mut out = [0u8; 460800];
+    let mut work = [0u8; 110600];
+    show(count_all(doc, &mut buf, &mut table, &mut out, &mut work));
+}
+
 fn main() {
     let fd = os::open_read(b"SHEETS.md");
-    let mut buf = io::large_buffer();
-    let n = io::read_full(fd, &mut buf);
+    let mut text = io::large_buffer();
+    let n = io::read_full(fd, &mut text);
     if n == 65536 {
         io::write_all(1, b"the document is too long\n");
         return;
     }
-    show(count_all(&buf[..n]));
+    run(&text[..n]);
 }
