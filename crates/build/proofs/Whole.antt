@@ -1,8 +1,8 @@
 -- The tables as a part of the caller's slice, and a binary job's answer. Assumes nothing.
 use mathlib.Core.Path.{_≡_, refl, sym, ap, _∙_, subst}
-use mathlib.Core.Bool.{Bool, true, false, not}
-use mathlib.Core.List.{List, [], _++_, append-assoc}
-use Prim.Native.Nat.{ℕ, _+_, _-_, _*_, _/_, _≤_, _<_}
+use mathlib.Core.Bool.{true, false, not}
+use mathlib.Core.List.{List, _++_, append-assoc}
+use Prim.Native.Nat.{ℕ, _+_, _-_, _*_, _/_, _≤_}
 use native.Mathlib.Omega.{arith}
 use lib.ListN.{length, take, drop, replicate, replicate-append-replicate, length-append, length-replicate}
 use lib.Seq.{length-take-le}
@@ -13,7 +13,6 @@ use Rattle.definition.specs.declared.Refusal.the-variants.{NotARecord}
 use Rattle.definition.specs.Types.{Out, done, refused}
 use Rattle.definition.specs.Build.{Result}
 use Rattle.definition.specs.Entry.{answer}
-use Rattle.layout.specs.declared.Layout.{Layout}
 use Rattle.job.specs.Job.{rawJob}
 use Rattle.job_shape.specs.declared.Shape.{Shape}
 use Rattle.job_shape.specs.Shape.{layoutOf, shapeOk, Shaped, Formed}

@@ -19,6 +19,8 @@ use virt_regs::Counts;
 use virt_regs::OutLayout;
 use work_layout::WorkLayout;
 ghost use mathlib.Core.Path.{_≡_};
+ghost use Prim.Native.Nat.{ℕ, _+_, _≤_, _<_};
+ghost use lib.ListN.{length};
 ghost use Rattle.words.specs.Words.{wordCount, wordsOf};
 ghost use Rattle.definition.specs.Types.{State};
 ghost use Rattle.definition.specs.Admit.{cut};
@@ -31,8 +33,6 @@ ghost use Rattle.build_state.specs.Builds.{Builds};
 ghost use Rattle.build_state.specs.Fits.{StandsAs};
 ghost use Rattle.steps.specs.Laid.{Laid};
 ghost use Rattle.steps.specs.Built.{Changed};
-ghost use Prim.Native.Nat.{ℕ, _+_, _≤_, _<_};
-ghost use lib.ListN.{length};
 ghost use Rattle.build_part.specs.Frame.{tableIn, layoutIn, outIn, workIn, framed};
 ghost use Rattle.build_part.specs.Steps.{overStep, onStep, BuiltFit, BuildsTo, StepReady, Moves, Stepped, StepTo, StepsTo};
 
@@ -274,7 +274,7 @@ fn step_in(
     one_step(job, lay, out, ol, work, wl, set, top, sp, c, n)
 }
 
-// A step, and the part behind the cut by the same steps again. A class use less is left each time.
+// A step, and the part behind the cut by the same steps again: each time fewer class uses are left.
 fn build_behind(
     job: &[u8],
     frame: &[usize],

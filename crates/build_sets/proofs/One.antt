@@ -1,11 +1,11 @@
 -- One set: its part laid out, the steps over it, and the conflict registers. Assumes nothing.
 use mathlib.Core.Path.{_≡_, refl, sym, ap, _∙_, subst}
-use mathlib.Core.List.{List, [], _∷_}
-use Prim.Native.Nat.{ℕ, _+_, _-_, _*_, _/_, _≤_, _<_}
+use mathlib.Core.List.{List, []}
+use Prim.Native.Nat.{ℕ, _-_, _<_}
 use native.Mathlib.Omega.{arith}
 use Rattle.definition.specs.declared.RegClass.{RegClass}
 use Rattle.definition.specs.declared.ValueSet.{ValueSet}
-use Rattle.definition.specs.Types.{Job, Segment, State, Turned, Out, done, refused}
+use Rattle.definition.specs.Types.{Job, State, Turned, Out, done, refused}
 use Rattle.definition.specs.RegInfo.{setOf, topOf}
 use Rattle.definition.specs.Place.{_>>=_}
 use Rattle.definition.specs.Build.{Built, conflicts, runs, sameInst, buildSet}

@@ -1,8 +1,7 @@
-use denote.Ref.{now}
-use mathlib.Core.Path.{_≡_, refl, sym, ap, _∙_}
+use mathlib.Core.Path.{refl, ap, _∙_}
 use Prim.Native.Nat.{ℕ}
 use native.Mathlib.Omega.{arith}
-use lib.ListN.{length, replicate}
+use lib.ListN.{replicate}
 use borrow.Author.Needs.{needs}
 use Rattle.build.proofs.Shaped.{answered-as, entered, refused-entry, sets-ready, built-counts, answered-built, answered-ended}
 use Rattle.build.proofs.build_shaped.Statement.{statement}

@@ -1,7 +1,5 @@
-use denote.Ref.{now}
-use mathlib.Core.Path.{_≡_, refl, sym, ap, _∙_}
+use mathlib.Core.Path.{sym, ap}
 use Prim.Native.Nat.{ℕ, _/_}
-use native.Mathlib.Omega.{arith}
 use borrow.Author.Needs.{needs}
 use Rattle.steps.proofs.Ways.{done-is, done-not}
 use Rattle.build_sets.proofs.One.{set-laid, set-stop, set-turns, set-done}
