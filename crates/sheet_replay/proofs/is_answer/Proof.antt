@@ -1,0 +1,46 @@
+use mathlib.Core.Path.{_≡_}
+use Prim.Native.Nat.{ℕ, _<_}
+use native.Mathlib.Omega.{arith}
+use lib.ListN.{getD}
+use denote.Ref.{now}
+use Rattle.sheet_replay.proofs.Comparing.{fed-once, streamed-once, prints-fed, is-vregs}
+use borrow.Author.Needs.{needs}
+use Rattle.sheet_replay.proofs.is_answer.Statement.{statement}
+use Rattle.sheet_replay.proofs.is_answer.Tie as tie
+
+answer-table-requires : tie.Need-answer-table-requires
+answer-table-requires c κs =
+    let p = c .before .before .before .before .before .before .before .before .before .before .before .before .before .before .before .before .before .pre in
+    let s = c .before .before .before .before .before .before .before .before .before .before .before .before .before .before .before .before .before .args .sheet in
+    let b : (i : ℕ) → getD (now s) i 0 < 256 = λ i. omega (arith, c .before .before .before .before .before .before .before .before .before .before .before .before .before .before .before .before .shared-slice-known .given i) in
+    let o = c .before .before .before .before .before .before .before .before .before .«open» in
+    let f = c .before .before .before .before .before .feed in
+    (streamed-once _ _ b (fed-once _ _ _ _ (p .1) (o .ensures) (f .ensures)), omega (arith, p .1, o .kept, f .kept), search needs, search needs)
+
+same-sheet-requires : tie.Need-same-sheet-requires
+same-sheet-requires c κs =
+    let p = c .before .before .before .before .before .before .before .before .before .before .before .before .before .before .before .before .before .before .before .before .before .before .before .before .pre in
+    let s = c .before .before .before .before .before .before .before .before .before .before .before .before .before .before .before .before .before .before .before .before .before .before .before .before .args .sheet in
+    let b : (i : ℕ) → getD (now s) i 0 < 256 = λ i. omega (arith, c .before .before .before .before .before .before .before .before .before .before .before .before .before .before .before .before .before .before .before .before .before .before .before .shared-slice-known .given i) in
+    (prints-fed _ _ _ _ _ _ b (fed-once _ _ _ _ (p .1) (c .before .before .before .before .before .before .before .before .before .before .before .before .before .before .before .before .«open» .ensures) (c .before .before .before .before .before .before .before .before .before .before .before .before .feed .ensures)) (c .before .before .before .before .before .before .answer-table .ensures), search needs)
+
+returns : tie.Need-returns
+returns c e =
+    let p = c .before .before .before .before .before .before .before .before .before .before .before .before .before .before .before .before .before .before .before .before .before .before .before .before .before .before .before .pre in
+    let s = c .before .before .before .before .before .before .before .before .before .before .before .before .before .before .before .before .before .before .before .before .before .before .before .before .before .before .before .args .sheet in
+    let b : (i : ℕ) → getD (now s) i 0 < 256 = λ i. omega (arith, c .before .before .before .before .before .before .before .before .before .before .before .before .before .before .before .before .before .before .before .before .before .before .before .before .before .before .shared-slice-known .given i) in
+    is-vregs _ _ _ _ _ _ b (fed-once _ _ _ _ (p .1) (c .before .before .before .before .before .before .before .before .before .before .before .before .before .before .before .before .before .before .before .«open» .ensures) (c .before .before .before .before .before .before .before .before .before .before .before .before .before .before .before .feed .ensures)) (c .before .before .before .before .before .before .before .before .before .answer-table .ensures) _ (c .before .before .same-sheet .ensures e)
+
+pub is-answer-spec : {M : Type 1} → statement M
+is-answer-spec =
+    tie.close
+    (tie.spec
+    (λ c κs. search needs)
+    (λ c κs. search needs)
+    answer-table-requires
+    same-sheet-requires
+    (λ c. search needs)
+    (λ c. search needs)
+    (λ c. search needs)
+    (λ c. search needs)
+    returns)
