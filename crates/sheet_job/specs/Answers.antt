@@ -35,7 +35,7 @@ use Rattle.sheet_job.specs.Jobs.{Alike, table-job}
 
 -- ---- a test that fails
 
-conj-at : (bs : List Bool) (i : ℕ) → getD bs i true ≡ false → conj bs ≡ false
+pub conj-at : (bs : List Bool) (i : ℕ) → getD bs i true ≡ false → conj bs ≡ false
 unfolding conj
 conj-at [] i e = absurd (false≢true (sym e))
 conj-at (b ∷ bs) zero e = rw e
@@ -297,7 +297,8 @@ full n e rs s v =
     let c : Crowded (replicate n 0) rs = fill-over rs (blank n) l refl v in
     over-limits rs (s .order) (c .word) (c .low) (c .high) (omega (arith, c .more, zero-count n e (wordNumber (c .word))))
 
-said : (n : ℕ) → n ≡ tableWords → (room : Room) (a : Answer) (o : List ℕ) (m : Option (List Record)) → On Sound m → outcome a o ≡ (m >>= λ rs. some (fill (blank n) rs))
+-- by what the reader says and the records of the sheet, if it is one
+pub said : (n : ℕ) → n ≡ tableWords → (room : Room) (a : Answer) (o : List ℕ) (m : Option (List Record)) → On Sound m → outcome a o ≡ (m >>= λ rs. some (fill (blank n) rs))
     → answered a o room ≡ answerOrOne (m >>= λ rs. some (jobOf rs)) room
 said n e room Malformed o none s q = refl
 said n e room Malformed o (some rs) s q = absurd (none-some q)
