@@ -2,12 +2,10 @@
 use mathlib.Core.Path.{_≡_, sym, ap, _∙_}
 use mathlib.Core.List.{List, [], _∷_, _++_, append-assoc}
 use mathlib.Core.Option.{Option, none, some}
-use Prim.Native.Nat.{ℕ, suc, _+_, _*_, _<_}
+use Prim.Native.Nat.{ℕ, suc, _+_, _<_}
 use native.Mathlib.Omega.{arith}
 use lib.ListN.{getD}
-use lib.Dec.{T}
-use lib.Ieee.{binary32, fits, top, toBits}
-use lib.Ieee.Bits.{toBits-lt}
+use lib.Ieee.{binary32, toBits}
 use Rattle.definition.specs.declared.Use.{Use}
 use Rattle.definition.specs.declared.VirtReg.{VirtReg}
 use Rattle.definition.specs.Types.{Piece, Register, Out, done, refused, numberOf}
@@ -18,10 +16,10 @@ use Rattle.definition.specs.RegisterSheet.{lineBytes, linesBytes, registerSheet
 use Rattle.printed.specs.Clean.{clean-decimal, body, tabbed-body, feed-line, fields-back, lines-back}
 use Rattle.printed.specs.Unprint.{Words, one-sheet, number, number-back}
 
--- the weights of a result are f32 values
+-- the weights of a result are words
 abbrev pub Weighed : List Register → Type 0
 Weighed [] = Unit {0}
-Weighed (r ∷ rs) = T (fits binary32 (r .weight)) × Weighed rs
+Weighed (r ∷ rs) = (toBits binary32 (r .weight) < 4294967296) × Weighed rs
 
 words-append : (ls ms : List Line) → Words ls → Words ms → Words (ls ++ ms)
 words-append [] ms a b = b
@@ -40,9 +38,7 @@ words-segs (p ∷ ps) = (tt, words-append (useLines (p .seg .uses)) (segLines ps
 words-vregs : (n : ℕ) (rs : List Register) → Weighed rs → Words (vregLines n rs)
 unfolding vregLines
 words-vregs n [] w = tt
-words-vregs n (r ∷ rs) w =
-    let b : toBits binary32 (r .weight) < 2 * top binary32 = toBits-lt binary32 (r .weight) (w .0) in
-    (omega (arith, b), words-append (segLines (r .pieces)) (vregLines (suc n) rs) (words-segs (r .pieces)) (words-vregs (suc n) rs (w .1)))
+words-vregs n (r ∷ rs) w = (w .0, words-append (segLines (r .pieces)) (vregLines (suc n) rs) (words-segs (r .pieces)) (words-vregs (suc n) rs (w .1)))
 
 words-groups : (n : ℕ) (gs : List (List (Option VirtReg))) → Words (groupLines n gs)
 unfolding groupLines
