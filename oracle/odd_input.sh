@@ -34,7 +34,7 @@ if [ -x "$gen" ]; then
     job=$(mktemp)
     for seed in 1 2 3 4 5; do
         "$gen" limits $seed >"$job"
-        expect "limits $seed on a stack of 2 MB" "$($vregs <"$job" | cksum)" "$( (ulimit -s 2048; $vregs <"$job") | cksum)"
+        expect "limits $seed on a stack of 8 MB" "$(oracle/target/release/oracle <"$job" | cksum)" "$( (ulimit -s 8192; $vregs <"$job") | cksum)"
     done
     rm -f "$job"
 fi
