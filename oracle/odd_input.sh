@@ -1,5 +1,5 @@
 #!/usr/bin/env bash
-# odd_input.sh: inputs that no generator makes, given to the program `vregs` (built by `rt check vregs`), each answer beside the expected one.
+# odd_input.sh: inputs that no generator makes, given to the program `vregs` (built by `rt check vregs`), each answer, and the expected one where that is another.
 set -u
 cd "$(dirname "$0")/.."
 vregs=target/bin/vregs
