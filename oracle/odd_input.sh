@@ -1,16 +1,49 @@
 #!/usr/bin/env bash
-# odd_input.sh: inputs that no generator makes, given to the program `vregs` (built by `rt check vregs`), each answer, and the expected one where that is another.
+# odd_input.sh [PROGRAM]: the program `vregs` (built by `rt check vregs`) under inputs that no generator makes and under faults of its
+# standard streams. A line for each: what was tried; what stood on standard output (the whole answer, its first bytes, or none) and how
+# many bytes; the status; standard error. A line that is not as expected begins with DIFFERS, and the exit status is then 1.
+# The faults need gcc; a tmpfs of 64 KB needs the right to mount one, and the line says so where it was not tried.
 set -u
+ulimit -Ss 8192 # the usual stack
 cd "$(dirname "$0")/.."
-vregs=target/bin/vregs
+vregs=$(readlink -f "${1:-target/bin/vregs}")
+[ -x "$vregs" ] || { echo "odd_input.sh: no program $vregs; 'rt check vregs' makes it" >&2; exit 2; }
 sample=docs/samples/A.job
-status=0
-expect() { # NAME EXPECTED ANSWER
-    if [ "$2" = "$3" ]; then echo "$1: $3"; else
-        echo "$1: $3, expected $2"
-        status=1
-    fi
+job=crates/vregs/stdin
+answer=crates/vregs/stdout
+d=$(mktemp -d)
+trap 'umount "$d/small" 2>/dev/null; rm -rf "$d"' EXIT
+bad=0
+
+# The rule of docs/SHEETS.md: whole exactly if the last byte is a line feed and the last line begins with end or refused.
+is_whole() { [ -z "$(tail -c 1 "$1")" ] && tail -n 1 "$1" | grep -qE '^(end|refused)'; }
+
+kind_of() { # OUTPUT EXPECTED-ANSWER
+    if cmp -s "$1" "$2"; then echo whole
+    elif [ ! -s "$1" ]; then echo none
+    elif cmp -s -n "$(stat -c %s "$1")" "$1" "$2"; then echo first
+    else echo other; fi
 }
+
+# What was tried, what is expected of standard output (whole, first, none) and of standard error (a pattern; empty: nothing). $st is the status.
+tell() { # NAME KIND PATTERN [ANSWER]
+    local want=${4:-$answer} kind said verdict="" rule=cut
+    kind=$(kind_of "$d/out" "$want")
+    said=$(tr '\n' '|' <"$d/err")
+    is_whole "$d/out" && rule=whole
+    [ "$kind" = "$2" ] || verdict="DIFFERS (expected $2): "
+    [ "$kind" = whole ] && [ $rule = cut ] && verdict="DIFFERS (the rule says cut): "
+    [ "$kind" != whole ] && [ $rule = whole ] && verdict="DIFFERS (the rule says whole): "
+    if [ -z "$3" ]; then [ -z "$said" ] || verdict="DIFFERS (said something): "
+    else printf '%s' "$said" | grep -qE "$3" || verdict="DIFFERS (expected to say $3): "; fi
+    [ -z "$verdict" ] || bad=1
+    printf '%s%s: %s, %s bytes; status %s; said: %s\n' "$verdict" "$1" "$kind" "$(stat -c %s "$d/out")" "$st" "${said:-nothing}"
+}
+fresh() { : >"$d/out"; : >"$d/err"; }
+refusal() { printf 'refused\t%s\n' "$1" >"$d/want"; }
+
+# --- inputs
+
 # the sample with a vgroup line of $1 members before its first segment
 long_group() {
     sed '/^seg/,$d' $sample
@@ -19,23 +52,93 @@ long_group() {
     printf '\n'
     sed -n '/^seg/,$p' $sample
 }
-one=$(printf 'refused\t1')
-four=$(printf 'refused\t4')
-expect "no byte" "$one" "$($vregs </dev/null)"
-expect "300 MB of noise" "$one" "$(head -c 300000000 /dev/urandom | $vregs)"
-expect "400 MB of zeros" "$one" "$(head -c 400000000 /dev/zero | $vregs)"
-expect "one line of 500 MB" "$one" "$(yes aaaaaaaaaaaaaaa | tr -d '\n' | head -c 500000000 | $vregs)"
-expect "a vgroup of 20,000,000 members" "$four" "$(long_group 20000000 | $vregs)"
-expect "the same with a bad last line" "$one" "$( (long_group 20000000; echo x) | $vregs)"
-expect "a slow writer" "$(cat docs/samples/A.out)" "$(while IFS= read -r line; do printf '%s' "$line"; sleep 0.05; printf '\n'; done <$sample | $vregs)"
-expect "an output that closes" "vreg" "$($vregs <$sample | head -c 4)"
+feed() { # NAME ANSWER-FILE: what comes on standard input
+    fresh
+    "$vregs" >"$d/out" 2>"$d/err"
+    st=$?
+    tell "$1" whole "" "$2"
+}
+refusal 1
+feed "no byte" "$d/want" </dev/null
+feed "300 MB of noise" "$d/want" < <(head -c 300000000 /dev/urandom)
+feed "400 MB of zeros" "$d/want" < <(head -c 400000000 /dev/zero)
+feed "one line of 500 MB" "$d/want" < <(yes aaaaaaaaaaaaaaa | tr -d '\n' | head -c 500000000)
+feed "a vgroup of 20,000,000 members and a bad last line" "$d/want" < <(long_group 20000000; echo x)
+refusal 4
+feed "a vgroup of 20,000,000 members" "$d/want" < <(long_group 20000000)
+feed "a slow writer, a pause in every line" docs/samples/A.out \
+    < <(while IFS= read -r line; do printf '%s' "$line"; sleep 0.05; printf '\n'; done <$sample)
+feed "a file of 131,076 bytes" $answer <$job
+feed "the same by a pipe" $answer < <(cat $job)
+feed "the same by a pipe, in writes of many sizes" $answer \
+    < <(at=0 n=1; while [ $at -lt 131076 ]; do tail -c +$((at + 1)) $job | head -c $n; at=$((at + n)); n=$(((n * 7 + 3) % 9001 + 1)); done)
 gen=${CARGO_TARGET_DIR:-oracle/target}/release/gen
 if [ -x "$gen" ]; then
-    job=$(mktemp)
     for seed in 1 2 3 4 5; do
-        "$gen" limits $seed >"$job"
-        expect "limits $seed on a stack of 8 MB" "$(oracle/target/release/oracle <"$job" | cksum)" "$( (ulimit -s 8192; $vregs <"$job") | cksum)"
+        "$gen" limits $seed >"$d/job"
+        "${gen%gen}oracle" <"$d/job" >"$d/want" 2>/dev/null
+        feed "limits $seed" "$d/want" <"$d/job"
     done
-    rm -f "$job"
 fi
-exit $status
+
+# --- reads that fail: nothing is answered, and it is said
+unread='^vregs: the job sheet could not be read, and nothing is answered: '
+fresh; "$vregs" <&- >"$d/out" 2>"$d/err"; st=$?; tell "standard input closed" none "${unread}Bad file descriptor"
+fresh; "$vregs" </ >"$d/out" 2>"$d/err"; st=$?; tell "a directory as standard input" none "${unread}Is a directory"
+fresh; "$vregs" 0>"$d/other" >"$d/out" 2>"$d/err"; st=$?
+tell "standard input open for writing alone" none "${unread}Bad file descriptor"
+
+# --- writes that fail: the answer is cut, and it is said
+cut='^vregs: the register sheet could not be written, and is cut: '
+fresh; "$vregs" <$job >/dev/full 2>"$d/err"; st=$?; tell "/dev/full" none "${cut}No space left on device"
+fresh; "$vregs" <$job >&- 2>"$d/err"; st=$?; tell "standard output closed" none "${cut}Bad file descriptor"
+fresh; "$vregs" <$job 1<$job 2>"$d/err"; st=$?; tell "standard output open for reading alone" none "${cut}Bad file descriptor"
+mkdir "$d/small"
+if mount -t tmpfs -o size=64k tmpfs "$d/small" 2>/dev/null; then
+    fresh; "$vregs" <$job >"$d/small/out" 2>"$d/err"; st=$?
+    cp "$d/small/out" "$d/out"; tell "a tmpfs of 64 KB" first "${cut}No space left on device"
+else echo "a tmpfs of 64 KB: not tried, no right to mount one"; fi
+fresh; (trap '' XFSZ; ulimit -f 64; exec "$vregs" <$job >"$d/out" 2>"$d/err"); st=$?
+tell "a file-size limit of 64 KB, its signal ignored" first "${cut}File too large"
+fresh; { (trap '' PIPE; "$vregs" <$job 2>"$d/err"; echo $? >"$d/st"); } | head -c 4 >"$d/out"; st=$(cat "$d/st")
+tell "an output that closes, its signal ignored" first "${cut}Broken pipe"
+fresh; "$vregs" <$job >/dev/full 2>&-; st=$?; tell "/dev/full, and standard error closed" none ""
+
+# --- faults after which the system ends the process: the answer is cut, and the status says so
+fresh; (ulimit -f 64; exec "$vregs" <$job >"$d/out" 2>"$d/err"); st=$?; tell "a file-size limit of 64 KB" first ""
+fresh; "$vregs" <$job 2>"$d/err" | head -c 4 >"$d/out"; st=${PIPESTATUS[0]}; tell "an output that closes" first ""
+
+# --- pipes that would block, interrupted calls and short counts
+if gcc -O1 -o "$d/faults" oracle/faults.c && gcc -O1 -shared -fPIC -DPRELOADED -o "$d/faults.so" oracle/faults.c; then
+    fresh; "$d/faults" in "$vregs" >"$d/out" 2>"$d/err"; st=$?
+    tell "a non-blocking standard input, its writer late" none "${unread}Resource temporarily unavailable"
+    fresh; "$d/faults" out "$vregs" <$job >"$d/out" 2>"$d/err"; st=$?
+    tell "a non-blocking standard output that nobody empties" first "${cut}Resource temporarily unavailable"
+    fresh; LD_PRELOAD=$d/faults.so "$vregs" <$job >"$d/out" 2>"$d/err"; st=$?
+    tell "half of all reads and writes interrupted, the others short" whole ""
+else echo "pipes that would block, interrupted calls: not tried, gcc failed"; fi
+
+# --- signals
+signals() { # PID
+    local s
+    for s in WINCH STOP CONT URG CHLD; do kill -$s "$1" 2>/dev/null; sleep 0.002; done
+}
+split -n 40 $job "$d/part."
+mkfifo "$d/in" "$d/to"
+fresh; "$vregs" <"$d/in" >"$d/out" 2>"$d/err" & pid=$!
+exec 3>"$d/in"
+for part in "$d"/part.*; do signals $pid; cat "$part" >&3; done
+exec 3>&-
+wait $pid; st=$?; tell "SIGWINCH, SIGSTOP, SIGCONT, SIGURG and SIGCHLD while it reads, 40 times" whole ""
+fresh; "$vregs" <$job >"$d/to" 2>"$d/err" & pid=$!
+exec 3<"$d/to"
+while signals $pid; dd bs=4001 count=1 status=none <&3 >"$d/some"; [ -s "$d/some" ]; do cat "$d/some" >>"$d/out"; done
+exec 3<&-
+wait $pid; st=$?; tell "the same while it writes, to a pipe emptied 4,001 bytes at a time" whole ""
+
+# --- arguments: nothing is read
+usage='^usage: vregs <JOB-SHEET >REGISTER-SHEET'
+fresh; "$vregs" $job </dev/zero >"$d/out" 2>"$d/err"; st=$?; tell "an argument, with endless input" none "$usage"
+fresh; "$vregs" --help </ >"$d/out" 2>"$d/err"; st=$?; tell "--help" none "$usage"
+[ $bad -eq 0 ] && echo "all as expected" || echo "NOT all as expected"
+exit $bad
