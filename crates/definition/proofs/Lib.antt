@@ -23,4 +23,5 @@ pub mod Sets
 pub mod Owned
 pub mod Marks
 pub mod Promises
+pub mod Touched
 mod SheetCases
