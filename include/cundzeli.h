@@ -71,7 +71,7 @@ struct cundzeli_cut {
  *         whole rows as are left for it. Behind the last row of each table, and behind the tables, all is zero.
  * Refuses by 1 to 9. Then all of `out` is zero, and so are the counts.
  *
- * cundzeli_rows_for_job names rows that are never too few: with them number 9 does not come.
+ * cundzeli_rows_for_job names rows that are never too few.
  */
 struct cundzeli_end build_initial_vregs(
     const uint8_t *CUNDZELI_RESTRICT job, size_t job_length,
@@ -241,6 +241,14 @@ enum cundzeli_kind { /* fields */
 
 /* ----------------------------------------------------------------------------------- the result tables */
 
+/* The usual rows: those of the program `vregs`, 460,800 bytes. Any other numbers may be named. */
+enum {
+    CUNDZELI_USUAL_REGISTERS = 4096,
+    CUNDZELI_USUAL_SEGMENTS = 4096,
+    CUNDZELI_USUAL_USES = 8192,
+    CUNDZELI_USUAL_GROUPS = 512
+};
+
 /* Registers, segments, uses (rows as in a job), groups, in this order. */
 enum {
     CUNDZELI_OUT_REGISTER_SET = 0,
@@ -339,23 +347,27 @@ static inline size_t cundzeli_out_bytes(struct cundzeli_rows rows)
     return 4 * cundzeli_places_of(rows).end;
 }
 
-static inline uint32_t cundzeli_least(uint32_t a, uint32_t b)
+static inline uint32_t cundzeli_at_most(uint64_t count, uint32_t most)
 {
-    return a < b ? a : b;
+    return count < most ? (uint32_t)count : most;
 }
 
 /*
- * Rows that are never too few, from the counts in the header of a job (CUNDZELI_HEADER words at `job`). A register
+ * Rows by the counts in the header of a job (CUNDZELI_HEADER words at `job`), each at most the usual number. They are
+ * never too few: the answer is the same as with the usual rows, and only these rows are set to zero. For a register
  * more comes of a cut or of a turned use, and each lowers the class uses that are left; so does a piece more. A turned
  * use is written twice, and its conflict piece may begin with a block parameter. A new group maps an operand that was
- * not mapped. Counts above a limit are taken as the limit: such a job is refused before a row is written.
+ * not mapped.
  */
 static inline struct cundzeli_rows cundzeli_rows_for_job(const uint8_t *job)
 {
-    uint32_t segments = cundzeli_least(cundzeli_word(job, CUNDZELI_HEADER_SEGMENTS), CUNDZELI_MOST_SEGMENTS);
-    uint32_t uses = cundzeli_least(cundzeli_word(job, CUNDZELI_HEADER_USES), CUNDZELI_MOST_USES);
-    uint32_t operands = cundzeli_least(cundzeli_word(job, CUNDZELI_HEADER_OPERANDS), CUNDZELI_MOST_OPERANDS);
-    struct cundzeli_rows rows = {segments + uses, segments + uses, 3 * uses, operands};
+    uint64_t segments = cundzeli_word(job, CUNDZELI_HEADER_SEGMENTS);
+    uint64_t uses = cundzeli_word(job, CUNDZELI_HEADER_USES);
+    struct cundzeli_rows rows;
+    rows.registers = cundzeli_at_most(segments + uses, CUNDZELI_USUAL_REGISTERS);
+    rows.segments = cundzeli_at_most(segments + uses, CUNDZELI_USUAL_SEGMENTS);
+    rows.uses = cundzeli_at_most(3 * uses, CUNDZELI_USUAL_USES);
+    rows.groups = cundzeli_at_most(cundzeli_word(job, CUNDZELI_HEADER_OPERANDS), CUNDZELI_USUAL_GROUPS);
     return rows;
 }
 

@@ -109,7 +109,7 @@ static void print_sheet(const struct result *r)
     printf("end\t%" PRIu32 "\t%" PRIu32 "\n", r->end.registers, r->end.groups);
 }
 
-/* Builds a job in tables that are never too small, and prints the register sheet or the refusal. */
+/* Builds a job in as many rows as it can need, and prints the register sheet or the refusal. */
 static int build_and_print(const uint8_t *job, size_t length, uint8_t *work)
 {
     struct cundzeli_rows rows = cundzeli_rows_for_job(job);

@@ -1,7 +1,7 @@
 /*
  * How much stack the two functions take, measured: a call runs on a stack of its own that was painted before, and what
  * is no longer paint was used; then the same call runs on threads with less and less stack, until one fails.
- * Prints a line for each job. The exit status is 1 if a call takes more than cundzeli.h says.
+ * Prints a line for each call. The exit status is 1 if one takes more than cundzeli.h says, or answers otherwise.
  *
  *     gcc -std=c99 -pthread include/stack.c target/staticlib/libbuild.a target/staticlib/libfind_cut.a -o stack
  */
@@ -29,11 +29,11 @@ static void add(uint32_t word)
     cundzeli_put(job, words++, word);
 }
 
-/* One value over 4,096 instructions in 512 blocks, and a top class over two that share nothing. */
-static void begin(uint32_t uses)
+/* One value over 4,096 instructions in 512 blocks, a top class with this mask, and two classes that share nothing. */
+static void begin(uint32_t mask, uint32_t uses)
 {
     const uint32_t header[CUNDZELI_HEADER] = {1, 3, 0, 512, 1, 0, 0, 0, 1, uses, 0, ONE, ONE, ONE};
-    const uint32_t classes[] = {7, ONE, 1, 0, 2, ONE, 1, 0, 4, ONE, 1, 0};
+    const uint32_t classes[] = {mask, ONE, 1, 0, 2, ONE, 1, 0, 4, ONE, 1, 0};
     words = 0;
     for (size_t i = 0; i < CUNDZELI_HEADER; i++)
         add(header[i]);
@@ -56,13 +56,31 @@ static void add_use(uint32_t kind, uint32_t inst, uint32_t slot, uint32_t class_
         add(row[i]);
 }
 
-/* `uses` uses by turns in the two classes, `at_one` of them at each instruction. */
-static void make_job(uint32_t uses, uint32_t at_one)
+/* Uses by turns in the two classes, `at_one` of them at each instruction; and what the builder is to answer. */
+struct sort {
+    const char *name;
+    uint32_t mask, uses, at_one, answer;
+};
+
+static void make_job(const struct sort *sort)
 {
-    begin(uses);
-    for (uint32_t i = 0; i < uses; i++)
-        add_use(CUNDZELI_KIND_CLASS_USE, i / at_one, i % at_one, 1 + i % 2);
+    begin(sort->mask, sort->uses);
+    for (uint32_t i = 0; i < sort->uses; i++)
+        add_use(CUNDZELI_KIND_CLASS_USE, i / sort->at_one, i % sort->at_one, 1 + i % 2);
 }
+
+/* An answer as one number: the registers, or the number of a refusal so many times. */
+#define REFUSED 10000
+
+static const struct sort SORTS[] = {
+    {"one use", 7, 1, 1, 1},
+    {"two uses, a cut between them", 7, 2, 1, 2},
+    {"100 uses, a cut before each but the first", 7, 100, 1, 100},
+    {"4,096 uses, a cut before each but the first", 7, 4096, 1, 4096},
+    {"4,096 uses, two at an instruction", 7, 4096, 2, 2049},
+    {"4,096 uses at one instruction", 7, 4096, 4096, 2},
+    {"4,096 uses of classes that share nothing with the top class", 1, 4096, 1, CUNDZELI_STOPPED * REFUSED},
+};
 
 /* ----------------------------------------------------------------------------------------------- calls */
 
@@ -82,7 +100,7 @@ static uint32_t call_build(void)
 {
     struct cundzeli_end end = build_initial_vregs(
         job, 4 * words, out, out_length, rows.registers, rows.segments, rows.uses, rows.groups, work);
-    return end.number == CUNDZELI_OK ? end.registers : 0;
+    return end.number * REFUSED + end.registers;
 }
 
 /* The cut finder over the blocks of the job, which stand behind the bank and three classes. */
@@ -90,7 +108,7 @@ static uint32_t call_cut(void)
 {
     const uint8_t *blocks = job + 4 * (CUNDZELI_HEADER + CUNDZELI_BANK_ROW + 3 * CUNDZELI_CLASS_ROW);
     struct cundzeli_cut cut = find_optimal_split_point(blocks, 8 * 512, 0, 4095, CUNDZELI_SIDE_LATE, work);
-    return cut.number == CUNDZELI_OK ? cut.inst : 0;
+    return cut.number * REFUSED + cut.inst;
 }
 
 static void *in_thread(void *data)
@@ -172,24 +190,20 @@ static size_t least_thread(const struct asked *asked)
     return runs;
 }
 
-/* One line: the job, the answer, the stack; and whether it keeps to what is said. */
-static int measure(const char *name, uint32_t (*call)(void), size_t said)
+/* One line: what was called, its stack; and whether answer and stack are as said. */
+static int measure(const char *name, uint32_t (*call)(void), uint32_t answer, size_t said)
 {
     struct asked asked = {call, 0, NULL};
-    size_t used;
+    size_t used, least;
     call(); /* the loader finds memcpy and memset, on another stack */
     used = painted(&asked);
-    size_t least = least_thread(&asked);
-    printf("%s: answer %u, %zu bytes of stack, least thread %zu KB%s\n", name, (unsigned)asked.answer, used, least,
-           used <= said ? "" : ": MORE THAN IS SAID");
-    return used <= said && asked.answer != 0;
-}
-
-static int measure_job(const char *name, uint32_t uses, uint32_t at_one)
-{
-    make_job(uses, at_one);
-    rows = cundzeli_rows_for_job(job);
-    return measure(name, call_build, CUNDZELI_BUILD_STACK(uses));
+    least = least_thread(&asked);
+    printf("%s: %zu bytes of stack, least thread %zu KB\n", name, used, least);
+    if (asked.answer != answer)
+        printf("    ANOTHER ANSWER: %u, not %u\n", (unsigned)asked.answer, (unsigned)answer);
+    if (used > said)
+        printf("    MORE THAN IS SAID: %zu\n", said);
+    return asked.answer == answer && used <= said;
 }
 
 int main(void)
@@ -199,13 +213,12 @@ int main(void)
     out = (uint8_t *)malloc(out_length);
     if (out == NULL)
         fail("malloc");
-    good &= measure_job("one use", 1, 1);
-    good &= measure_job("two uses, a cut between them", 2, 1);
-    good &= measure_job("100 uses, a cut before each", 100, 1);
-    good &= measure_job("4,096 uses, a cut before each", 4096, 1);
-    good &= measure_job("4,096 uses, two at an instruction", 4096, 2);
-    good &= measure_job("4,096 uses at one instruction", 4096, 4096);
-    good &= measure("the cut finder, 512 blocks", call_cut, CUNDZELI_CUT_STACK);
+    for (size_t i = 0; i < sizeof SORTS / sizeof SORTS[0]; i++) {
+        make_job(&SORTS[i]);
+        rows = cundzeli_rows_for_job(job);
+        good &= measure(SORTS[i].name, call_build, SORTS[i].answer, CUNDZELI_BUILD_STACK(SORTS[i].uses));
+    }
+    good &= measure("the cut finder, 512 blocks", call_cut, 4095, CUNDZELI_CUT_STACK);
     free(out);
     return good ? 0 : 1;
 }
