@@ -93,6 +93,35 @@ static void too_few_rows(void)
     expect("one register, zeros", (uint32_t)all_are(out, sizeof out, 0), 1);
 }
 
+/* Two values of one vgroup, used as its members by one operand: two registers in a group. */
+static const uint32_t TWO_OF_A_GROUP[] = {
+    1, 2, 0, 1, 2, 1, 1, 0, 2, 2, 0, ONE, ONE, ONE, /* header */
+    0, 3, ONE, 1, 0, 2, ONE, 2, 0, 2, ONE,          /* bank, classes, block */
+    0, 0, 0, 0, 1, 0, 2, 0, 1, 0, 0, 0, 0, 0, 0,    /* values, vgroup */
+    1, 0, 0, 1, 0, 0, 6, 0, 0, 1, 0, 6, 0, 1,       /* operand, segments */
+    CUNDZELI_KIND_GROUP_CLASS_USE, 1, 0, 1, 0, 0, CUNDZELI_KIND_GROUP_CLASS_USE, 1, 0, 1, 1, 0, /* uses */
+};
+
+static void a_group(void)
+{
+    enum { COUNT = sizeof TWO_OF_A_GROUP / sizeof TWO_OF_A_GROUP[0] };
+    uint8_t job[4 * COUNT], out[4096];
+    write_words(job, TWO_OF_A_GROUP, COUNT);
+    struct cundzeli_rows rows = cundzeli_rows_for_job(job);
+    size_t group = cundzeli_places_of(rows).groups, second = CUNDZELI_OUT_REGISTER_ROW;
+    expect("a group, rows", rows.registers * 1000 + rows.uses * 10 + rows.groups, 4061);
+    struct cundzeli_end end = build_initial_vregs(
+        job, sizeof job, out, cundzeli_out_bytes(rows), rows.registers, rows.segments, rows.uses, rows.groups, work);
+    expect("a group", end.number, CUNDZELI_OK);
+    expect("a group, registers and groups", end.registers * 10 + end.groups, 21);
+    expect("a group, its size", cundzeli_word(out, group + CUNDZELI_OUT_GROUP_SIZE), 2);
+    expect("a group, its first member + 1", cundzeli_word(out, group + CUNDZELI_OUT_GROUP_MEMBER), 1);
+    expect("a group, its second member + 1", cundzeli_word(out, group + CUNDZELI_OUT_GROUP_MEMBER + 1), 2);
+    expect("its second member's class", cundzeli_word(out, second + CUNDZELI_OUT_REGISTER_CLASS), 1);
+    expect("its second member's group + 1", cundzeli_word(out, second + CUNDZELI_OUT_REGISTER_GROUP), 1);
+    expect("its second member's place", cundzeli_word(out, second + CUNDZELI_OUT_REGISTER_GROUP_INDEX), 1);
+}
+
 /* --------------------------------------------------------------------------------- members of a vgroup */
 
 enum { GROUPED = 34 + CUNDZELI_VGROUP_ROW };
@@ -210,6 +239,7 @@ int main(void)
         worked_example(off, 0xff);
     }
     too_few_rows();
+    a_group();
     members();
     rows_of_blocks();
     bad_blocks();

@@ -115,64 +115,91 @@ enum cundzeli_number {
     CUNDZELI_FULL = 9          /* too few rows in a table of `out` */
 };
 
-/* ---------------------------------------------------------------------------- the limits of a job */
+/* --------------------------------------------------------------------------------- the limits of a job */
 
-enum {
-    CUNDZELI_MOST_INSTS = 4096,
-    CUNDZELI_MOST_BANKS = 8,
-    CUNDZELI_MOST_CLASSES = 32,
-    CUNDZELI_MOST_REGS = 256,
-    CUNDZELI_MOST_BLOCKS = 512,
-    CUNDZELI_MOST_VALUES = 1024,
-    CUNDZELI_MOST_VGROUPS = 256,
-    CUNDZELI_MOST_OPERANDS = 1024,
-    CUNDZELI_MOST_HINTS = 1024,
-    CUNDZELI_MOST_SEGMENTS = 1024,
-    CUNDZELI_MOST_USES = 4096,
-    CUNDZELI_MOST_K = 65535
-};
+#define CUNDZELI_MOST_INSTS 4096
+#define CUNDZELI_MOST_BANKS 8
+#define CUNDZELI_MOST_CLASSES 32
+#define CUNDZELI_MOST_REGS 256
+#define CUNDZELI_MOST_BLOCKS 512
+#define CUNDZELI_MOST_VALUES 1024
+#define CUNDZELI_MOST_VGROUPS 256
+#define CUNDZELI_MOST_OPERANDS 1024
+#define CUNDZELI_MOST_HINTS 1024
+#define CUNDZELI_MOST_SEGMENTS 1024
+#define CUNDZELI_MOST_USES 4096
+#define CUNDZELI_MOST_K 65535
 
 /* ---------------------------------------------------------------------------------------- a binary job */
 
 /*
  * Little-endian words of 32 bits; floats as their bits. A header of CUNDZELI_HEADER words, then the ten tables in the
- * order of their counts in the header, with nothing between and nothing behind them. _ROW is the words in a row of a
- * table, the others are the place of a word in its row.
+ * order of their counts in the header, with nothing between and nothing behind them. A name that ends in ROW is the
+ * number of words in a row of its table; the others are places of words in the header or in a row.
  */
-enum {
-    CUNDZELI_HEADER_BANKS = 0, /* how many rows each table has */
-    CUNDZELI_HEADER_CLASSES = 1,
-    CUNDZELI_HEADER_REGS = 2,
-    CUNDZELI_HEADER_BLOCKS = 3,
-    CUNDZELI_HEADER_VALUES = 4,
-    CUNDZELI_HEADER_VGROUPS = 5,
-    CUNDZELI_HEADER_OPERANDS = 6,
-    CUNDZELI_HEADER_HINTS = 7,
-    CUNDZELI_HEADER_SEGMENTS = 8,
-    CUNDZELI_HEADER_USES = 9,
-    CUNDZELI_HEADER_K = 10,    /* the weight adjust */
-    CUNDZELI_HEADER_MOVE = 11, /* float: scale for a value that is cheaper to make again than to move */
-    CUNDZELI_HEADER_LOAD = 12, /* float: than to load */
-    CUNDZELI_HEADER_INDIRECT = 13, /* float */
-    CUNDZELI_HEADER = 14
-};
+#define CUNDZELI_HEADER 14
+#define CUNDZELI_HEADER_BANKS 0 /* 0 to 9: how many rows each table has */
+#define CUNDZELI_HEADER_CLASSES 1
+#define CUNDZELI_HEADER_REGS 2
+#define CUNDZELI_HEADER_BLOCKS 3
+#define CUNDZELI_HEADER_VALUES 4
+#define CUNDZELI_HEADER_VGROUPS 5
+#define CUNDZELI_HEADER_OPERANDS 6
+#define CUNDZELI_HEADER_HINTS 7
+#define CUNDZELI_HEADER_SEGMENTS 8
+#define CUNDZELI_HEADER_USES 9
+#define CUNDZELI_HEADER_K 10        /* the weight adjust */
+#define CUNDZELI_HEADER_MOVE 11     /* float: the scale of a value that is cheaper to make again than to move */
+#define CUNDZELI_HEADER_LOAD 12     /* float: the same, than to load */
+#define CUNDZELI_HEADER_INDIRECT 13 /* float */
 
-enum { CUNDZELI_BANK_TOP = 0, CUNDZELI_BANK_ROW = 1 };
+#define CUNDZELI_BANK_ROW 1
+#define CUNDZELI_BANK_TOP 0 /* a class */
 
-enum {
-    CUNDZELI_CLASS_MASK = 0, /* bit c: class c is a subclass */
-    CUNDZELI_CLASS_COST = 1, /* float */
-    CUNDZELI_CLASS_GROUP_SIZE = 2, /* 1 to 8 */
-    CUNDZELI_CLASS_SPILLSLOTS = 3, /* 0 or 1 */
-    CUNDZELI_CLASS_ROW = 4
-};
+#define CUNDZELI_CLASS_ROW 4
+#define CUNDZELI_CLASS_MASK 0       /* bit c: class c is a subclass */
+#define CUNDZELI_CLASS_COST 1       /* float */
+#define CUNDZELI_CLASS_GROUP_SIZE 2 /* 1 to 8 */
+#define CUNDZELI_CLASS_SPILLSLOTS 3 /* 0 or 1 */
 
-enum { CUNDZELI_REG_MEMORY = 0 /* 0 or 1 */, CUNDZELI_REG_ROW = 1 };
+#define CUNDZELI_REG_ROW 1
+#define CUNDZELI_REG_MEMORY 0 /* 0 or 1 */
 
-/* A row of `blocks` of the cut finder too. */
-enum { CUNDZELI_BLOCK_INSTS = 0, CUNDZELI_BLOCK_FREQUENCY = 1 /* float */, CUNDZELI_BLOCK_ROW = 2 };
+#define CUNDZELI_BLOCK_ROW 2 /* the cut finder's row too */
+#define CUNDZELI_BLOCK_INSTS 0
+#define CUNDZELI_BLOCK_FREQUENCY 1 /* float */
 
-enum { CUNDZELI_VALUE_BANK = 0, CUNDZELI_VALUE_LEADER = 1, CUNDZELI_VALUE_REMAT = 2, CUNDZELI_VALUE_ROW = 3 };
+#define CUNDZELI_VALUE_ROW 3
+#define CUNDZELI_VALUE_BANK 0
+#define CUNDZELI_VALUE_LEADER 1 /* a value */
+#define CUNDZELI_VALUE_REMAT 2  /* enum cundzeli_remat */
+
+#define CUNDZELI_VGROUP_ROW 9
+#define CUNDZELI_VGROUP_SIZE 0   /* 2 to 8, or the job is refused by 4 */
+#define CUNDZELI_VGROUP_MEMBER 1 /* the first of eight values; those behind the size are not read */
+
+#define CUNDZELI_OPERAND_ROW 4
+#define CUNDZELI_OPERAND_INST 0
+#define CUNDZELI_OPERAND_SLOT 1
+#define CUNDZELI_OPERAND_VGROUP 2
+#define CUNDZELI_OPERAND_CLASS 3
+
+#define CUNDZELI_HINT_ROW 3
+#define CUNDZELI_HINT_VALUE 0
+#define CUNDZELI_HINT_INST 1
+#define CUNDZELI_HINT_INCOMING 2 /* 0 or 1 */
+
+#define CUNDZELI_SEGMENT_ROW 5
+#define CUNDZELI_SEGMENT_VALUE 0
+#define CUNDZELI_SEGMENT_FROM 1 /* a point: 4 * instruction + slot (enum cundzeli_slot) */
+#define CUNDZELI_SEGMENT_TO 2   /* the first point behind it */
+#define CUNDZELI_SEGMENT_FLAGS 3 /* a sum of enum cundzeli_flag */
+#define CUNDZELI_SEGMENT_USES_BEFORE 4 /* how many rows of the use table come before its own */
+
+#define CUNDZELI_USE_ROW 6
+#define CUNDZELI_USE_KIND 0 /* enum cundzeli_kind */
+#define CUNDZELI_USE_INST 1
+#define CUNDZELI_USE_FIELD 2 /* the first of four; those behind the kind's own are not read, and zero in a result */
 
 enum cundzeli_remat {
     CUNDZELI_REMAT_NONE = 0,
@@ -181,25 +208,6 @@ enum cundzeli_remat {
     CUNDZELI_REMAT_INDIRECT = 3
 };
 
-/* Members are values, 2 to 8 of them; another number is refused by 4. Places that are not in use are not read. */
-enum { CUNDZELI_VGROUP_SIZE = 0, CUNDZELI_VGROUP_MEMBER = 1 /* the first of eight */, CUNDZELI_VGROUP_ROW = 9 };
-
-enum {
-    CUNDZELI_OPERAND_INST = 0,
-    CUNDZELI_OPERAND_SLOT = 1,
-    CUNDZELI_OPERAND_VGROUP = 2,
-    CUNDZELI_OPERAND_CLASS = 3,
-    CUNDZELI_OPERAND_ROW = 4
-};
-
-enum {
-    CUNDZELI_HINT_VALUE = 0,
-    CUNDZELI_HINT_INST = 1,
-    CUNDZELI_HINT_INCOMING = 2, /* 0 or 1 */
-    CUNDZELI_HINT_ROW = 3
-};
-
-/* Points: 4 * instruction + slot. A segment has those from `from` up to, not including, `to`. */
 enum cundzeli_slot { CUNDZELI_SLOT_BOUNDARY = 0, CUNDZELI_SLOT_EARLY = 1, CUNDZELI_SLOT_NORMAL = 2 };
 
 enum cundzeli_flag {
@@ -209,77 +217,53 @@ enum cundzeli_flag {
     CUNDZELI_FLAG_FIXED_DEF = 8
 };
 
-enum {
-    CUNDZELI_SEGMENT_VALUE = 0,
-    CUNDZELI_SEGMENT_FROM = 1,
-    CUNDZELI_SEGMENT_TO = 2,
-    CUNDZELI_SEGMENT_FLAGS = 3,
-    CUNDZELI_SEGMENT_USES_BEFORE = 4, /* how many rows of the use table come before its uses */
-    CUNDZELI_SEGMENT_ROW = 5
-};
-
-/* Behind a kind's fields the words are not read in a job, and are zero in a result. */
-enum {
-    CUNDZELI_USE_KIND = 0,
-    CUNDZELI_USE_INST = 1,
-    CUNDZELI_USE_FIELD = 2, /* the first of four */
-    CUNDZELI_USE_ROW = 6
-};
-
-enum cundzeli_kind { /* fields */
-    CUNDZELI_KIND_FIXED_DEF = 0, /* reg */
-    CUNDZELI_KIND_FIXED_USE = 1, /* reg */
-    CUNDZELI_KIND_TIED_USE = 2, /* use slot, def slot, class, group index */
-    CUNDZELI_KIND_CONFLICT = 3, /* none; in results alone */
-    CUNDZELI_KIND_CLASS_USE = 4, /* slot, class */
-    CUNDZELI_KIND_CLASS_DEF = 5, /* slot, class */
+/* The kinds, with their fields. */
+enum cundzeli_kind {
+    CUNDZELI_KIND_FIXED_DEF = 0,       /* reg */
+    CUNDZELI_KIND_FIXED_USE = 1,       /* reg */
+    CUNDZELI_KIND_TIED_USE = 2,        /* use slot, def slot, class, group index */
+    CUNDZELI_KIND_CONFLICT = 3,        /* none; in results alone */
+    CUNDZELI_KIND_CLASS_USE = 4,       /* slot, class */
+    CUNDZELI_KIND_CLASS_DEF = 5,       /* slot, class */
     CUNDZELI_KIND_GROUP_CLASS_USE = 6, /* slot, class, group index */
     CUNDZELI_KIND_GROUP_CLASS_DEF = 7, /* slot, class, group index */
-    CUNDZELI_KIND_BLOCKPARAM_IN = 8, /* block parameter */
-    CUNDZELI_KIND_BLOCKPARAM_OUT = 9 /* none */
+    CUNDZELI_KIND_BLOCKPARAM_IN = 8,   /* block parameter */
+    CUNDZELI_KIND_BLOCKPARAM_OUT = 9   /* none */
 };
 
 /* ----------------------------------------------------------------------------------- the result tables */
 
 /* The usual rows: those of the program `vregs`, 460,800 bytes. Any other numbers may be named. */
-enum {
-    CUNDZELI_USUAL_REGISTERS = 4096,
-    CUNDZELI_USUAL_SEGMENTS = 4096,
-    CUNDZELI_USUAL_USES = 8192,
-    CUNDZELI_USUAL_GROUPS = 512
-};
+#define CUNDZELI_USUAL_REGISTERS 4096
+#define CUNDZELI_USUAL_SEGMENTS 4096
+#define CUNDZELI_USUAL_USES 8192
+#define CUNDZELI_USUAL_GROUPS 512
 
-/* Registers, segments, uses (rows as in a job), groups, in this order. */
-enum {
-    CUNDZELI_OUT_REGISTER_SET = 0,
-    CUNDZELI_OUT_REGISTER_CLASS = 1,
-    CUNDZELI_OUT_REGISTER_WEIGHT = 2, /* float */
-    CUNDZELI_OUT_REGISTER_GROUP = 3,  /* group + 1, or 0 */
-    CUNDZELI_OUT_REGISTER_GROUP_INDEX = 4,
-    CUNDZELI_OUT_REGISTER_FIXED_HINT = 5, /* 0 or 1 */
-    CUNDZELI_OUT_REGISTER_FIRST = 6,      /* its first row in the segments, and how many */
-    CUNDZELI_OUT_REGISTER_COUNT = 7,
-    CUNDZELI_OUT_REGISTER_ROW = 8
-};
+/* Registers, segments, uses (with rows as in a job) and groups, in this order. */
+#define CUNDZELI_OUT_REGISTER_ROW 8
+#define CUNDZELI_OUT_REGISTER_SET 0
+#define CUNDZELI_OUT_REGISTER_CLASS 1
+#define CUNDZELI_OUT_REGISTER_WEIGHT 2 /* float */
+#define CUNDZELI_OUT_REGISTER_GROUP 3  /* group + 1, or 0 */
+#define CUNDZELI_OUT_REGISTER_GROUP_INDEX 4
+#define CUNDZELI_OUT_REGISTER_FIXED_HINT 5 /* 0 or 1 */
+#define CUNDZELI_OUT_REGISTER_FIRST 6      /* its first row in the segments */
+#define CUNDZELI_OUT_REGISTER_COUNT 7      /* how many rows it has there */
+
+#define CUNDZELI_OUT_SEGMENT_ROW 7
+#define CUNDZELI_OUT_SEGMENT_VALUE 0
+#define CUNDZELI_OUT_SEGMENT_FROM 1
+#define CUNDZELI_OUT_SEGMENT_TO 2
+#define CUNDZELI_OUT_SEGMENT_FLAGS 3
+#define CUNDZELI_OUT_SEGMENT_ORIGIN 4 /* enum cundzeli_origin */
+#define CUNDZELI_OUT_SEGMENT_FIRST 5  /* its first row in the uses */
+#define CUNDZELI_OUT_SEGMENT_COUNT 6  /* how many rows it has there */
+
+#define CUNDZELI_OUT_GROUP_ROW 9
+#define CUNDZELI_OUT_GROUP_SIZE 0   /* the number of its places */
+#define CUNDZELI_OUT_GROUP_MEMBER 1 /* the first of eight: register + 1, or 0 for an empty place */
 
 enum cundzeli_origin { CUNDZELI_ORIGIN_OWN = 0, CUNDZELI_ORIGIN_CONFLICT = 1 };
-
-enum {
-    CUNDZELI_OUT_SEGMENT_VALUE = 0,
-    CUNDZELI_OUT_SEGMENT_FROM = 1,
-    CUNDZELI_OUT_SEGMENT_TO = 2,
-    CUNDZELI_OUT_SEGMENT_FLAGS = 3,
-    CUNDZELI_OUT_SEGMENT_ORIGIN = 4,
-    CUNDZELI_OUT_SEGMENT_FIRST = 5, /* its first row in the uses, and how many */
-    CUNDZELI_OUT_SEGMENT_COUNT = 6,
-    CUNDZELI_OUT_SEGMENT_ROW = 7
-};
-
-enum {
-    CUNDZELI_OUT_GROUP_SIZE = 0,
-    CUNDZELI_OUT_GROUP_MEMBER = 1, /* the first of eight: register + 1, or 0 for an empty place */
-    CUNDZELI_OUT_GROUP_ROW = 9
-};
 
 /* --------------------------------------------------------------------------------------------- helpers */
 
