@@ -3,7 +3,7 @@
  * space of any content, counts of members that no row can have, and the cut finder's rows.
  * Prints what is not as said, and how much was tried. The exit status is 1 if anything is not as said.
  *
- *     gcc -std=c99 -I include include/check.c target/staticlib/libbuild.a target/staticlib/libfind_cut.a -o check
+ *     gcc -std=c99 include/check.c target/staticlib/libbuild.a target/staticlib/libfind_cut.a -o check
  */
 #define _DEFAULT_SOURCE
 #include "cundzeli.h"

@@ -7,7 +7,7 @@
  * memset. docs/TABLES.md has every table with a worked example, docs/SHEETS.md says what the fields mean, and
  * include/example.c is a whole program.
  *
- * Of both functions holds:
+ * This holds of both:
  *
  * - Any bytes and any numbers are taken. What is not in order is refused by a number, and nothing else happens.
  * - A slice is an address and a length in bytes: so many bytes lie there. An address is not NULL, even where the
@@ -106,8 +106,8 @@ enum cundzeli_number {
     CUNDZELI_OK = 0,
     CUNDZELI_NOT_A_RECORD = 1, /* the form of the job: see docs/TABLES.md */
     CUNDZELI_OVER_A_LIMIT = 2, /* counts, k */
-    CUNDZELI_BAD_BOOK = 3,     /* banks, classes, scales */
-    CUNDZELI_BAD_FUNCTION = 4, /* blocks, values, vgroups, operands; the ends of a cut */
+    CUNDZELI_BAD_BOOK = 3,     /* banks, classes, scales; the bank of a value */
+    CUNDZELI_BAD_FUNCTION = 4, /* blocks, leaders, vgroups, operands; the ends of a cut */
     CUNDZELI_BAD_HINT = 5,
     CUNDZELI_BAD_SEGMENT = 6,
     CUNDZELI_BAD_USE = 7,

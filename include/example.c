@@ -3,7 +3,7 @@
  * in docs/samples/A.out, two cuts are asked for, and two refusals are shown. include/example.out has what is printed
  * behind the register sheet.
  *
- *     gcc -std=c99 -I include include/example.c target/staticlib/libbuild.a target/staticlib/libfind_cut.a -o example
+ *     gcc -std=c99 include/example.c target/staticlib/libbuild.a target/staticlib/libfind_cut.a -o example
  */
 #include "cundzeli.h"
 
