@@ -27,15 +27,28 @@ const ROOT: [(&str, &str); 4] = [
     ("reginfo", "reginfo.rs"),
 ];
 
-/// The folder that holds the supplied `src`: VIRT_REGS_SRC, or the place
-/// beside the repository.
+/// The Rust's `src`, in the folder that VIRT_REGS_SRC names or in the place beside the repository.
 fn supplied() -> PathBuf {
     let given = env::var_os("VIRT_REGS_SRC").map(PathBuf::from);
     let here = PathBuf::from(env::var_os("CARGO_MANIFEST_DIR").unwrap());
     let folder = given.unwrap_or_else(|| here.join("../../../shared/docs/src"));
-    fs::canonicalize(&folder)
-        .unwrap_or_else(|e| panic!("no supplied files at {}: {e}", folder.display()))
-        .join("src")
+    let src = folder.join("src");
+    if !src.join("internal/virt_regs/builder.rs").exists() {
+        panic!("{}", not_found(&folder, &here.join("../../NOTICE")));
+    }
+    fs::canonicalize(&src).unwrap_or_else(|e| panic!("{}: {e}", src.display()))
+}
+
+/// What was looked for, where it comes from, and how its folder is named.
+fn not_found(folder: &Path, notice: &Path) -> String {
+    let notice = fs::read_to_string(notice).unwrap_or_default();
+    let origin = notice.lines().find(|line| line.starts_with("Origin: "));
+    format!(
+        "the Rust's files are not in this repository, and not in {}.\n{} (NOTICE)\n\
+         Set VIRT_REGS_SRC to the folder that holds their src/, as a checkout of that commit does.",
+        folder.display(),
+        origin.unwrap_or("Their origin is named in NOTICE."),
+    )
 }
 
 fn modules(src: &Path, files: &[(&str, &str)]) -> String {
