@@ -1,7 +1,8 @@
 //! The exported cut finder beside the Rust's `SplitPlacement::find_optimal_split_point`, and on damaged input beside
 //! document 01's numbers. `compare_cuts [QUERIES [SEED]]`.
 
-use bindings::cut::{Refused, Work, find_in_bytes};
+use cundzeli::Refusal;
+use cundzeli::cut::{Work, find_in_bytes};
 use oracle::job::{Block, Job};
 use oracle::tables::Tables;
 use reference::function::Inst;
@@ -100,9 +101,9 @@ fn rust(placement: &SplitPlacement, tables: &Tables, after: u32, before: u32, ea
 }
 
 /// Document 01's answer to any input: its numbers, or what the Rust gives.
-fn expected(bytes: &[u8], after: u32, before: u32, side: u32) -> Result<u32, Refused> {
+fn expected(bytes: &[u8], after: u32, before: u32, side: u32) -> Result<u32, Refusal> {
     if side > 1 || !bytes.len().is_multiple_of(8) || bytes.is_empty() {
-        return Err(Refused(1));
+        return Err(Refusal::NotARecord);
     }
     let word = |at: usize| u32::from_le_bytes(bytes[at..at + 4].try_into().unwrap());
     let rows: Vec<(u32, u32)> = (0..bytes.len())
@@ -111,14 +112,14 @@ fn expected(bytes: &[u8], after: u32, before: u32, side: u32) -> Result<u32, Ref
         .collect();
     let total: u64 = rows.iter().map(|row| u64::from(row.0)).sum();
     if rows.len() > 512 || total > 4096 {
-        return Err(Refused(2));
+        return Err(Refusal::OverALimit);
     }
     let fine = rows.iter().all(|&(insts, bits)| {
         let frequency = f32::from_bits(bits);
         insts > 0 && frequency.is_finite() && frequency.is_sign_positive()
     });
     if !fine || after >= before || u64::from(before) >= total {
-        return Err(Refused(4));
+        return Err(Refusal::BadFunction);
     }
     let blocks = rows
         .iter()
@@ -147,8 +148,8 @@ fn differs(
     what: &str,
     bytes: &[u8],
     query: (u32, u32, u32),
-    ours: Result<u32, Refused>,
-    theirs: Result<u32, Refused>,
+    ours: Result<u32, Refusal>,
+    theirs: Result<u32, Refusal>,
 ) -> ! {
     println!("{what}: {query:?} over {bytes:02x?}: {ours:?}, expected {theirs:?}");
     exit(1)
@@ -264,7 +265,7 @@ fn main() {
         if ours != theirs {
             differs("damaged", &bytes, (after, before, side), ours, theirs);
         }
-        counts.answers[ours.map_or_else(|refused| refused.0, |_| 0) as usize] += 1;
+        counts.answers[ours.map_or_else(Refusal::number, |_| 0) as usize] += 1;
     }
     let [accepted, one, two, _, four] = counts.answers;
     println!(

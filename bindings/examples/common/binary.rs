@@ -1,67 +1,71 @@
-//! Binary jobs: written from the oracle's jobs, and read by docs/TABLES.md once more.
+//! Binary jobs: written word by word from the oracle's jobs, and read by docs/TABLES.md once more.
 
-use bindings::build::{Class, JobBytes, Operand, Remat};
 use oracle::job::{self, Job, USE_FIELDS};
 
-/// The binary job of a job.
+/// The binary job of a job, which may have what the types of `cundzeli::build` can't express.
 pub fn write(job: &Job) -> Vec<u8> {
-    let mut parts = JobBytes::new(job.adjust, job.scales);
-    write_book(job, &mut parts);
-    write_function(job, &mut parts);
-    for seg in &job.segs {
-        parts.segment(seg.value, seg.from, seg.to, seg.flags);
-        for u in job.uses_of(seg) {
-            parts.a_use(u.kind, u.inst, u.fields);
-        }
-    }
-    parts.bytes()
+    let [a, b, c] = job.scales.map(f32::to_bits);
+    joined([job.adjust, a, b, c], &rows(job))
 }
 
-fn write_book(job: &Job, parts: &mut JobBytes) {
-    for &top in &job.banks {
-        parts.bank(top);
-    }
-    for class in &job.classes {
-        parts.class(Class {
-            mask: class.mask,
-            cost: class.cost,
-            group_size: class.size,
-            spillslots: class.spillslots,
-        });
-    }
-    for &memory in &job.regs {
-        parts.reg(memory);
-    }
+fn rows(job: &Job) -> [Vec<Vec<u32>>; 10] {
+    [
+        job.banks.iter().map(|&top| vec![top]).collect(),
+        job.classes.iter().map(class_row).collect(),
+        job.regs.iter().map(|&reg| vec![reg.into()]).collect(),
+        (job.blocks.iter())
+            .map(|block| vec![block.insts, block.frequency.to_bits()])
+            .collect(),
+        (job.values.iter())
+            .map(|value| vec![value.bank, value.leader, value.remat])
+            .collect(),
+        job.vgroups
+            .iter()
+            .map(|members| vgroup_row(members))
+            .collect(),
+        (job.operands.iter())
+            .map(|operand| vec![operand.inst, operand.slot, operand.vgroup, operand.class])
+            .collect(),
+        (job.hints.iter())
+            .map(|hint| vec![hint.value, hint.inst, hint.incoming.into()])
+            .collect(),
+        (job.segs.iter())
+            .map(|seg| {
+                vec![
+                    seg.value,
+                    seg.from,
+                    seg.to,
+                    seg.flags,
+                    seg.uses.start as u32,
+                ]
+            })
+            .collect(),
+        job.uses.iter().map(use_row).collect(),
+    ]
 }
 
-const REMATS: [Remat; 4] = [
-    Remat::None,
-    Remat::CheaperThanMove,
-    Remat::CheaperThanLoad,
-    Remat::Indirect,
-];
+fn class_row(class: &job::Class) -> Vec<u32> {
+    let spillslots = class.spillslots.into();
+    vec![class.mask, class.cost.to_bits(), class.size, spillslots]
+}
 
-fn write_function(job: &Job, parts: &mut JobBytes) {
-    for block in &job.blocks {
-        parts.block(block.insts, block.frequency);
-    }
-    for value in &job.values {
-        parts.value(value.bank, value.leader, REMATS[value.remat as usize]);
-    }
-    for members in &job.vgroups {
-        parts.vgroup(members);
-    }
-    for operand in &job.operands {
-        parts.operand(Operand {
-            inst: operand.inst,
-            slot: operand.slot,
-            vgroup: operand.vgroup,
-            class: operand.class,
-        });
-    }
-    for hint in &job.hints {
-        parts.hint(hint.value, hint.inst, hint.incoming);
-    }
+fn vgroup_row(members: &[u32]) -> Vec<u32> {
+    let mut row = vec![members.len() as u32];
+    row.extend(members.iter().take(8));
+    row.resize(9, 0);
+    row
+}
+
+fn use_row(u: &job::Use) -> Vec<u32> {
+    [u.kind, u.inst].into_iter().chain(u.fields).collect()
+}
+
+/// Puts the rows behind a header that counts them.
+pub fn joined(options: [u32; 4], rows: &[Vec<Vec<u32>>; 10]) -> Vec<u8> {
+    let counts = rows.iter().map(|table| table.len() as u32);
+    let all = rows.iter().flatten().flatten().copied();
+    let words = counts.chain(options).chain(all);
+    words.flat_map(u32::to_le_bytes).collect()
 }
 
 /// Words of the header, and words in a row of each table, in order.
