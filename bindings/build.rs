@@ -1,5 +1,5 @@
-//! Links the proved functions from `target/staticlib` at the top of the repository. An archive that is missing, or older
-//! than the code that it is made of, is refused with a word on how to make it.
+//! Links the proved functions from `target/staticlib` at the top of the repository. An archive that is missing, or
+//! older than the code that it is made of, is refused with a word on how to make it.
 //!
 //! The code of an archive is `crates/NAME/src` of its own crate and of all that it depends on by crates.txt. Contracts
 //! and proofs lie in other folders and are not looked at: they hold no code, so an archive made before they changed is

@@ -130,12 +130,7 @@ struct Ours<'a> {
 
 impl<'a> Ours<'a> {
     fn new(bytes: &'a [u8], rows: Rows) -> Self {
-        Self {
-            bytes,
-            rows,
-            tables: Tables::new(),
-            work: Work::new(),
-        }
+        Self { bytes, rows, tables: Tables::new(), work: Work::new() }
     }
 
     /// One call; whether the job was accepted.

@@ -118,6 +118,18 @@ fn first_difference(room: Room, ours: &[u8], theirs: &[u8]) -> String {
 }
 
 impl Trials {
+    fn new(seed: u64) -> Self {
+        Self {
+            random: Random::new(seed),
+            work: Work::new(),
+            builder: Builder::new(),
+            typed: 0,
+            own: 0,
+            numbers: [0; 10],
+            total: [0; 10],
+        }
+    }
+
     /// One call, at any address, over space that holds anything. Sees that nothing else was written.
     fn call(&mut self, case: &Case, lent: Lent) -> (Result<Counts, u32>, Vec<u8>) {
         let odd = self.random.below(8);
@@ -236,12 +248,9 @@ impl Trials {
         if usual.is_err() {
             return;
         }
-        if self.judge(case, Lent::whole(need)).is_err() {
-            differs(
-                case,
-                Lent::whole(need),
-                "what the result needs is not enough",
-            );
+        let exact = Lent::whole(need);
+        if self.judge(case, exact).is_err() {
+            differs(case, exact, "what the result needs is not enough");
         }
         let table = self.random.below(4);
         if need[table] > 0 {
@@ -279,11 +288,8 @@ impl Trials {
             let bytes = damage::damaged(&job_of(seed, &mut self.random), &mut self.random);
             let job = binary::read(&bytes);
             readable += u64::from(job.is_some());
-            let case = Case {
-                origin: format!("damaged bytes, {seed}"),
-                bytes: &bytes,
-                job: job.as_ref(),
-            };
+            let case =
+                Case { origin: format!("damaged bytes, {seed}"), bytes: &bytes, job: job.as_ref() };
             let lent = self.any_room([20, 30, 60, 5]);
             let _ = self.judge(&case, lent);
             let _ = self.usual(&case);
@@ -375,21 +381,10 @@ fn main() {
     let mut args = args.iter().map(|arg| arg.parse::<u64>().expect("a number"));
     let jobs = args.next().unwrap_or(2000);
     let seed = args.next().unwrap_or(1);
-    let mut trials = Trials {
-        random: Random::new(seed),
-        work: Work::new(),
-        builder: Builder::new(),
-        typed: 0,
-        own: 0,
-        numbers: [0; 10],
-        total: [0; 10],
-    };
+    let mut trials = Trials::new(seed);
     for profile in PROFILES {
-        let count = if profile == "limits" {
-            jobs.div_ceil(50)
-        } else {
-            jobs
-        };
+        let fewer = if profile == "limits" { 50 } else { 1 };
+        let count = jobs.div_ceil(fewer);
         trials.profile(profile, seed * count..(seed + 1) * count);
     }
     trials.littered(seed * jobs..(seed + 1) * jobs);

@@ -123,15 +123,9 @@ fn expected(bytes: &[u8], after: u32, before: u32, side: u32) -> Result<u32, Ref
     }
     let blocks = rows
         .iter()
-        .map(|&(insts, bits)| Block {
-            insts,
-            frequency: f32::from_bits(bits),
-        })
+        .map(|&(insts, bits)| Block { insts, frequency: f32::from_bits(bits) })
         .collect();
-    let job = Job {
-        blocks,
-        ..Job::default()
-    };
+    let job = Job { blocks, ..Job::default() };
     let tables = Tables::new(&job);
     let mut placement = SplitPlacement::new();
     placement.prepare(&tables);
@@ -160,10 +154,7 @@ fn accepted(queries: u64, random: &mut Random, work: &mut Work, counts: &mut Cou
     while counts.queries < queries {
         let blocks = blocks(random);
         let bytes = rows(&blocks);
-        let job = Job {
-            blocks,
-            ..Job::default()
-        };
+        let job = Job { blocks, ..Job::default() };
         let tables = Tables::new(&job);
         let insts = job.inst_count();
         if insts < 2 {
@@ -245,11 +236,7 @@ fn main() {
     let seed = args.next().unwrap_or(1);
     let mut random = Random(seed.wrapping_mul(0x9e37_79b9_7f4a_7c15) | 1);
     let mut work = Work::new();
-    let mut counts = Counts {
-        queries: 0,
-        moved: 0,
-        answers: [0; 5],
-    };
+    let mut counts = Counts { queries: 0, moved: 0, answers: [0; 5] };
     work.bytes()
         .iter_mut()
         .for_each(|byte| *byte = random.next() as u8);

@@ -38,6 +38,8 @@ mod table;
 mod tables;
 
 use crate::Refusal;
+use std::fmt;
+
 pub use book::{Book, ClassData, Options};
 pub use job::{Hint, Job, Operand, Remat, SegmentUses};
 pub use rows::Rows;
@@ -51,6 +53,15 @@ struct BuildEnd {
     number: u32,
     registers: u32,
     groups: u32,
+}
+
+impl BuildEnd {
+    fn result(self) -> Result<Counts, Refusal> {
+        match self.number {
+            0 => Ok(Counts { registers: self.registers, groups: self.groups }),
+            number => Err(Refusal::answered(number)),
+        }
+    }
 }
 
 unsafe extern "C" {
@@ -99,8 +110,28 @@ impl Default for Work {
     }
 }
 
+impl fmt::Debug for Work {
+    fn fmt(&self, f: &mut fmt::Formatter<'_>) -> fmt::Result {
+        f.write_str("Work")
+    }
+}
+
 /// All that calls need, kept from one to the next: the binary job, the tables, the work space.
-#[derive(Default)]
+///
+/// ```
+/// use cundzeli::build::{Book, Builder, ClassData, Job, Options};
+/// use cundzeli::{BlockData, Refusal, RegClass, RegClassMask};
+///
+/// let book = Book::new(RegClass(0), ClassData::new(RegClassMask(1)));
+/// let mut builder = Builder::new();
+/// let mut registers = |insts| {
+///     let job = Job::new(&book, Options::default(), BlockData::new(insts, 1.0));
+///     builder.build(&job).map(|tables| tables.made().registers)
+/// };
+/// assert_eq!(registers(0), Err(Refusal::BadFunction));
+/// assert_eq!(registers(4096), Ok(0));
+/// ```
+#[derive(Debug, Default)]
 pub struct Builder {
     job: Vec<u8>,
     tables: Tables,
@@ -191,6 +222,26 @@ pub fn build_in_rows(
 /// # Errors
 ///
 /// By 1 to 9.
+///
+/// ```
+/// use cundzeli::build::{Book, ClassData, Counts, Job, Options, Remat, Rows, Work, build_in_bytes};
+/// use cundzeli::{BlockData, Flags, Inst, Refusal, RegBank, RegClass, RegClassMask};
+///
+/// let book = Book::new(RegClass(0), ClassData::new(RegClassMask(1)));
+/// let mut job = Job::new(&book, Options::default(), BlockData::new(1, 1.0));
+/// let value = job.value(RegBank(0), Remat::None);
+/// job.segment(value, Inst(0).boundary(), Inst(1).boundary(), Flags::NONE);
+///
+/// let rows = Rows { registers: 1, segments: 1, uses: 0, groups: 0 };
+/// let (mut out, mut work) = ([0xff; 60], Work::new());
+/// let made = build_in_bytes(&job.bytes(), &mut out, rows, &mut work);
+/// assert_eq!(made, Ok(Counts { registers: 1, groups: 0 }));
+/// assert_eq!(out[8..12], f32::INFINITY.to_le_bytes());
+///
+/// let refused = build_in_bytes(&job.bytes(), &mut out[..59], rows, &mut work);
+/// assert_eq!(refused, Err(Refusal::Full));
+/// assert_eq!(out[..59], [0; 59]);
+/// ```
 pub fn build_in_bytes(
     job: &[u8],
     out: &mut [u8],
@@ -213,11 +264,5 @@ pub fn build_in_bytes(
             &mut *work.0,
         )
     };
-    match end.number {
-        0 => Ok(Counts {
-            registers: end.registers,
-            groups: end.groups,
-        }),
-        number => Err(Refusal::answered(number)),
-    }
+    end.result()
 }

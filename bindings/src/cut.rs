@@ -15,6 +15,7 @@
 //! ```
 
 use crate::{BlockData, Inst, Refusal};
+use std::fmt;
 
 /// The bytes of the table of block starts, for the most blocks that are accepted.
 pub const WORK: usize = 4104;
@@ -74,6 +75,12 @@ impl Work {
 impl Default for Work {
     fn default() -> Self {
         Self::new()
+    }
+}
+
+impl fmt::Debug for Work {
+    fn fmt(&self, f: &mut fmt::Formatter<'_>) -> fmt::Result {
+        f.write_str("Work")
     }
 }
 

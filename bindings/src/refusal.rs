@@ -7,6 +7,10 @@ use std::fmt;
 /// [`build`](crate::build) all nine. After a refusal every result table is empty and the job is as it was.
 ///
 /// The tests go by number, the lowest that applies is given; 8 and 9 come as they are met while registers are placed.
+/// Later versions may have more numbers.
+///
+/// The functions are proved to answer no other number than these and 0. An archive that did would be of another
+/// version, so nothing that it says could be read: such a call panics, naming the number.
 ///
 /// ```
 /// use cundzeli::Refusal;
@@ -100,10 +104,7 @@ impl Refusal {
         CAUSES[self as usize - 1]
     }
 
-    /// The refusal of a number that an archive answered.
-    ///
-    /// The functions are proved to answer 0 or one of these. Any other number means that the archive is not of this
-    /// crate's version, so nothing that it answers can be read: a panic, which is no refusal of a job.
+    /// The refusal of a number that an archive answered. Panics for one that it can't answer.
     pub(crate) fn answered(number: u32) -> Self {
         let known = Self::try_from(number);
         known.unwrap_or_else(|unknown| panic!("{unknown}: the archive is of another version"))
@@ -139,5 +140,16 @@ impl TryFrom<u32> for Refusal {
     fn try_from(number: u32) -> Result<Self, UnknownNumber> {
         let found = ALL.iter().find(|refusal| refusal.number() == number);
         found.copied().ok_or(UnknownNumber(number))
+    }
+}
+
+#[cfg(test)]
+mod tests {
+    use super::Refusal;
+
+    #[test]
+    #[should_panic(expected = "10 is the number of no refusal: the archive is of another version")]
+    fn a_number_that_is_not_known_is_not_lost() {
+        Refusal::answered(10);
     }
 }

@@ -129,12 +129,7 @@ impl<C> UseKind<C> {
     pub(crate) fn words(&self) -> [u32; 4] {
         match *self {
             UseKind::FixedDef { reg } | UseKind::FixedUse { reg } => [reg.0, 0, 0, 0],
-            UseKind::TiedUse {
-                use_slot,
-                def_slot,
-                class,
-                group_index,
-            } => [
+            UseKind::TiedUse { use_slot, def_slot, class, group_index } => [
                 use_slot.into(),
                 def_slot.into(),
                 class.0,
@@ -143,16 +138,10 @@ impl<C> UseKind<C> {
             UseKind::ClassUse { slot, class } | UseKind::ClassDef { slot, class } => {
                 [slot.into(), class.0, 0, 0]
             }
-            UseKind::GroupClassUse {
-                slot,
-                class,
-                group_index,
+            UseKind::GroupClassUse { slot, class, group_index }
+            | UseKind::GroupClassDef { slot, class, group_index } => {
+                [slot.into(), class.0, group_index.into(), 0]
             }
-            | UseKind::GroupClassDef {
-                slot,
-                class,
-                group_index,
-            } => [slot.into(), class.0, group_index.into(), 0],
             UseKind::BlockparamIn { blockparam_idx } => [blockparam_idx, 0, 0, 0],
             UseKind::ConstraintConflict(_) | UseKind::BlockparamOut => [0; 4],
         }
@@ -198,17 +187,9 @@ impl UseKind {
 
     fn of_group(def: bool, slot: u16, class: RegClass, group_index: u8) -> Self {
         if def {
-            UseKind::GroupClassDef {
-                slot,
-                class,
-                group_index,
-            }
+            UseKind::GroupClassDef { slot, class, group_index }
         } else {
-            UseKind::GroupClassUse {
-                slot,
-                class,
-                group_index,
-            }
+            UseKind::GroupClassUse { slot, class, group_index }
         }
     }
 }

@@ -33,13 +33,7 @@ fn case_a_cuts_once() {
     let mut job = job_a();
     let (slot, class) = (0, RegClass(2));
     job.segment(Value(0), Inst(0).normal(), Inst(3).normal(), Flags::NONE)
-        .add(
-            Inst(0),
-            UseKind::ClassDef {
-                slot,
-                class: RegClass(1),
-            },
-        )
+        .add(Inst(0), UseKind::ClassDef { slot, class: RegClass(1) })
         .add(Inst(3), UseKind::ClassUse { slot, class });
     let tables = build(&job).expect("a result");
     let registers: Vec<_> = tables.registers().collect();
@@ -55,10 +49,7 @@ fn case_a_cuts_once() {
     assert_eq!(ends(0), (from, cut, Flags::LIVE_OUT, Origin::Own));
     assert_eq!(ends(1), (cut, to, Flags::LIVE_IN, Origin::Own));
     let kind = UseKind::ClassUse { slot, class };
-    let last = Use {
-        inst: Inst(3),
-        kind,
-    };
+    let last = Use { inst: Inst(3), kind };
     assert_eq!(tables.uses(&tables.segment(1)).collect::<Vec<_>>(), [last]);
 }
 
@@ -195,11 +186,7 @@ fn spoil(job: &mut Job, number: u32) {
                 .add(Inst(9), UseKind::BlockparamOut),
         ),
         6 => drop(job.segment(value, from, to, Flags::NONE)),
-        5 => job.hint(Hint {
-            value,
-            inst: Inst(0),
-            incoming: true,
-        }),
+        5 => job.hint(Hint { value, inst: Inst(0), incoming: true }),
         4 => drop(job.vgroup(&[Value(0); 9])),
         3 => drop(job.value(RegBank(9), Remat::None)),
         _ => drop((0..512).map(|_| job.block(BlockData::new(1, 1.0))).last()),
@@ -267,11 +254,7 @@ fn a_builder_is_empty_after_a_refusal() {
 
 /// One value over 4,096 instructions, and a top class over `classes` that share nothing.
 fn long_job(classes: u32, frequency: impl Fn(u32) -> f32) -> Sheet {
-    let mut job = Sheet {
-        scales: [1.0; 3],
-        banks: vec![0],
-        ..Sheet::default()
-    };
+    let mut job = Sheet { scales: [1.0; 3], banks: vec![0], ..Sheet::default() };
     for number in 0..=classes {
         job.classes.push(job::Class {
             mask: if number == 0 {
@@ -284,31 +267,16 @@ fn long_job(classes: u32, frequency: impl Fn(u32) -> f32) -> Sheet {
             spillslots: false,
         });
     }
-    job.blocks.extend((0..512).map(|number| job::Block {
-        insts: 8,
-        frequency: frequency(number),
-    }));
-    job.values.push(job::Value {
-        bank: 0,
-        leader: 0,
-        remat: 0,
-    });
-    job.segs.push(job::Seg {
-        value: 0,
-        from: 0,
-        to: 4 * 4096,
-        flags: 0,
-        uses: 0..4096,
-    });
+    job.blocks
+        .extend((0..512).map(|number| job::Block { insts: 8, frequency: frequency(number) }));
+    job.values.push(job::Value { bank: 0, leader: 0, remat: 0 });
+    job.segs
+        .push(job::Seg { value: 0, from: 0, to: 4 * 4096, flags: 0, uses: 0..4096 });
     job
 }
 
 fn class_use(inst: u32, slot: u32, class: u32) -> job::Use {
-    job::Use {
-        kind: CLASS_USE,
-        inst,
-        fields: [slot, class, 0, 0],
-    }
+    job::Use { kind: CLASS_USE, inst, fields: [slot, class, 0, 0] }
 }
 
 /// The exported builder's result on a thread with a stack of 2 MB is the oracle's, on a large one.

@@ -97,10 +97,7 @@ impl Draw {
         let mut book = Book::new(RegClass(self.number(4)), self.class());
         let pairs = ClassData::new(RegClassMask(2));
         let group_size = 2;
-        book.class(ClassData {
-            group_size,
-            ..pairs
-        });
+        book.class(ClassData { group_size, ..pairs });
         for _ in 0..2 + self.count(1, 40) {
             book.class(self.class());
         }
@@ -127,19 +124,9 @@ impl Draw {
             },
             3 => UseKind::ClassUse { slot, class },
             4 => UseKind::ClassDef { slot, class },
-            5 => UseKind::GroupClassUse {
-                slot,
-                class,
-                group_index,
-            },
-            6 => UseKind::GroupClassDef {
-                slot,
-                class,
-                group_index,
-            },
-            7 => UseKind::BlockparamIn {
-                blockparam_idx: self.number(4),
-            },
+            5 => UseKind::GroupClassUse { slot, class, group_index },
+            6 => UseKind::GroupClassDef { slot, class, group_index },
+            7 => UseKind::BlockparamIn { blockparam_idx: self.number(4) },
             _ => UseKind::BlockparamOut,
         }
     }
@@ -214,10 +201,7 @@ impl Draw {
 
 #[test]
 fn no_job_is_refused_by_1() {
-    let mut draw = Draw {
-        random: Random::new(1),
-        wild: 0,
-    };
+    let mut draw = Draw { random: Random::new(1), wild: 0 };
     let (mut tables, mut work) = (Tables::new(), Work::new());
     let mut numbers = [0; 10];
     for seed in 0..JOBS {

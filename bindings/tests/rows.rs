@@ -1,5 +1,9 @@
 //! The rows that a job's own counts name: jobs that come near them, and the answer of the usual room in each.
 
+#[path = "../examples/common/mod.rs"]
+mod common;
+
+use common::result::sheet;
 use cundzeli::Refusal::{Full, NotARecord};
 use cundzeli::build::{
     Book, ClassData, Job, Operand, Options, Remat, Rows, Tables, Work, build, build_binary,
@@ -29,7 +33,7 @@ fn need(job: &Job) -> Rows {
     let made = build_in_rows(&job.bytes(), Rows::USUAL, &mut usual, &mut work);
     let own = build(job).expect("a result");
     assert_eq!(made, Ok(own.made()));
-    assert_eq!(format!("{usual:?}"), format!("{own:?}"));
+    assert_eq!(sheet(&usual), sheet(&own));
     used(&own)
 }
 
@@ -74,30 +78,18 @@ fn turns_come_near_three_rows_a_use() {
 /// Group uses whose index changes from one to the next: a register and a group for each operand.
 fn job_of_groups(count: u32) -> Job {
     let mut book = Book::new(RegClass(0), class(0b11));
-    let pairs = book.class(ClassData {
-        group_size: 2,
-        ..class(0b10)
-    });
+    let pairs = book.class(ClassData { group_size: 2, ..class(0b10) });
     let mut job = Job::new(&book, Options::default(), BlockData::new(count, 1.0));
     let value = job.value(RegBank(0), Remat::None);
     let vgroup = job.vgroup(&[value; 2]);
     let (slot, class) = (0, pairs);
     for inst in (0..count).map(Inst) {
-        job.operand(Operand {
-            inst,
-            slot,
-            vgroup,
-            class,
-        });
+        job.operand(Operand { inst, slot, vgroup, class });
     }
     let (from, to) = (Inst(0).boundary(), Inst(count).boundary());
     let mut uses = job.segment(value, from, to, Flags::NONE);
     for inst in 0..count {
-        let kind = UseKind::GroupClassUse {
-            slot,
-            class,
-            group_index: (inst % 2) as u8,
-        };
+        let kind = UseKind::GroupClassUse { slot, class, group_index: (inst % 2) as u8 };
         uses.add(Inst(inst), kind);
     }
     job
@@ -118,10 +110,7 @@ fn a_full_usual_room_is_9_in_the_own_rows_too() {
     let usual = build_in_rows(&bytes, Rows::USUAL, &mut tables, &mut work);
     assert_eq!(usual, Err(Full));
     assert_eq!(build_binary(&bytes, &mut tables, &mut work), Err(Full));
-    let more = Rows {
-        groups: 513,
-        ..Rows::USUAL
-    };
+    let more = Rows { groups: 513, ..Rows::USUAL };
     let made = build_in_rows(&bytes, more, &mut tables, &mut work);
     assert_eq!(made.map(|made| made.groups), Ok(513));
 }

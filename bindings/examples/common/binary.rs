@@ -8,39 +8,28 @@ pub fn write(job: &Job) -> Vec<u8> {
     joined([job.adjust, a, b, c], &rows(job))
 }
 
+fn table<T>(items: &[T], row: impl Fn(&T) -> Vec<u32>) -> Vec<Vec<u32>> {
+    items.iter().map(row).collect()
+}
+
 fn rows(job: &Job) -> [Vec<Vec<u32>>; 10] {
     [
-        job.banks.iter().map(|&top| vec![top]).collect(),
-        job.classes.iter().map(class_row).collect(),
-        job.regs.iter().map(|&reg| vec![reg.into()]).collect(),
-        (job.blocks.iter())
-            .map(|block| vec![block.insts, block.frequency.to_bits()])
-            .collect(),
-        (job.values.iter())
-            .map(|value| vec![value.bank, value.leader, value.remat])
-            .collect(),
-        job.vgroups
-            .iter()
-            .map(|members| vgroup_row(members))
-            .collect(),
-        (job.operands.iter())
-            .map(|operand| vec![operand.inst, operand.slot, operand.vgroup, operand.class])
-            .collect(),
-        (job.hints.iter())
-            .map(|hint| vec![hint.value, hint.inst, hint.incoming.into()])
-            .collect(),
-        (job.segs.iter())
-            .map(|seg| {
-                vec![
-                    seg.value,
-                    seg.from,
-                    seg.to,
-                    seg.flags,
-                    seg.uses.start as u32,
-                ]
-            })
-            .collect(),
-        job.uses.iter().map(use_row).collect(),
+        table(&job.banks, |&top| vec![top]),
+        table(&job.classes, class_row),
+        table(&job.regs, |&memory| vec![memory.into()]),
+        table(&job.blocks, |row| vec![row.insts, row.frequency.to_bits()]),
+        table(&job.values, |row| vec![row.bank, row.leader, row.remat]),
+        table(&job.vgroups, |members| vgroup_row(members)),
+        table(&job.operands, |row| {
+            vec![row.inst, row.slot, row.vgroup, row.class]
+        }),
+        table(&job.hints, |row| {
+            vec![row.value, row.inst, row.incoming.into()]
+        }),
+        table(&job.segs, seg_row),
+        table(&job.uses, |row| {
+            [[row.kind, row.inst].as_slice(), &row.fields].concat()
+        }),
     ]
 }
 
@@ -56,8 +45,14 @@ fn vgroup_row(members: &[u32]) -> Vec<u32> {
     row
 }
 
-fn use_row(u: &job::Use) -> Vec<u32> {
-    [u.kind, u.inst].into_iter().chain(u.fields).collect()
+fn seg_row(seg: &job::Seg) -> Vec<u32> {
+    vec![
+        seg.value,
+        seg.from,
+        seg.to,
+        seg.flags,
+        seg.uses.start as u32,
+    ]
 }
 
 /// Puts the rows behind a header that counts them.
@@ -143,17 +138,12 @@ fn read_book(rows: &[Vec<Vec<u32>>; 10], job: &mut Job) -> Option<()> {
 
 fn read_function(rows: &[Vec<Vec<u32>>; 10], job: &mut Job) -> Option<()> {
     for row in &rows[3] {
-        job.blocks.push(job::Block {
-            insts: row[0],
-            frequency: f32::from_bits(row[1]),
-        });
+        job.blocks
+            .push(job::Block { insts: row[0], frequency: f32::from_bits(row[1]) });
     }
     for row in &rows[VALUES] {
-        job.values.push(job::Value {
-            bank: row[0],
-            leader: row[1],
-            remat: choice(row[2], 3)?,
-        });
+        job.values
+            .push(job::Value { bank: row[0], leader: row[1], remat: choice(row[2], 3)? });
     }
     job.vgroups = rows[VGROUPS].iter().map(|row| members(row)).collect();
     for row in &rows[6] {
@@ -187,11 +177,7 @@ fn read_use(row: &[u32]) -> Option<job::Use> {
     let own = USE_FIELDS[kind as usize];
     let mut fields = [0; 4];
     fields[..own].copy_from_slice(&row[2..2 + own]);
-    Some(job::Use {
-        kind,
-        inst: row[1],
-        fields,
-    })
+    Some(job::Use { kind, inst: row[1], fields })
 }
 
 /// A segment's uses go from its count up to the next one's, the last one's up to the number of uses.

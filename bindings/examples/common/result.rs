@@ -51,12 +51,7 @@ impl Made {
 
 pub fn rows_of(counts: [u32; 4]) -> Rows {
     let [registers, segments, uses, groups] = counts;
-    Rows {
-        registers,
-        segments,
-        uses,
-        groups,
-    }
+    Rows { registers, segments, uses, groups }
 }
 
 /// The four numbers of rows.
@@ -80,11 +75,7 @@ pub fn expected(job: &Job, room: Room) -> Result<Made, u32> {
     if let Some(number) = entry::refusal(job) {
         return Err(number.into());
     }
-    let Answer {
-        text,
-        number,
-        cause,
-    } = answer_job(job, room);
+    let Answer { text, number, cause } = answer_job(job, room);
     if cause.is_some_and(|cause| !STOPS.contains(&cause.as_str())) {
         return Err(ODD);
     }

@@ -9,12 +9,7 @@ use std::convert::Infallible;
 /// None for a kind 3, a slot 3 of a point, or a field beyond its type.
 pub fn typed(from: &job::Job) -> Option<Job> {
     let [cheaper_than_move, cheaper_than_load, indirect] = from.scales;
-    let options = Options {
-        adjust: from.adjust,
-        cheaper_than_move,
-        cheaper_than_load,
-        indirect,
-    };
+    let options = Options { adjust: from.adjust, cheaper_than_move, cheaper_than_load, indirect };
     let (first, blocks) = from.blocks.split_first()?;
     let mut job = Job::new(&book(from)?, options, block(first));
     for next in blocks {
@@ -83,11 +78,7 @@ fn operands(from: &job::Job, job: &mut Job) -> Option<()> {
         });
     }
     for hint in &from.hints {
-        job.hint(Hint {
-            value: Value(hint.value),
-            inst: Inst(hint.inst),
-            incoming: hint.incoming,
-        });
+        job.hint(Hint { value: Value(hint.value), inst: Inst(hint.inst), incoming: hint.incoming });
     }
     Some(())
 }
@@ -139,16 +130,8 @@ fn class_kind(def: bool, slot: u16, class: RegClass) -> UseKind<Infallible> {
 
 fn group_kind(def: bool, slot: u16, class: RegClass, group_index: u8) -> UseKind<Infallible> {
     if def {
-        UseKind::GroupClassDef {
-            slot,
-            class,
-            group_index,
-        }
+        UseKind::GroupClassDef { slot, class, group_index }
     } else {
-        UseKind::GroupClassUse {
-            slot,
-            class,
-            group_index,
-        }
+        UseKind::GroupClassUse { slot, class, group_index }
     }
 }

@@ -27,12 +27,7 @@ pub struct ClassData {
 impl ClassData {
     /// A class for single registers with these subclasses: cost 1.0, no spillslots.
     pub fn new(subclasses: RegClassMask) -> Self {
-        Self {
-            subclasses,
-            cost: 1.0,
-            group_size: 1,
-            spillslots: false,
-        }
+        Self { subclasses, cost: 1.0, group_size: 1, spillslots: false }
     }
 }
 
@@ -59,12 +54,7 @@ pub struct Options {
 impl Default for Options {
     /// No adjust, and every scale 1.0.
     fn default() -> Self {
-        Self {
-            adjust: 0,
-            cheaper_than_move: 1.0,
-            cheaper_than_load: 1.0,
-            indirect: 1.0,
-        }
+        Self { adjust: 0, cheaper_than_move: 1.0, cheaper_than_load: 1.0, indirect: 1.0 }
     }
 }
 
@@ -80,8 +70,8 @@ impl Options {
     }
 }
 
-/// The register book of a machine: banks, classes, registers, each numbered from 0 in the order in which they are added.
-/// One serves the jobs of any number of functions.
+/// The register book of a machine: banks, classes, registers, each numbered from 0 in the order in which they are
+/// added. One serves the jobs of any number of functions.
 ///
 /// ```
 /// use cundzeli::build::{Book, ClassData};
@@ -103,11 +93,7 @@ pub struct Book {
 impl Book {
     /// A book of one bank and one class: bank 0, whose top class is `top`, and class 0. `top` may be added later.
     pub fn new(top: RegClass, class: ClassData) -> Self {
-        let mut book = Self {
-            banks: Table::new(),
-            classes: Table::new(),
-            regs: Table::new(),
-        };
+        let mut book = Self { banks: Table::new(), classes: Table::new(), regs: Table::new() };
         book.bank(top);
         book.class(class);
         book

@@ -36,12 +36,7 @@ pub struct Rows {
 
 impl Rows {
     /// What the program `vregs` has.
-    pub const USUAL: Self = Self {
-        registers: 4096,
-        segments: 4096,
-        uses: 8192,
-        groups: 512,
-    };
+    pub const USUAL: Self = Self { registers: 4096, segments: 4096, uses: 8192, groups: 512 };
 
     /// Rows that are enough for a job wherever the [usual](Self::USUAL) ones are, and never more than these: with S
     /// segments, U uses and O operands in its header, S + U registers, S + U segments, 3 × U uses and O groups, each at
@@ -54,22 +49,23 @@ impl Rows {
     /// - *Turns and cuts together are at most U.* Each of them uses up a class use of its own. A turn turns a class use
     ///   that was not turned before, and a turned use is never turned again. A cut lies behind the start, which is a
     ///   class use that was not admitted and so is not turned; the part before the cut, with the start in it, holds
-    ///   only uses that the forward scan admitted, so it is placed as it is and no later turn or cut concerns it. (In
-    ///   the proofs: the class uses left fall with every turn and every cut, which is what the recursion ends by.)
+    ///   only uses that the forward scan admitted, so it is placed as it is and no later turn or cut concerns it. (Both
+    ///   are proved in crates/definition/proofs/Fuel.antt: with every turn and every cut the class uses that are left
+    ///   fall, and the part before a cut is always admitted.)
     /// - *A conflict register takes up at least one turned use*, which then is in no other: a round that admits none is
     ///   a stop. It has one piece.
     /// - *Registers*: one for each set that has a segment, at most S; one more for each cut; at most one for each turn.
     ///   A merge adds none. In all S + U.
     /// - *Segments*: a cut parts at most one segment in two, so pieces of the job's segments are at most S and one for
     ///   each cut; at most one for each turn. A merge moves pieces, and they count once. In all S + U.
-    /// - *Uses*: each use of the job once in its own piece, as it was or turned; each turned one once more in a conflict
-    ///   piece; at most one BlockparamIn for each conflict piece. In all U and twice the turns, at most 3 × U.
+    /// - *Uses*: each use of the job once in its own piece, as it was or turned; each turned one once more in a
+    ///   conflict piece; at most one BlockparamIn for each conflict piece. In all U and twice the turns, at most 3 × U.
     /// - *Groups*: a register makes a group only where none of its group operands is mapped, and maps them all, at
     ///   least one. An operand stays mapped. In all O.
     ///
-    /// So with the greater numbers no table is ever full, and with the usual number in place of a greater one it is
-    /// full at the same register as in the usual room. Where that is too few, [`build_in_rows`](super::build_in_rows)
-    /// takes any numbers.
+    /// So in S + U, S + U, 3 × U and O rows no table is ever full; and where the usual number stands in place of a
+    /// greater one, that table is full at the same register as in the usual room. A job that is refused by 9 there may
+    /// still be built in more rows by [`build_in_rows`](super::build_in_rows).
     ///
     /// The job is any bytes; of those that are no job the answer is 1 in any room.
     pub fn for_job(job: &[u8]) -> Self {

@@ -121,7 +121,7 @@ impl Tables {
         Self::default()
     }
 
-    /// Empty tables of so many rows: whether they were made, and the slice to lend.
+    /// The slice to lend for a build in so many rows. What it holds before does not matter.
     pub(super) fn lend(&mut self, rows: Rows) -> &mut [u8] {
         self.made = Counts::default();
         self.rows = rows;
@@ -196,11 +196,11 @@ impl Tables {
         (0..self.made.registers).map(|number| self.register(VirtReg(number)))
     }
 
-    /// The piece at a row that a register names.
+    /// The piece at a row that a register names. Rows that none names are zero.
     ///
     /// # Panics
     ///
-    /// If no register of these tables names it.
+    /// If the table has no such row.
     pub fn segment(&self, place: u32) -> Segment {
         assert!(place < self.rows.segments, "no segment {place}");
         let [before, _, _] = self.before();
@@ -223,19 +223,16 @@ impl Tables {
         register.segments.clone().map(|place| self.segment(place))
     }
 
-    /// The use at a row that a piece names.
+    /// The use at a row that a piece names. Rows that none names are zero.
     ///
     /// # Panics
     ///
-    /// If no piece of these tables names it.
+    /// If the table has no such row.
     pub fn a_use(&self, place: u32) -> Use {
         assert!(place < self.rows.uses, "no use {place}");
         let [_, before, _] = self.before();
         let [kind, inst, fields @ ..] = self.row::<USE>(before, place);
-        Use {
-            inst: Inst(inst),
-            kind: UseKind::of_row(kind, fields),
-        }
+        Use { inst: Inst(inst), kind: UseKind::of_row(kind, fields) }
     }
 
     /// The uses of a piece, in their order.
@@ -254,10 +251,7 @@ impl Tables {
         let [size, places @ ..] = self.row::<GROUP>(before, number.0);
         let members = places[..size as usize].iter();
         let members = members.map(|member| member.checked_sub(1).map(VirtReg));
-        Group {
-            number,
-            members: members.collect(),
-        }
+        Group { number, members: members.collect() }
     }
 
     /// All groups, by rising number.
