@@ -50,3 +50,8 @@ pub use index::{
 pub use point::{Point, Slot};
 pub use refusal::{Refusal, UnknownNumber};
 pub use uses::{Flags, Turned, UseKind};
+
+/// The example of README.md.
+#[cfg(doctest)]
+#[doc = include_str!("../README.md")]
+struct Readme;

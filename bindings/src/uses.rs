@@ -1,6 +1,7 @@
 //! What the uses of a segment ask for, and the flags of its list.
 
 use crate::{PhysReg, RegClass};
+use std::convert::Infallible;
 use std::ops::{BitOr, BitOrAssign};
 
 /// Stands in a result for a use that was turned into a conflict.
@@ -191,6 +192,22 @@ impl UseKind {
         } else {
             UseKind::GroupClassUse { slot, class, group_index }
         }
+    }
+}
+
+impl From<UseKind<Infallible>> for UseKind {
+    /// A job's use as it stands in the result, unless it was turned.
+    ///
+    /// ```
+    /// use cundzeli::UseKind;
+    /// use std::convert::Infallible;
+    ///
+    /// let given: UseKind<Infallible> = UseKind::BlockparamIn { blockparam_idx: 3 };
+    /// let found: UseKind = UseKind::BlockparamIn { blockparam_idx: 3 };
+    /// assert_eq!(UseKind::from(given), found);
+    /// ```
+    fn from(kind: UseKind<Infallible>) -> Self {
+        Self::of_row(kind.number(), kind.words())
     }
 }
 

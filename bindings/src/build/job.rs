@@ -130,7 +130,7 @@ impl Job {
         Value(self.values.add([bank.0, leader.0, remat as u32]))
     }
 
-    /// The next value group, of 2 to 8 members. Of more than 8 only their number is written, and refused (4).
+    /// The next value group, of 2 to 8 members. Of more, the first 8 and their number are written, and refused (4).
     pub fn vgroup(&mut self, members: &[Value]) -> ValueGroup {
         let mut row = [0; 1 + MEMBERS];
         row[0] = u32::try_from(members.len()).unwrap_or(u32::MAX);
