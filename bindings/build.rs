@@ -1,9 +1,9 @@
 //! Links the proved functions from `target/staticlib` at the top of the repository. An archive that is missing, or
 //! older than the code that it is made of, is refused with a word on how to make it.
 //!
-//! The code of an archive is `crates/NAME/src` of its own crate and of all that it depends on by crates.txt. Contracts
-//! and proofs lie in other folders and are not looked at: they hold no code, so an archive made before they changed is
-//! the same, byte for byte. Nor is crates.txt: a new line in it changes no code that is there.
+//! The code of an archive is `crates/NAME/src` of its own crate and of all that it depends on by crates.txt. What
+//! contracts cite (`specs`) and proofs are not looked at: they hold no code, and an archive made before they changed is
+//! the same, byte for byte. Nor is the time of crates.txt: a new line in it changes no code that is there.
 
 use std::collections::BTreeSet;
 use std::path::{Path, PathBuf};

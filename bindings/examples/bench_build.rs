@@ -222,11 +222,12 @@ fn group(name: &str, jobs: impl Iterator<Item = Job>, count: usize) {
     let time = |side: usize| median(measured.iter().map(|times| times[side]).collect());
     let lowest = ratios(EXACT).into_iter().fold(f64::INFINITY, f64::min);
     let highest = ratios(EXACT).into_iter().fold(0.0, f64::max);
-    print!("| {name} | {} | {:.0}", measured.len(), time(0));
-    for side in [EXACT, OWN, USUAL] {
-        print!(" | {:.0} | {:.2}", time(side), median(ratios(side)));
-    }
-    println!(" | {lowest:.2} to {highest:.2} |");
+    let both = |side: usize| format!("{:.0} | {:.2}", time(side), median(ratios(side)));
+    let (exact, own, usual) = (both(EXACT), both(OWN), both(USUAL));
+    let (jobs, rust) = (measured.len(), time(0));
+    println!(
+        "| {name} | {jobs} | {rust:.0} | {exact} | {lowest:.2} to {highest:.2} | {own} | {usual} |"
+    );
 }
 
 /// The jobs of a profile, from a seed on.
@@ -250,8 +251,8 @@ fn main() {
     );
     println!();
     println!(
-        "| Group | Jobs | Rust | Ours, exact rows | Ratio | Ours, the job's own rows | Ratio \
-         | Ours, usual rows | Ratio | Exact rows, lowest to highest |"
+        "| Group | Jobs | Rust | Ours | Ratio | Lowest to highest | Ours, the job's own rows | Ratio \
+         | Ours, usual room | Ratio |"
     );
     println!("|---|---:|---:|---:|---:|---:|---:|---:|---:|---:|");
     let case_a = sheet::read(CASE_A.replace(' ', "\t").as_bytes()).expect("a sheet");
