@@ -204,6 +204,24 @@ pub fn build_binary(job: &[u8], tables: &mut Tables, work: &mut Work) -> Result<
 /// # Errors
 ///
 /// As [`build_binary`]; by 9 where one of the numbers is too small.
+///
+/// ```
+/// use cundzeli::build::{Book, ClassData, Job, Options, Remat, Rows, Tables, Work, build_in_rows};
+/// use cundzeli::{BlockData, Flags, Inst, Refusal, RegBank, RegClass, RegClassMask};
+///
+/// let book = Book::new(RegClass(0), ClassData::new(RegClassMask(1)));
+/// let mut job = Job::new(&book, Options::default(), BlockData::new(1, 1.0));
+/// let value = job.value(RegBank(0), Remat::None);
+/// job.segment(value, Inst(0).boundary(), Inst(1).boundary(), Flags::NONE);
+///
+/// let (mut tables, mut work) = (Tables::new(), Work::new());
+/// let mut registers = |rows| {
+///     let made = build_in_rows(&job.bytes(), rows, &mut tables, &mut work);
+///     made.map(|made| made.registers)
+/// };
+/// assert_eq!(registers(Rows::USUAL), Ok(1));
+/// assert_eq!(registers(Rows { segments: 0, ..Rows::USUAL }), Err(Refusal::Full));
+/// ```
 pub fn build_in_rows(
     job: &[u8],
     rows: Rows,

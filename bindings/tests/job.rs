@@ -1,4 +1,5 @@
-//! Anything that the job's types can express, drawn at random: never refused by 1.
+//! Anything that the job's types can express, drawn at random: never refused by 1, and in the job's own rows by the
+//! number of the usual room.
 
 #[path = "../examples/common/mod.rs"]
 mod common;
@@ -6,7 +7,8 @@ mod common;
 use common::random::Random;
 use cundzeli::Refusal;
 use cundzeli::build::{
-    Book, ClassData, Hint, Job, Operand, Options, Remat, Tables, Work, build_binary,
+    Book, ClassData, Hint, Job, Operand, Options, Remat, Rows, Tables, Work, build_binary,
+    build_in_rows,
 };
 use cundzeli::{
     BlockData, Flags, Inst, PhysReg, Point, RegBank, RegClass, RegClassMask, UseKind, Value,
@@ -207,7 +209,10 @@ fn no_job_is_refused_by_1() {
     for seed in 0..JOBS {
         draw.random = Random::new(seed);
         draw.wild = draw.random.pick(&[0, 0, 1000, 300, 100, 30, 10, 3, 1]);
-        let end = build_binary(&draw.job().bytes(), &mut tables, &mut work);
+        let job = draw.job().bytes();
+        let end = build_binary(&job, &mut tables, &mut work);
+        let usual = build_in_rows(&job, Rows::USUAL, &mut tables, &mut work);
+        assert_eq!(end, usual, "seed {seed}");
         numbers[end.map_or_else(Refusal::number, |_| 0) as usize] += 1;
     }
     println!("by number, 0 for a result: {numbers:?}");

@@ -17,8 +17,12 @@ fn class(mask: u32) -> ClassData {
 
 /// How many rows of each table a result has.
 fn used(tables: &Tables) -> Rows {
-    let segments = || tables.registers().flat_map(|register| register.segments);
-    let uses = segments().map(|place| tables.segment(place).uses.len());
+    let segments = || {
+        tables
+            .registers()
+            .flat_map(|register| tables.segments(&register))
+    };
+    let uses = segments().map(|segment| tables.uses(&segment).len());
     Rows {
         registers: tables.made().registers,
         segments: segments().count() as u32,

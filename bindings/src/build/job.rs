@@ -5,7 +5,25 @@ use super::table::Table;
 use crate::{Block, BlockData, Flags, Inst, Point, RegBank, RegClass, UseKind, Value, ValueGroup};
 use std::convert::Infallible;
 
-/// How a value can be made again.
+/// How a value can be made again, which scales the costs of its uses.
+///
+/// ```
+/// use cundzeli::build::{Book, ClassData, Job, Options, Remat, build};
+/// use cundzeli::{BlockData, Flags, Inst, RegBank, RegClass, RegClassMask, UseKind};
+///
+/// let class = RegClass(0);
+/// let book = Book::new(class, ClassData::new(RegClassMask(1)));
+/// let weight = |remat| {
+///     let options = Options { cheaper_than_load: 0.25, ..Options::default() };
+///     let mut job = Job::new(&book, options, BlockData::new(2, 1.0));
+///     let value = job.value(RegBank(0), remat);
+///     job.segment(value, Inst(0).boundary(), Inst(1).normal(), Flags::LIVE_IN)
+///         .add(Inst(1), UseKind::ClassUse { slot: 0, class });
+///     build(&job).map(|tables| tables.registers().next().map(|register| register.weight))
+/// };
+/// assert_eq!(weight(Remat::None).unwrap(), Some(0.5));
+/// assert_eq!(weight(Remat::CheaperThanLoad).unwrap(), Some(0.125));
+/// ```
 #[derive(Clone, Copy, Debug, Default, PartialEq, Eq)]
 pub enum Remat {
     /// It can't.
@@ -33,6 +51,20 @@ pub struct Operand {
 }
 
 /// A hint to a fixed register. They go by value, then by instruction, outgoing before incoming.
+///
+/// ```
+/// use cundzeli::build::{Book, ClassData, Hint, Job, Options, Remat, build};
+/// use cundzeli::{BlockData, Inst, Refusal, RegBank, RegClass, RegClassMask};
+///
+/// let book = Book::new(RegClass(0), ClassData::new(RegClassMask(1)));
+/// let mut job = Job::new(&book, Options::default(), BlockData::new(2, 1.0));
+/// let value = job.value(RegBank(0), Remat::None);
+/// job.hint(Hint { value, inst: Inst(1), incoming: false });
+/// job.hint(Hint { value, inst: Inst(1), incoming: true });
+/// assert!(build(&job).is_ok());
+/// job.hint(Hint { value, inst: Inst(0), incoming: true });
+/// assert_eq!(build(&job).err(), Some(Refusal::BadHint));
+/// ```
 #[derive(Clone, Copy, Debug, PartialEq, Eq)]
 pub struct Hint {
     /// Whose register is hinted.

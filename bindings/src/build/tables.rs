@@ -35,6 +35,30 @@ pub struct GroupPlace {
 }
 
 /// Where a piece comes from.
+///
+/// Two uses of one instruction that no class fits: the second is turned, and stands in a conflict piece as it was.
+///
+/// ```
+/// use cundzeli::build::{Book, ClassData, Job, Options, Origin, Remat, build};
+/// use cundzeli::{BlockData, Flags, Inst, RegBank, RegClass, RegClassMask, Turned, UseKind};
+///
+/// let mut book = Book::new(RegClass(0), ClassData::new(RegClassMask(0b111)));
+/// let left = book.class(ClassData::new(RegClassMask(0b010)));
+/// let right = book.class(ClassData::new(RegClassMask(0b100)));
+/// let mut job = Job::new(&book, Options::default(), BlockData::new(2, 1.0));
+/// let value = job.value(RegBank(0), Remat::None);
+/// job.segment(value, Inst(0).boundary(), Inst(1).normal(), Flags::NONE)
+///     .add(Inst(1), UseKind::ClassUse { slot: 0, class: left })
+///     .add(Inst(1), UseKind::ClassUse { slot: 1, class: right });
+///
+/// let tables = build(&job)?;
+/// let pieces: Vec<_> = tables.registers().flat_map(|register| tables.segments(&register)).collect();
+/// assert_eq!((pieces[0].origin, pieces[1].origin), (Origin::Own, Origin::Conflict));
+/// let last = |place: usize| tables.uses(&pieces[place]).last().map(|one| one.kind);
+/// assert_eq!(last(0), Some(UseKind::ConstraintConflict(Turned)));
+/// assert_eq!(last(1), Some(UseKind::ClassUse { slot: 1, class: right }));
+/// # Ok::<(), cundzeli::Refusal>(())
+/// ```
 #[derive(Clone, Copy, Debug, PartialEq, Eq)]
 pub enum Origin {
     /// A segment of the job, or a part of one.
@@ -219,8 +243,12 @@ impl Tables {
     }
 
     /// The pieces of a register, by their points.
-    pub fn segments(&self, register: &Register) -> impl ExactSizeIterator<Item = Segment> {
-        register.segments.clone().map(|place| self.segment(place))
+    pub fn segments<'a>(
+        &'a self,
+        register: &Register,
+    ) -> impl ExactSizeIterator<Item = Segment> + use<'a> {
+        let rows = register.segments.clone();
+        rows.map(|place| self.segment(place))
     }
 
     /// The use at a row that a piece names. Rows that none names are zero.
@@ -236,8 +264,9 @@ impl Tables {
     }
 
     /// The uses of a piece, in their order.
-    pub fn uses(&self, segment: &Segment) -> impl ExactSizeIterator<Item = Use> {
-        segment.uses.clone().map(|place| self.a_use(place))
+    pub fn uses<'a>(&'a self, segment: &Segment) -> impl ExactSizeIterator<Item = Use> + use<'a> {
+        let rows = segment.uses.clone();
+        rows.map(|place| self.a_use(place))
     }
 
     /// A group, of those that were made.
