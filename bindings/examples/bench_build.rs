@@ -5,13 +5,14 @@
 //! split placement, the tables of blocks and operands and the leaders of the sets are ready before, one copy for each
 //! call where the pass uses them up; the tables that it fills are those of the call before, cleared but allocated.
 //! Timed on our side is the whole exported function: the entry tests, the indexes it makes in the work space, zeros in
-//! all tables that are lent, and the pass. The binary job, the tables and the work space are there before.
+//! all tables that are lent, and the pass. The binary job, the tables and the work space are there before. It is taken
+//! with tables that just hold the result, with the rows that the job's own counts name, and with the usual ones.
 //! Jobs that are refused are left out: without the watch the Rust does not find every stop.
 
 mod common;
 
-use bindings::build::{Rows, Tables, Work, build};
 use common::{binary, result};
+use cundzeli::build::{Rows, Tables, Work, build_in_rows};
 use oracle::answer::Room;
 use oracle::feed;
 use oracle::job::Job;
@@ -122,24 +123,37 @@ impl<'a> Rust<'a> {
 /// Our side: a binary job and tables of some size.
 struct Ours<'a> {
     bytes: &'a [u8],
+    rows: Rows,
     tables: Tables,
     work: Work,
 }
 
 impl<'a> Ours<'a> {
     fn new(bytes: &'a [u8], rows: Rows) -> Self {
-        Self {
-            bytes,
-            tables: Tables::new(rows),
-            work: Work::new(),
-        }
+        Self { bytes, rows, tables: Tables::new(), work: Work::new() }
+    }
+
+    /// One call; whether the job was accepted.
+    fn call(&mut self) -> bool {
+        let job = black_box(self.bytes);
+        let made = build_in_rows(job, self.rows, &mut self.tables, &mut self.work);
+        black_box((&made, self.tables.bytes().as_ptr()));
+        made.is_ok()
+    }
+
+    /// One call, whose tables must hold this.
+    fn checked(mut self, made: &result::Made) -> Self {
+        assert!(self.call(), "refused");
+        let [a, b, c, d] = result::counts_of(self.rows).map(|rows| rows as usize);
+        let same = made.bytes(Room([a, b, c, d]), self.rows.bytes());
+        assert!(self.tables.bytes() == same, "the results differ");
+        self
     }
 
     fn time(&mut self, calls: usize) -> f64 {
         let start = Instant::now();
         for _ in 0..calls {
-            let made = build(black_box(self.bytes), &mut self.tables, &mut self.work);
-            black_box((&made, &self.tables));
+            self.call();
         }
         start.elapsed().as_nanos() as f64
     }
@@ -155,56 +169,64 @@ fn median(mut times: Vec<f64>) -> f64 {
     }
 }
 
+/// The Rust; ours with tables that just hold the result, with the job's own rows, with the usual ones.
+const SIDES: usize = 4;
+const EXACT: usize = 1;
+const OWN: usize = 2;
+const USUAL: usize = 3;
+
 /// Nanoseconds for one call on each side, the sides taken by turns.
-fn times(sides: &mut [&mut dyn FnMut(usize) -> f64; 3]) -> [f64; 3] {
-    let mut calls = [1; 3];
+fn times(sides: &mut [&mut dyn FnMut(usize) -> f64; SIDES]) -> [f64; SIDES] {
+    let mut calls = [1; SIDES];
     for (side, calls) in sides.iter_mut().zip(&mut calls) {
         side(1);
         let once = side(4) / 4.0;
         *calls = ((SPELL / once.max(1.0)) as usize).clamp(1, MOST_CALLS);
     }
-    let mut taken: [Vec<f64>; 3] = Default::default();
+    let mut taken: [Vec<f64>; SIDES] = Default::default();
     for _ in 0..ROUNDS {
-        for side in 0..3 {
+        for side in 0..SIDES {
             taken[side].push(sides[side](calls[side]) / calls[side] as f64);
         }
     }
     taken.map(median)
 }
 
-/// The times for one job: the Rust's, ours with tables that just hold the result, ours with the usual ones. None if
-/// the job is refused.
-fn measure(job: &Job) -> Option<[f64; 3]> {
+/// The times of all sides for one job. None if it is refused.
+fn measure(job: &Job) -> Option<[f64; SIDES]> {
     let bytes = binary::write(job);
-    let mut usual = Ours::new(&bytes, Rows::default());
-    build(&bytes, &mut usual.tables, &mut usual.work).ok()?;
+    if !Ours::new(&bytes, Rows::USUAL).call() {
+        return None;
+    }
     let made = result::expected(job, Room::default()).expect("a result");
-    let same = made.bytes(Room::default(), Rows::default().bytes());
-    assert!(usual.tables.bytes() == same, "the results differ");
-    let mut exact = Ours::new(&bytes, result::rows_of(made.need()));
+    let ours = |rows| Ours::new(&bytes, rows).checked(&made);
+    let mut exact = ours(result::rows_of(made.need()));
+    let mut own = ours(Rows::for_job(&bytes));
+    let mut usual = ours(Rows::USUAL);
     let mut rust = Rust::new(job);
     Some(times(&mut [
         &mut |calls| rust.time(calls),
         &mut |calls| exact.time(calls),
+        &mut |calls| own.time(calls),
         &mut |calls| usual.time(calls),
     ]))
 }
 
 /// Measures jobs until enough were accepted, and prints a row of the table.
 fn group(name: &str, jobs: impl Iterator<Item = Job>, count: usize) {
-    let measured: Vec<[f64; 3]> = jobs.filter_map(|job| measure(&job)).take(count).collect();
-    let of = |column: fn(&[f64; 3]) -> f64| measured.iter().map(column).collect::<Vec<_>>();
-    let ratios = of(|times| times[1] / times[0]);
-    let lowest = ratios.iter().copied().fold(f64::INFINITY, f64::min);
-    let highest = ratios.iter().copied().fold(0.0, f64::max);
+    let measured: Vec<[f64; SIDES]> = jobs.filter_map(|job| measure(&job)).take(count).collect();
+    let ratios = |side: usize| {
+        let ratio = move |times: &[f64; SIDES]| times[side] / times[0];
+        measured.iter().map(ratio).collect::<Vec<_>>()
+    };
+    let time = |side: usize| median(measured.iter().map(|times| times[side]).collect());
+    let lowest = ratios(EXACT).into_iter().fold(f64::INFINITY, f64::min);
+    let highest = ratios(EXACT).into_iter().fold(0.0, f64::max);
+    let both = |side: usize| format!("{:.0} | {:.2}", time(side), median(ratios(side)));
+    let (exact, own, usual) = (both(EXACT), both(OWN), both(USUAL));
+    let (jobs, rust) = (measured.len(), time(0));
     println!(
-        "| {name} | {} | {:.0} | {:.0} | {:.2} | {lowest:.2} to {highest:.2} | {:.0} | {:.2} |",
-        measured.len(),
-        median(of(|times| times[0])),
-        median(of(|times| times[1])),
-        median(ratios.clone()),
-        median(of(|times| times[2])),
-        median(of(|times| times[2] / times[0])),
+        "| {name} | {jobs} | {rust:.0} | {exact} | {lowest:.2} to {highest:.2} | {own} | {usual} |"
     );
 }
 
@@ -229,9 +251,10 @@ fn main() {
     );
     println!();
     println!(
-        "| Group | Jobs | Rust | Ours | Ratio | Lowest to highest | Ours, usual room | Ratio |"
+        "| Group | Jobs | Rust | Ours | Ratio | Lowest to highest | Ours, the job's own rows | Ratio \
+         | Ours, usual room | Ratio |"
     );
-    println!("|---|---:|---:|---:|---:|---:|---:|---:|");
+    println!("|---|---:|---:|---:|---:|---:|---:|---:|---:|---:|");
     let case_a = sheet::read(CASE_A.replace(' ', "\t").as_bytes()).expect("a sheet");
     group("case A", std::iter::once(case_a), 1);
     group("small jobs", jobs_of("small", seed), jobs);

@@ -3,10 +3,13 @@
 
 mod common;
 
-use bindings::build::{Counts, Refused, Tables, Work, build, build_in_bytes};
 use common::random::Random;
-use common::result::{Made, NAMES, ODD, WIDTHS, expected, room_in, rows_of, sheet};
-use common::{binary, damage};
+use common::result::{
+    Made, NAMES, ODD, WIDTHS, counts_of, expected, parse, room_in, rows_of, sheet,
+};
+use common::{binary, damage, typed};
+use cundzeli::Refusal;
+use cundzeli::build::{Builder, Counts, Rows, Tables, Work, build_in_bytes, build_in_rows};
 use oracle::answer::Room;
 use oracle::frames::Frame;
 use oracle::job::Job;
@@ -20,7 +23,6 @@ use std::{env, io};
 const GUARD: usize = 64;
 /// The longest slice that is lent where the numbers of rows ask for more.
 const LONGEST: usize = 600_000;
-const USUAL: [u32; 4] = [4096, 4096, 8192, 512];
 
 /// One job under trial.
 struct Case<'a> {
@@ -43,6 +45,15 @@ impl Lent {
         Self { rows, length }
     }
 
+    fn usual() -> Self {
+        Self::whole(counts_of(Rows::USUAL))
+    }
+
+    /// The rows that the job's own counts name.
+    fn own(job: &[u8]) -> Self {
+        Self::whole(counts_of(Rows::for_job(job)))
+    }
+
     fn room(self) -> Room {
         room_in(self.rows, self.length)
     }
@@ -51,16 +62,21 @@ impl Lent {
 struct Trials {
     random: Random,
     work: Work,
+    /// Kept through all jobs that the types can express, and how many there were.
+    builder: Builder,
+    typed: u64,
+    /// Calls in the jobs' own rows.
+    own: u64,
     /// How often each number was given, 0 for a result: in this part, and in those before.
     numbers: [u64; 10],
     total: [u64; 10],
 }
 
-fn describe(end: &Result<Counts, Refused>) -> String {
+fn describe(end: &Result<Counts, u32>) -> String {
     match end {
         Ok(made) => format!("{} registers, {} groups", made.registers, made.groups),
-        Err(Refused(ODD)) => "an end that is none of the stops".to_string(),
-        Err(Refused(number)) => format!("refused by {number}"),
+        Err(ODD) => "an end that is none of the stops".to_string(),
+        Err(number) => format!("refused by {number}"),
     }
 }
 
@@ -102,8 +118,20 @@ fn first_difference(room: Room, ours: &[u8], theirs: &[u8]) -> String {
 }
 
 impl Trials {
+    fn new(seed: u64) -> Self {
+        Self {
+            random: Random::new(seed),
+            work: Work::new(),
+            builder: Builder::new(),
+            typed: 0,
+            own: 0,
+            numbers: [0; 10],
+            total: [0; 10],
+        }
+    }
+
     /// One call, at any address, over space that holds anything. Sees that nothing else was written.
-    fn call(&mut self, case: &Case, lent: Lent) -> (Result<Counts, Refused>, Vec<u8>) {
+    fn call(&mut self, case: &Case, lent: Lent) -> (Result<Counts, u32>, Vec<u8>) {
         let odd = self.random.below(8);
         let filling = self.random.next() as u8;
         let mut job = vec![filling; odd + case.bytes.len() + GUARD];
@@ -127,6 +155,7 @@ impl Trials {
         if !outside.into_iter().all(|&byte| byte == filling) {
             differs(case, lent, "bytes beside the result were changed");
         }
+        let end = end.map_err(Refusal::number);
         (end, out[shift..shift + lent.length].to_vec())
     }
 
@@ -134,11 +163,7 @@ impl Trials {
     fn judge(&mut self, case: &Case, lent: Lent) -> Result<Made, u32> {
         let theirs = case.job.map_or(Err(1), |job| expected(job, lent.room()));
         let (end, out) = self.call(case, lent);
-        let number = end.as_ref().map_or_else(|refused| refused.0, |_| 0);
-        let wanted = match &theirs {
-            Ok(made) => Ok(made.counts()),
-            Err(number) => Err(Refused(*number)),
-        };
+        let wanted = theirs.as_ref().map(Made::counts).map_err(|&number| number);
         if end != wanted {
             let (ours, theirs) = (describe(&end), describe(&wanted));
             differs(case, lent, &format!("{ours}\n    expected {theirs}"));
@@ -149,8 +174,42 @@ impl Trials {
         if out != bytes {
             differs(case, lent, &first_difference(lent.room(), &out, &bytes));
         }
-        self.numbers[number as usize] += 1;
+        self.numbers[end.err().unwrap_or(0) as usize] += 1;
         theirs
+    }
+
+    /// In the usual room and in the job's own rows: the same answer, which is given.
+    fn usual(&mut self, case: &Case) -> Result<Made, u32> {
+        let usual = self.judge(case, Lent::usual());
+        let own = Lent::own(case.bytes);
+        if self.judge(case, own) != usual {
+            differs(case, own, "another answer than in the usual room");
+        }
+        self.own += 1;
+        usual
+    }
+
+    /// Where the types can express the job: the same bytes by them, and the same answer, read by them too.
+    fn by_types(&mut self, case: &Case, usual: &Result<Made, u32>) {
+        let Some(job) = case.job.and_then(typed::typed) else {
+            return;
+        };
+        let lent = Lent::own(case.bytes);
+        if job.bytes() != case.bytes {
+            differs(case, lent, "other bytes by the types");
+        }
+        let ours = self.builder.build(&job).map_err(Refusal::number);
+        let read = ours.map(|tables| parse(&sheet(tables)));
+        if read != *usual {
+            differs(case, lent, &format!("{read:?} by the types"));
+        }
+        if let (Ok(tables), Ok(made)) = (ours, usual) {
+            let bytes = made.bytes(lent.room(), lent.length);
+            if tables.bytes() != bytes {
+                differs(case, lent, "other tables by the types");
+            }
+        }
+        self.typed += 1;
     }
 
     /// Any numbers of rows in a slice of any length, often near what is needed.
@@ -175,25 +234,23 @@ impl Trials {
         lent
     }
 
-    /// A job in the usual room and in others: any, exactly what the result needs, one row less.
+    /// A job in the usual room and in others: its own rows, any, exactly what the result needs, one row less.
     fn rooms(&mut self, case: &Case, given: Option<Room>) {
         if let Some(Room(rows)) = given {
             let lent = Lent::whole(rows.map(|rows| rows as u32));
             let _ = self.judge(case, lent);
         }
-        let usual = self.judge(case, Lent::whole(USUAL));
+        let usual = self.usual(case);
+        self.by_types(case, &usual);
         let need = usual.as_ref().map_or([3, 4, 8, 1], Made::need);
         let lent = self.any_room(need);
         let _ = self.judge(case, lent);
         if usual.is_err() {
             return;
         }
-        if self.judge(case, Lent::whole(need)).is_err() {
-            differs(
-                case,
-                Lent::whole(need),
-                "what the result needs is not enough",
-            );
+        let exact = Lent::whole(need);
+        if self.judge(case, exact).is_err() {
+            differs(case, exact, "what the result needs is not enough");
         }
         let table = self.random.below(4);
         if need[table] > 0 {
@@ -219,7 +276,8 @@ impl Trials {
             };
             self.rooms(&case, frame.room);
         }
-        self.line(profile, &format!("{jobs} jobs"));
+        let typed = std::mem::take(&mut self.typed);
+        self.line(profile, &format!("{jobs} jobs, {typed} by the types too"));
     }
 
     /// Jobs of all profiles with their bytes damaged, each in any room.
@@ -230,13 +288,11 @@ impl Trials {
             let bytes = damage::damaged(&job_of(seed, &mut self.random), &mut self.random);
             let job = binary::read(&bytes);
             readable += u64::from(job.is_some());
-            let case = Case {
-                origin: format!("damaged bytes, {seed}"),
-                bytes: &bytes,
-                job: job.as_ref(),
-            };
+            let case =
+                Case { origin: format!("damaged bytes, {seed}"), bytes: &bytes, job: job.as_ref() };
             let lent = self.any_room([20, 30, 60, 5]);
             let _ = self.judge(&case, lent);
+            let _ = self.usual(&case);
         }
         let what = format!("{count} slices, {readable} of them pass test 1");
         self.line("damaged bytes", &what);
@@ -254,7 +310,7 @@ impl Trials {
                 bytes: &bytes,
                 job: job.as_ref(),
             };
-            let _ = self.judge(&case, Lent::whole(USUAL));
+            let _ = self.usual(&case);
         }
         self.line("littered words", &format!("{count} jobs"));
     }
@@ -302,10 +358,11 @@ fn replay(room: Option<&str>) {
     let mut bytes = Vec::new();
     io::stdin().read_to_end(&mut bytes).expect("a sheet");
     let job = oracle::sheet::read(&bytes).expect("a sheet that passes test 1");
-    let mut tables = Tables::new(rows_of(room.0.map(|rows| rows as u32)));
-    let ours = match build(&binary::write(&job), &mut tables, &mut Work::new()) {
+    let (mut tables, mut work) = (Tables::new(), Work::new());
+    let rows = rows_of(room.0.map(|rows| rows as u32));
+    let ours = match build_in_rows(&binary::write(&job), rows, &mut tables, &mut work) {
         Ok(_) => sheet(&tables),
-        Err(Refused(number)) => format!("refused\t{number}\n"),
+        Err(refusal) => format!("refused\t{}\n", refusal.number()),
     };
     let theirs = oracle::answer::answer(&bytes, room).text;
     print!("the exported builder:\n{ours}the oracle:\n{theirs}");
@@ -324,21 +381,15 @@ fn main() {
     let mut args = args.iter().map(|arg| arg.parse::<u64>().expect("a number"));
     let jobs = args.next().unwrap_or(2000);
     let seed = args.next().unwrap_or(1);
-    let mut trials = Trials {
-        random: Random::new(seed),
-        work: Work::new(),
-        numbers: [0; 10],
-        total: [0; 10],
-    };
+    let mut trials = Trials::new(seed);
     for profile in PROFILES {
-        let count = if profile == "limits" {
-            jobs.div_ceil(50)
-        } else {
-            jobs
-        };
+        let fewer = if profile == "limits" { 50 } else { 1 };
+        let count = jobs.div_ceil(fewer);
         trials.profile(profile, seed * count..(seed + 1) * count);
     }
     trials.littered(seed * jobs..(seed + 1) * jobs);
     trials.damaged(seed * 4 * jobs..(seed + 1) * 4 * jobs);
+    let own = trials.own;
     println!("in all: {}: no difference", told(&trials.total));
+    println!("of these {own} in the job's own rows: the answer of the usual room each time");
 }

@@ -1,7 +1,8 @@
 //! The exported cut finder beside the Rust's `SplitPlacement::find_optimal_split_point`, and on damaged input beside
 //! document 01's numbers. `compare_cuts [QUERIES [SEED]]`.
 
-use bindings::cut::{Refused, Work, find_in_bytes};
+use cundzeli::Refusal;
+use cundzeli::cut::{Work, find_in_bytes};
 use oracle::job::{Block, Job};
 use oracle::tables::Tables;
 use reference::function::Inst;
@@ -100,9 +101,9 @@ fn rust(placement: &SplitPlacement, tables: &Tables, after: u32, before: u32, ea
 }
 
 /// Document 01's answer to any input: its numbers, or what the Rust gives.
-fn expected(bytes: &[u8], after: u32, before: u32, side: u32) -> Result<u32, Refused> {
+fn expected(bytes: &[u8], after: u32, before: u32, side: u32) -> Result<u32, Refusal> {
     if side > 1 || !bytes.len().is_multiple_of(8) || bytes.is_empty() {
-        return Err(Refused(1));
+        return Err(Refusal::NotARecord);
     }
     let word = |at: usize| u32::from_le_bytes(bytes[at..at + 4].try_into().unwrap());
     let rows: Vec<(u32, u32)> = (0..bytes.len())
@@ -111,26 +112,20 @@ fn expected(bytes: &[u8], after: u32, before: u32, side: u32) -> Result<u32, Ref
         .collect();
     let total: u64 = rows.iter().map(|row| u64::from(row.0)).sum();
     if rows.len() > 512 || total > 4096 {
-        return Err(Refused(2));
+        return Err(Refusal::OverALimit);
     }
     let fine = rows.iter().all(|&(insts, bits)| {
         let frequency = f32::from_bits(bits);
         insts > 0 && frequency.is_finite() && frequency.is_sign_positive()
     });
     if !fine || after >= before || u64::from(before) >= total {
-        return Err(Refused(4));
+        return Err(Refusal::BadFunction);
     }
     let blocks = rows
         .iter()
-        .map(|&(insts, bits)| Block {
-            insts,
-            frequency: f32::from_bits(bits),
-        })
+        .map(|&(insts, bits)| Block { insts, frequency: f32::from_bits(bits) })
         .collect();
-    let job = Job {
-        blocks,
-        ..Job::default()
-    };
+    let job = Job { blocks, ..Job::default() };
     let tables = Tables::new(&job);
     let mut placement = SplitPlacement::new();
     placement.prepare(&tables);
@@ -147,8 +142,8 @@ fn differs(
     what: &str,
     bytes: &[u8],
     query: (u32, u32, u32),
-    ours: Result<u32, Refused>,
-    theirs: Result<u32, Refused>,
+    ours: Result<u32, Refusal>,
+    theirs: Result<u32, Refusal>,
 ) -> ! {
     println!("{what}: {query:?} over {bytes:02x?}: {ours:?}, expected {theirs:?}");
     exit(1)
@@ -159,10 +154,7 @@ fn accepted(queries: u64, random: &mut Random, work: &mut Work, counts: &mut Cou
     while counts.queries < queries {
         let blocks = blocks(random);
         let bytes = rows(&blocks);
-        let job = Job {
-            blocks,
-            ..Job::default()
-        };
+        let job = Job { blocks, ..Job::default() };
         let tables = Tables::new(&job);
         let insts = job.inst_count();
         if insts < 2 {
@@ -244,11 +236,7 @@ fn main() {
     let seed = args.next().unwrap_or(1);
     let mut random = Random(seed.wrapping_mul(0x9e37_79b9_7f4a_7c15) | 1);
     let mut work = Work::new();
-    let mut counts = Counts {
-        queries: 0,
-        moved: 0,
-        answers: [0; 5],
-    };
+    let mut counts = Counts { queries: 0, moved: 0, answers: [0; 5] };
     work.bytes()
         .iter_mut()
         .for_each(|byte| *byte = random.next() as u8);
@@ -264,7 +252,7 @@ fn main() {
         if ours != theirs {
             differs("damaged", &bytes, (after, before, side), ours, theirs);
         }
-        counts.answers[ours.map_or_else(|refused| refused.0, |_| 0) as usize] += 1;
+        counts.answers[ours.map_or_else(Refusal::number, |_| 0) as usize] += 1;
     }
     let [accepted, one, two, _, four] = counts.answers;
     println!(

@@ -1,67 +1,66 @@
-//! Binary jobs: written from the oracle's jobs, and read by docs/TABLES.md once more.
+//! Binary jobs: written word by word from the oracle's jobs, and read by docs/TABLES.md once more.
 
-use bindings::build::{Class, JobBytes, Operand, Remat};
 use oracle::job::{self, Job, USE_FIELDS};
 
-/// The binary job of a job.
+/// The binary job of a job, which may have what the types of `cundzeli::build` can't express.
 pub fn write(job: &Job) -> Vec<u8> {
-    let mut parts = JobBytes::new(job.adjust, job.scales);
-    write_book(job, &mut parts);
-    write_function(job, &mut parts);
-    for seg in &job.segs {
-        parts.segment(seg.value, seg.from, seg.to, seg.flags);
-        for u in job.uses_of(seg) {
-            parts.a_use(u.kind, u.inst, u.fields);
-        }
-    }
-    parts.bytes()
+    let [a, b, c] = job.scales.map(f32::to_bits);
+    joined([job.adjust, a, b, c], &rows(job))
 }
 
-fn write_book(job: &Job, parts: &mut JobBytes) {
-    for &top in &job.banks {
-        parts.bank(top);
-    }
-    for class in &job.classes {
-        parts.class(Class {
-            mask: class.mask,
-            cost: class.cost,
-            group_size: class.size,
-            spillslots: class.spillslots,
-        });
-    }
-    for &memory in &job.regs {
-        parts.reg(memory);
-    }
+fn table<T>(items: &[T], row: impl Fn(&T) -> Vec<u32>) -> Vec<Vec<u32>> {
+    items.iter().map(row).collect()
 }
 
-const REMATS: [Remat; 4] = [
-    Remat::None,
-    Remat::CheaperThanMove,
-    Remat::CheaperThanLoad,
-    Remat::Indirect,
-];
+fn rows(job: &Job) -> [Vec<Vec<u32>>; 10] {
+    [
+        table(&job.banks, |&top| vec![top]),
+        table(&job.classes, class_row),
+        table(&job.regs, |&memory| vec![memory.into()]),
+        table(&job.blocks, |row| vec![row.insts, row.frequency.to_bits()]),
+        table(&job.values, |row| vec![row.bank, row.leader, row.remat]),
+        table(&job.vgroups, |members| vgroup_row(members)),
+        table(&job.operands, |row| {
+            vec![row.inst, row.slot, row.vgroup, row.class]
+        }),
+        table(&job.hints, |row| {
+            vec![row.value, row.inst, row.incoming.into()]
+        }),
+        table(&job.segs, seg_row),
+        table(&job.uses, |row| {
+            [[row.kind, row.inst].as_slice(), &row.fields].concat()
+        }),
+    ]
+}
 
-fn write_function(job: &Job, parts: &mut JobBytes) {
-    for block in &job.blocks {
-        parts.block(block.insts, block.frequency);
-    }
-    for value in &job.values {
-        parts.value(value.bank, value.leader, REMATS[value.remat as usize]);
-    }
-    for members in &job.vgroups {
-        parts.vgroup(members);
-    }
-    for operand in &job.operands {
-        parts.operand(Operand {
-            inst: operand.inst,
-            slot: operand.slot,
-            vgroup: operand.vgroup,
-            class: operand.class,
-        });
-    }
-    for hint in &job.hints {
-        parts.hint(hint.value, hint.inst, hint.incoming);
-    }
+fn class_row(class: &job::Class) -> Vec<u32> {
+    let spillslots = class.spillslots.into();
+    vec![class.mask, class.cost.to_bits(), class.size, spillslots]
+}
+
+fn vgroup_row(members: &[u32]) -> Vec<u32> {
+    let mut row = vec![members.len() as u32];
+    row.extend(members.iter().take(8));
+    row.resize(9, 0);
+    row
+}
+
+fn seg_row(seg: &job::Seg) -> Vec<u32> {
+    vec![
+        seg.value,
+        seg.from,
+        seg.to,
+        seg.flags,
+        seg.uses.start as u32,
+    ]
+}
+
+/// Puts the rows behind a header that counts them.
+pub fn joined(options: [u32; 4], rows: &[Vec<Vec<u32>>; 10]) -> Vec<u8> {
+    let counts = rows.iter().map(|table| table.len() as u32);
+    let all = rows.iter().flatten().flatten().copied();
+    let words = counts.chain(options).chain(all);
+    words.flat_map(u32::to_le_bytes).collect()
 }
 
 /// Words of the header, and words in a row of each table, in order.
@@ -139,17 +138,12 @@ fn read_book(rows: &[Vec<Vec<u32>>; 10], job: &mut Job) -> Option<()> {
 
 fn read_function(rows: &[Vec<Vec<u32>>; 10], job: &mut Job) -> Option<()> {
     for row in &rows[3] {
-        job.blocks.push(job::Block {
-            insts: row[0],
-            frequency: f32::from_bits(row[1]),
-        });
+        job.blocks
+            .push(job::Block { insts: row[0], frequency: f32::from_bits(row[1]) });
     }
     for row in &rows[VALUES] {
-        job.values.push(job::Value {
-            bank: row[0],
-            leader: row[1],
-            remat: choice(row[2], 3)?,
-        });
+        job.values
+            .push(job::Value { bank: row[0], leader: row[1], remat: choice(row[2], 3)? });
     }
     job.vgroups = rows[VGROUPS].iter().map(|row| members(row)).collect();
     for row in &rows[6] {
@@ -183,11 +177,7 @@ fn read_use(row: &[u32]) -> Option<job::Use> {
     let own = USE_FIELDS[kind as usize];
     let mut fields = [0; 4];
     fields[..own].copy_from_slice(&row[2..2 + own]);
-    Some(job::Use {
-        kind,
-        inst: row[1],
-        fields,
-    })
+    Some(job::Use { kind, inst: row[1], fields })
 }
 
 /// A segment's uses go from its count up to the next one's, the last one's up to the number of uses.

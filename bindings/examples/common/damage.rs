@@ -1,7 +1,7 @@
 //! Binary jobs damaged: cut off, added to, words drawn anew, counts changed, choices off their lists.
 
 use super::binary::{CLASSES, HEADER, HINTS, REGS, SEGMENTS, USES, VALUES, VGROUPS, WIDTHS};
-use super::binary::{tables, words};
+use super::binary::{joined, tables, words};
 use super::random::Random;
 use oracle::job::USE_FIELDS;
 
@@ -40,6 +40,12 @@ const EDGES: [u32; 32] = [
     0x7fff_ffff,
     u32::MAX,
 ];
+
+/// What the header has behind the counts.
+fn options(words: &[u32]) -> [u32; 4] {
+    let options = &words[WIDTHS.len()..HEADER];
+    options.try_into().expect("four words")
+}
 
 fn to_bytes(words: &[u32]) -> Vec<u8> {
     words.iter().flat_map(|word| word.to_le_bytes()).collect()
@@ -120,14 +126,6 @@ fn in_counts(bytes: &mut Vec<u8>, random: &mut Random) {
     *bytes = to_bytes(&words);
 }
 
-/// Puts the rows behind a header that counts them.
-fn joined(header: &[u32], rows: &[Vec<Vec<u32>>; 10]) -> Vec<u8> {
-    let counts = rows.iter().map(|table| table.len() as u32);
-    let options = header[WIDTHS.len()..HEADER].iter().copied();
-    let all = rows.iter().flatten().flatten().copied();
-    to_bytes(&counts.chain(options).chain(all).collect::<Vec<_>>())
-}
-
 /// Rows left out, doubled, swapped or drawn anew, and the header true to them.
 fn in_rows(bytes: &mut Vec<u8>, random: &mut Random) {
     let Some(words) = words(bytes) else {
@@ -155,7 +153,7 @@ fn in_rows(bytes: &mut Vec<u8>, random: &mut Random) {
         ),
         _ => {}
     }
-    *bytes = joined(&words, &rows);
+    *bytes = joined(options(&words), &rows);
 }
 
 /// Bytes that never were a job.
@@ -210,7 +208,7 @@ fn off_list(bytes: &mut Vec<u8>, random: &mut Random) {
         2 => random.below(most as usize + 1) as u32,
         _ => drawn(random, *word),
     };
-    *bytes = joined(&words, &rows);
+    *bytes = joined(options(&words), &rows);
 }
 
 /// The same job with other words where none are read.
@@ -225,5 +223,5 @@ pub fn littered(job: &[u8], random: &mut Random) -> Vec<u8> {
         let unread = 2 + USE_FIELDS[row[0] as usize];
         row[unread..].fill_with(|| random.word());
     }
-    joined(&words, &rows)
+    joined(options(&words), &rows)
 }

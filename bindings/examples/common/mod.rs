@@ -6,3 +6,4 @@ pub mod binary;
 pub mod damage;
 pub mod random;
 pub mod result;
+pub mod typed;

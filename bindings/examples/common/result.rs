@@ -1,10 +1,11 @@
 //! Results: the oracle's register sheets as rows of tables, and tables as register sheets.
 
-use bindings::build::{Counts, Origin, Rows, Tables};
+use cundzeli::build::{Counts, Group, Origin, Register, Rows, Segment, Tables, Use};
 use oracle::answer::{Answer, Room, answer_job};
 use oracle::entry;
-use oracle::job::{Job, USE_FIELDS};
+use oracle::job::Job;
 use oracle::run::STOPS;
+use std::fmt;
 
 /// Words in a row of each table, and what they are called.
 pub const WIDTHS: [usize; 4] = [8, 7, 6, 9];
@@ -50,12 +51,12 @@ impl Made {
 
 pub fn rows_of(counts: [u32; 4]) -> Rows {
     let [registers, segments, uses, groups] = counts;
-    Rows {
-        registers,
-        segments,
-        uses,
-        groups,
-    }
+    Rows { registers, segments, uses, groups }
+}
+
+/// The four numbers of rows.
+pub fn counts_of(rows: Rows) -> [u32; 4] {
+    [rows.registers, rows.segments, rows.uses, rows.groups]
 }
 
 /// The whole rows that a slice of `length` bytes has for each table.
@@ -74,11 +75,7 @@ pub fn expected(job: &Job, room: Room) -> Result<Made, u32> {
     if let Some(number) = entry::refusal(job) {
         return Err(number.into());
     }
-    let Answer {
-        text,
-        number,
-        cause,
-    } = answer_job(job, room);
+    let Answer { text, number, cause } = answer_job(job, room);
     if cause.is_some_and(|cause| !STOPS.contains(&cause.as_str())) {
         return Err(ODD);
     }
@@ -137,38 +134,51 @@ pub fn parse(text: &str) -> Made {
     made
 }
 
+/// Tab and number, or tab and dash.
+fn dashed<T: fmt::Display>(number: Option<T>) -> String {
+    number.map_or("\t-".to_string(), |number| format!("\t{number}"))
+}
+
 /// The register sheet of tables, as the oracle writes it.
 pub fn sheet(tables: &Tables) -> String {
-    let dash = |number: Option<u32>| number.map_or("-".to_string(), |number| number.to_string());
-    let mut lines = Vec::new();
-    for (place, register) in tables.registers().enumerate() {
-        let (set, class, weight) = (register.set, register.class, register.weight.to_bits());
-        let (group, index) = (dash(register.group), register.group_index);
-        let hint = u8::from(register.fixed_hint);
-        lines.push(format!(
-            "vreg\t{place}\t{set}\t{class}\t{weight:08x}\t{group}\t{index}\t{hint}"
-        ));
-        for segment in tables.segments(&register) {
-            let (value, from, to, flags) = (segment.value, segment.from, segment.to, segment.flags);
-            let origin = match segment.origin {
-                Origin::Own => "own",
-                Origin::Conflict => "conflict",
-            };
-            lines.push(format!("seg\t{value}\t{from}\t{to}\t{flags}\t{origin}"));
-            for u in tables.uses(&segment) {
-                let own = &u.fields[..USE_FIELDS[u.kind as usize]];
-                let fields: String = own.iter().map(|field| format!("\t{field}")).collect();
-                lines.push(format!("use\t{}\t{}{fields}", u.kind, u.inst));
-            }
-        }
+    let mut text = String::new();
+    for register in tables.registers() {
+        text += &register_lines(tables, &register);
     }
-    for (place, group) in tables.groups().enumerate() {
-        let members: String = (group.members.iter())
-            .map(|&member| format!("\t{}", dash(member)))
-            .collect();
-        lines.push(format!("group\t{place}{members}"));
+    for Group { number, members } in tables.groups() {
+        let members: String = members.into_iter().map(dashed).collect();
+        text += &format!("group\t{number}{members}\n");
     }
     let made = tables.made();
-    lines.push(format!("end\t{}\t{}\n", made.registers, made.groups));
-    lines.join("\n")
+    text + &format!("end\t{}\t{}\n", made.registers, made.groups)
+}
+
+fn register_lines(tables: &Tables, register: &Register) -> String {
+    let (number, set, class) = (register.number, register.set, register.class);
+    let weight = register.weight.to_bits();
+    let group = dashed(register.group.map(|place| place.group));
+    let index = register.group.map_or(0, |place| place.index);
+    let hint = u8::from(register.fixed_hint);
+    let mut text =
+        format!("vreg\t{number}\t{set}\t{class}\t{weight:08x}{group}\t{index}\t{hint}\n");
+    for segment in tables.segments(register) {
+        text += &segment_lines(tables, &segment);
+    }
+    text
+}
+
+fn segment_lines(tables: &Tables, segment: &Segment) -> String {
+    let (value, from, to) = (segment.value, segment.from, segment.to);
+    let flags = segment.flags.bits();
+    let origin = match segment.origin {
+        Origin::Own => "own",
+        Origin::Conflict => "conflict",
+    };
+    let mut text = format!("seg\t{value}\t{from}\t{to}\t{flags}\t{origin}\n");
+    for Use { inst, kind } in tables.uses(segment) {
+        let fields = kind.fields().into_iter();
+        let fields: String = fields.map(|field| format!("\t{field}")).collect();
+        text += &format!("use\t{}\t{inst}{fields}\n", kind.number());
+    }
+    text
 }

@@ -1,145 +1,273 @@
-//! A binary job, written part by part.
+//! A job, written part by part.
 
-/// A register class.
-#[derive(Clone, Copy, Debug, PartialEq)]
-pub struct Class {
-    /// Bit i: class i is a subclass.
-    pub mask: u32,
-    pub cost: f32,
-    pub group_size: u32,
-    pub spillslots: bool,
-}
+use super::book::{Book, Options};
+use super::table::Table;
+use crate::{Block, BlockData, Flags, Inst, Point, RegBank, RegClass, UseKind, Value, ValueGroup};
+use std::convert::Infallible;
 
-/// How a value can be made again.
+/// How a value can be made again, which scales the costs of its uses.
+///
+/// ```
+/// use cundzeli::build::{Book, ClassData, Job, Options, Remat, build};
+/// use cundzeli::{BlockData, Flags, Inst, RegBank, RegClass, RegClassMask, UseKind};
+///
+/// let class = RegClass(0);
+/// let book = Book::new(class, ClassData::new(RegClassMask(1)));
+/// let weight = |remat| {
+///     let options = Options { cheaper_than_load: 0.25, ..Options::default() };
+///     let mut job = Job::new(&book, options, BlockData::new(2, 1.0));
+///     let value = job.value(RegBank(0), remat);
+///     job.segment(value, Inst(0).boundary(), Inst(1).normal(), Flags::LIVE_IN)
+///         .add(Inst(1), UseKind::ClassUse { slot: 0, class });
+///     build(&job).map(|tables| tables.registers().next().map(|register| register.weight))
+/// };
+/// assert_eq!(weight(Remat::None).unwrap(), Some(0.5));
+/// assert_eq!(weight(Remat::CheaperThanLoad).unwrap(), Some(0.125));
+/// ```
 #[derive(Clone, Copy, Debug, Default, PartialEq, Eq)]
 pub enum Remat {
+    /// It can't.
     #[default]
     None,
+    /// More cheaply than it is moved.
     CheaperThanMove,
+    /// More cheaply than it is loaded.
     CheaperThanLoad,
+    /// From other values.
     Indirect,
 }
 
 /// An operand that is a value group.
 #[derive(Clone, Copy, Debug, PartialEq, Eq)]
 pub struct Operand {
-    pub inst: u32,
-    pub slot: u32,
-    pub vgroup: u32,
-    pub class: u32,
+    /// Where it stands.
+    pub inst: Inst,
+    /// Which operand of the instruction it is.
+    pub slot: u16,
+    /// What it is made of.
+    pub vgroup: ValueGroup,
+    /// Its class, whose group size is the number of the value group's members.
+    pub class: RegClass,
 }
 
-/// The tables of a job, in their order in the slice.
-const BANKS: usize = 0;
-const CLASSES: usize = 1;
-const REGS: usize = 2;
-const BLOCKS: usize = 3;
-const VALUES: usize = 4;
-const VGROUPS: usize = 5;
-const OPERANDS: usize = 6;
-const HINTS: usize = 7;
-const SEGMENTS: usize = 8;
-const USES: usize = 9;
-
-/// Words in a row of each.
-const WIDTHS: [usize; 10] = [1, 4, 1, 2, 3, 9, 4, 3, 5, 6];
+/// A hint to a fixed register. They go by value, then by instruction, outgoing before incoming.
+///
+/// ```
+/// use cundzeli::build::{Book, ClassData, Hint, Job, Options, Remat, build};
+/// use cundzeli::{BlockData, Inst, Refusal, RegBank, RegClass, RegClassMask};
+///
+/// let book = Book::new(RegClass(0), ClassData::new(RegClassMask(1)));
+/// let mut job = Job::new(&book, Options::default(), BlockData::new(2, 1.0));
+/// let value = job.value(RegBank(0), Remat::None);
+/// job.hint(Hint { value, inst: Inst(1), incoming: false });
+/// job.hint(Hint { value, inst: Inst(1), incoming: true });
+/// assert!(build(&job).is_ok());
+/// job.hint(Hint { value, inst: Inst(0), incoming: true });
+/// assert_eq!(build(&job).err(), Some(Refusal::BadHint));
+/// ```
+#[derive(Clone, Copy, Debug, PartialEq, Eq)]
+pub struct Hint {
+    /// Whose register is hinted.
+    pub value: Value,
+    /// Where.
+    pub inst: Inst,
+    /// Incoming, or else outgoing.
+    pub incoming: bool,
+}
 
 /// Places for members in a row of a value group.
 const MEMBERS: usize = 8;
 
-/// A job in parts. Numbers are given out in the order in which parts are added, from 0 in each table. Nothing is
-/// tested here: the builder refuses what is not in order.
-#[derive(Clone, Debug, Default)]
-pub struct JobBytes {
-    adjust: u32,
-    scales: [u32; 3],
-    tables: [Vec<u32>; 10],
+/// A job in parts. Blocks, values and value groups are numbered from 0 in the order in which they are added.
+///
+/// Nothing is tested here: [`build`](super::build()) refuses what is not in order. But **no job of this type is refused
+/// by 1**, whatever is put into it. Number 1 has these grounds (docs/TABLES.md), and each is ruled out:
+///
+/// - *The slice is not as long as its header says.* [`bytes`](Self::bytes) counts the rows that it writes, and a table
+///   can't have more rows than a word counts (adding one panics).
+/// - *No bank, no class or no block.* A [`Book`] begins with a bank and a class, a job with a book and a block, and
+///   nothing is ever taken away.
+/// - *A choice off its list.* Spillslots, memory and incoming are `bool`, remat is [`Remat`], and flags are [`Flags`],
+///   whose sum is 15 at most.
+/// - *A kind above 9.* Kinds are [`UseKind`]. Kind 3 can't be given either: a job's has no
+///   [`ConstraintConflict`](UseKind::ConstraintConflict).
+/// - *Use counts that fall, begin above 0 or pass the number of uses; uses without a segment.* A segment is begun with
+///   the number of uses so far, which never falls, and is 0 for the first one, since uses are added through
+///   [`SegmentUses`] alone, which a begun segment gives.
+///
+/// What the types rule out besides: a slot 3 of a point (6), a slot or group index beyond its type (4, 7).
+///
+/// ```
+/// use cundzeli::build::{Book, ClassData, Job, Options, Remat, build};
+/// use cundzeli::{BlockData, Flags, Inst, RegBank, RegClass, RegClassMask, UseKind};
+///
+/// let mut book = Book::new(RegClass(0), ClassData::new(RegClassMask(0b111)));
+/// let left = book.class(ClassData::new(RegClassMask(0b010)));
+/// let right = book.class(ClassData::new(RegClassMask(0b100)));
+///
+/// let mut job = Job::new(&book, Options::default(), BlockData::new(2, 1.0));
+/// job.block(BlockData::new(2, 0.5));
+/// let value = job.value(RegBank(0), Remat::None);
+/// job.segment(value, Inst(0).normal(), Inst(3).normal(), Flags::NONE)
+///     .add(Inst(0), UseKind::ClassDef { slot: 0, class: left })
+///     .add(Inst(3), UseKind::ClassUse { slot: 0, class: right });
+///
+/// let tables = build(&job)?;
+/// assert_eq!(tables.made().registers, 2);
+/// # Ok::<(), cundzeli::Refusal>(())
+/// ```
+#[derive(Clone, Debug)]
+pub struct Job {
+    options: Options,
+    book: Book,
+    blocks: Table<2>,
+    values: Table<3>,
+    vgroups: Table<9>,
+    operands: Table<4>,
+    hints: Table<3>,
+    segments: Table<5>,
+    uses: Table<6>,
 }
 
-impl JobBytes {
-    /// A job with nothing in it but its options: the weight adjust and the scales of rematerialization, cheaper than
-    /// a move, cheaper than a load, indirect.
-    pub fn new(adjust: u32, scales: [f32; 3]) -> Self {
-        Self {
-            adjust,
-            scales: scales.map(f32::to_bits),
-            tables: Default::default(),
-        }
+impl Job {
+    /// A job over a book, begun with block 0.
+    pub fn new(book: &Book, options: Options, first: BlockData) -> Self {
+        let mut job = Self {
+            options,
+            book: book.clone(),
+            blocks: Table::new(),
+            values: Table::new(),
+            vgroups: Table::new(),
+            operands: Table::new(),
+            hints: Table::new(),
+            segments: Table::new(),
+            uses: Table::new(),
+        };
+        job.block(first);
+        job
     }
 
-    fn add(&mut self, table: usize, row: &[u32]) {
-        debug_assert_eq!(row.len(), WIDTHS[table]);
-        self.tables[table].extend_from_slice(row);
+    /// The next block.
+    pub fn block(&mut self, block: BlockData) -> Block {
+        Block(self.blocks.add(block.row()))
     }
 
-    fn count(&self, table: usize) -> u32 {
-        (self.tables[table].len() / WIDTHS[table]) as u32
+    /// The next value, which leads its set.
+    pub fn value(&mut self, bank: RegBank, remat: Remat) -> Value {
+        self.value_led_by(Value(self.values.count()), bank, remat)
     }
 
-    pub fn bank(&mut self, top_class: u32) {
-        self.add(BANKS, &[top_class]);
+    /// The next value, in the set of another one that leads itself. The segments of a set never overlap.
+    pub fn value_led_by(&mut self, leader: Value, bank: RegBank, remat: Remat) -> Value {
+        Value(self.values.add([bank.0, leader.0, remat as u32]))
     }
 
-    pub fn class(&mut self, class: Class) {
-        let row = [
-            class.mask,
-            class.cost.to_bits(),
-            class.group_size,
-            u32::from(class.spillslots),
-        ];
-        self.add(CLASSES, &row);
-    }
-
-    pub fn reg(&mut self, memory: bool) {
-        self.add(REGS, &[u32::from(memory)]);
-    }
-
-    pub fn block(&mut self, insts: u32, frequency: f32) {
-        self.add(BLOCKS, &[insts, frequency.to_bits()]);
-    }
-
-    pub fn value(&mut self, bank: u32, leader: u32, remat: Remat) {
-        self.add(VALUES, &[bank, leader, remat as u32]);
-    }
-
-    /// A value group. Of more members than a row has places for, only their number is written, and refused.
-    pub fn vgroup(&mut self, members: &[u32]) {
+    /// The next value group, of 2 to 8 members. Of more, the first 8 and their number are written, and refused (4).
+    pub fn vgroup(&mut self, members: &[Value]) -> ValueGroup {
         let mut row = [0; 1 + MEMBERS];
         row[0] = u32::try_from(members.len()).unwrap_or(u32::MAX);
         for (place, &member) in row[1..].iter_mut().zip(members) {
-            *place = member;
+            *place = member.0;
         }
-        self.add(VGROUPS, &row);
+        ValueGroup(self.vgroups.add(row))
     }
 
+    /// An operand that is a value group. No two have the same instruction and slot.
     pub fn operand(&mut self, operand: Operand) {
-        let row = [operand.inst, operand.slot, operand.vgroup, operand.class];
-        self.add(OPERANDS, &row);
+        let slot = u32::from(operand.slot);
+        let (vgroup, class) = (operand.vgroup.0, operand.class.0);
+        self.operands.add([operand.inst.0, slot, vgroup, class]);
     }
 
-    pub fn hint(&mut self, value: u32, inst: u32, incoming: bool) {
-        self.add(HINTS, &[value, inst, u32::from(incoming)]);
+    /// A hint, behind those before it.
+    pub fn hint(&mut self, hint: Hint) {
+        let incoming = u32::from(hint.incoming);
+        self.hints.add([hint.value.0, hint.inst.0, incoming]);
     }
 
-    /// A segment; the uses that are added behind it are its own. Flags: 1 live-in, 2 live-out, 4 fixed hint, 8 fixed
-    /// definition.
-    pub fn segment(&mut self, value: u32, from: u32, to: u32, flags: u32) {
-        let before = self.count(USES);
-        self.add(SEGMENTS, &[value, from, to, flags, before]);
+    /// Begins a segment, and gives what its uses are added by. Segments go by set, in a set by their points.
+    pub fn segment(
+        &mut self,
+        value: Value,
+        from: Point,
+        to: Point,
+        flags: Flags,
+    ) -> SegmentUses<'_> {
+        let (from, to, before) = (from.number(), to.number(), self.uses.count());
+        self.segments.add([value.0, from, to, flags.bits(), before]);
+        SegmentUses(&mut self.uses)
     }
 
-    /// A use of the last segment: its kind's number, its instruction, and the kind's fields, zeros behind them.
-    pub fn a_use(&mut self, kind: u32, inst: u32, fields: [u32; 4]) {
-        let [a, b, c, d] = fields;
-        self.add(USES, &[kind, inst, a, b, c, d]);
+    /// The tables in their order in the slice: how many rows, and their words.
+    fn tables(&self) -> [(u32, &[u32]); 10] {
+        [
+            (self.book.banks.count(), self.book.banks.words()),
+            (self.book.classes.count(), self.book.classes.words()),
+            (self.book.regs.count(), self.book.regs.words()),
+            (self.blocks.count(), self.blocks.words()),
+            (self.values.count(), self.values.words()),
+            (self.vgroups.count(), self.vgroups.words()),
+            (self.operands.count(), self.operands.words()),
+            (self.hints.count(), self.hints.words()),
+            (self.segments.count(), self.segments.words()),
+            (self.uses.count(), self.uses.words()),
+        ]
     }
 
-    /// The slice that `build` takes.
+    /// The binary job (docs/TABLES.md).
     pub fn bytes(&self) -> Vec<u8> {
-        let counts = (0..WIDTHS.len()).map(|table| self.count(table));
-        let options = [self.adjust].into_iter().chain(self.scales);
-        let rows = self.tables.iter().flatten().copied();
-        let words = counts.chain(options).chain(rows);
-        words.flat_map(u32::to_le_bytes).collect()
+        let mut bytes = Vec::new();
+        self.write(&mut bytes);
+        bytes
+    }
+
+    /// The binary job in place of what the vector holds.
+    pub fn write(&self, bytes: &mut Vec<u8>) {
+        bytes.clear();
+        let tables = self.tables();
+        let counts = tables.map(|(count, _)| count);
+        let parts = tables.map(|(_, words)| words);
+        let header = [&counts[..], &self.options.words()];
+        for &word in header.into_iter().chain(parts).flatten() {
+            bytes.extend_from_slice(&word.to_le_bytes());
+        }
+    }
+}
+
+/// The uses of the segment that was begun last.
+///
+/// ```
+/// use cundzeli::build::{Book, ClassData, Job, Options, Remat};
+/// use cundzeli::{BlockData, Flags, Inst, RegBank, RegClass, RegClassMask, UseKind};
+///
+/// let book = Book::new(RegClass(0), ClassData::new(RegClassMask(1)));
+/// let mut job = Job::new(&book, Options::default(), BlockData::new(8, 1.0));
+/// let value = job.value(RegBank(0), Remat::None);
+/// let mut uses = job.segment(value, Inst(0).boundary(), Inst(7).normal(), Flags::LIVE_IN);
+/// for inst in 0..8 {
+///     uses.add(Inst(inst), UseKind::ClassUse { slot: 0, class: RegClass(0) });
+/// }
+/// ```
+///
+/// A job is given no conflict:
+///
+/// ```compile_fail,E0308
+/// # use cundzeli::build::{Book, ClassData, Job, Options, Remat};
+/// # use cundzeli::{BlockData, Flags, Inst, RegBank, RegClass, RegClassMask, Turned, UseKind};
+/// # let book = Book::new(RegClass(0), ClassData::new(RegClassMask(1)));
+/// # let mut job = Job::new(&book, Options::default(), BlockData::new(8, 1.0));
+/// # let value = job.value(RegBank(0), Remat::None);
+/// # let mut uses = job.segment(value, Inst(0).boundary(), Inst(7).normal(), Flags::LIVE_IN);
+/// uses.add(Inst(0), UseKind::ConstraintConflict(Turned));
+/// ```
+#[derive(Debug)]
+pub struct SegmentUses<'a>(&'a mut Table<6>);
+
+impl SegmentUses<'_> {
+    /// A use behind those before it. They go by instruction; those of one instruction in any order, which counts.
+    pub fn add(&mut self, inst: Inst, kind: UseKind<Infallible>) -> &mut Self {
+        let [a, b, c, d] = kind.words();
+        self.0.add([kind.number(), inst.0, a, b, c, d]);
+        self
     }
 }

@@ -1,116 +1,177 @@
 //! The result tables, and their rows as plain structs.
 
 use super::Counts;
+use super::rows::{GROUP, REGISTER, Rows, SEGMENT, USE};
+use crate::{Flags, Inst, Point, RegClass, UseKind, Value, ValueSet, VirtReg, VirtRegGroup};
+use std::fmt;
 use std::ops::Range;
-
-/// Words in a row of each table.
-const REGISTER: usize = 8;
-const SEGMENT: usize = 7;
-const USE: usize = 6;
-const GROUP: usize = 9;
-
-/// How many rows each table has.
-#[derive(Clone, Copy, Debug, PartialEq, Eq)]
-pub struct Rows {
-    pub registers: u32,
-    pub segments: u32,
-    pub uses: u32,
-    pub groups: u32,
-}
-
-impl Rows {
-    /// The bytes of tables with this many rows.
-    pub fn bytes(self) -> usize {
-        let words = self.registers as usize * REGISTER
-            + self.segments as usize * SEGMENT
-            + self.uses as usize * USE
-            + self.groups as usize * GROUP;
-        4 * words
-    }
-}
-
-impl Default for Rows {
-    fn default() -> Self {
-        Self {
-            registers: 4096,
-            segments: 4096,
-            uses: 8192,
-            groups: 512,
-        }
-    }
-}
 
 /// A virtual register.
 #[derive(Clone, Debug, PartialEq)]
 pub struct Register {
-    pub set: u32,
-    pub class: u32,
+    /// Its number.
+    pub number: VirtReg,
+    /// The set that its values are of.
+    pub set: ValueSet,
+    /// The class that its uses narrow its bank's top class to; one for all registers of a group.
+    pub class: RegClass,
+    /// Its spill weight; infinite if it can't be spilled.
     pub weight: f32,
-    /// Its group, and its place there.
-    pub group: Option<u32>,
-    pub group_index: u32,
+    /// Its group and its place there, or none.
+    pub group: Option<GroupPlace>,
+    /// Whether one of its pieces has a fixed hint.
     pub fixed_hint: bool,
     /// Its rows in the segments.
     pub segments: Range<u32>,
 }
 
-/// Where a segment comes from: the job, or a use that was turned into a conflict.
+/// Where a register stands in a group.
+#[derive(Clone, Copy, Debug, PartialEq, Eq)]
+pub struct GroupPlace {
+    /// The group.
+    pub group: VirtRegGroup,
+    /// The place, from 0.
+    pub index: u32,
+}
+
+/// Where a piece comes from.
+///
+/// Two uses of one instruction that no class fits: the second is turned, and stands in a conflict piece as it was.
+///
+/// ```
+/// use cundzeli::build::{Book, ClassData, Job, Options, Origin, Remat, build};
+/// use cundzeli::{BlockData, Flags, Inst, RegBank, RegClass, RegClassMask, Turned, UseKind};
+///
+/// let mut book = Book::new(RegClass(0), ClassData::new(RegClassMask(0b111)));
+/// let left = book.class(ClassData::new(RegClassMask(0b010)));
+/// let right = book.class(ClassData::new(RegClassMask(0b100)));
+/// let mut job = Job::new(&book, Options::default(), BlockData::new(2, 1.0));
+/// let value = job.value(RegBank(0), Remat::None);
+/// job.segment(value, Inst(0).boundary(), Inst(1).normal(), Flags::NONE)
+///     .add(Inst(1), UseKind::ClassUse { slot: 0, class: left })
+///     .add(Inst(1), UseKind::ClassUse { slot: 1, class: right });
+///
+/// let tables = build(&job)?;
+/// let pieces: Vec<_> = tables.registers().flat_map(|register| tables.segments(&register)).collect();
+/// assert_eq!((pieces[0].origin, pieces[1].origin), (Origin::Own, Origin::Conflict));
+/// let last = |place: usize| tables.uses(&pieces[place]).last().map(|one| one.kind);
+/// assert_eq!(last(0), Some(UseKind::ConstraintConflict(Turned)));
+/// assert_eq!(last(1), Some(UseKind::ClassUse { slot: 1, class: right }));
+/// # Ok::<(), cundzeli::Refusal>(())
+/// ```
 #[derive(Clone, Copy, Debug, PartialEq, Eq)]
 pub enum Origin {
+    /// A segment of the job, or a part of one.
     Own,
+    /// It was added for uses that conflict.
     Conflict,
 }
 
-/// A live range segment of one value.
+/// A piece of a register: a live range segment of one value.
 #[derive(Clone, Debug, PartialEq, Eq)]
 pub struct Segment {
-    pub value: u32,
-    pub from: u32,
-    pub to: u32,
-    /// 1 live-in, 2 live-out, 4 fixed hint, 8 fixed definition.
-    pub flags: u32,
+    /// Whose piece it is.
+    pub value: Value,
+    /// Its first point.
+    pub from: Point,
+    /// The point behind its last one.
+    pub to: Point,
+    /// Its flags.
+    pub flags: Flags,
+    /// Where it comes from.
     pub origin: Origin,
     /// Its rows in the uses.
     pub uses: Range<u32>,
 }
 
-/// A use, as in a job; kind 3 is one that was turned into a conflict.
+/// A use: as in the job, or [turned](UseKind::ConstraintConflict).
 #[derive(Clone, Copy, Debug, PartialEq, Eq)]
 pub struct Use {
-    pub kind: u32,
-    pub inst: u32,
-    pub fields: [u32; 4],
+    /// Where it stands.
+    pub inst: Inst,
+    /// What it asks for.
+    pub kind: UseKind,
 }
 
-/// The places of a group: a register each, or none.
+/// A group of registers.
 #[derive(Clone, Debug, PartialEq, Eq)]
 pub struct Group {
-    pub members: Vec<Option<u32>>,
+    /// Its number.
+    pub number: VirtRegGroup,
+    /// Its places: a register each, or none.
+    pub members: Vec<Option<VirtReg>>,
 }
 
-/// Tables for one result. They can be used again.
-#[derive(Clone, Debug)]
+/// Tables for one result. They can be lent for any number of builds, and grow as a job needs.
+///
+/// ```
+/// use cundzeli::build::{Book, ClassData, Job, Operand, Options, Remat, build};
+/// use cundzeli::{BlockData, Flags, Inst, RegBank, RegClass, RegClassMask, UseKind, VirtReg};
+///
+/// let mut book = Book::new(RegClass(0), ClassData::new(RegClassMask(0b11)));
+/// let pairs = book.class(ClassData { group_size: 2, ..ClassData::new(RegClassMask(0b10)) });
+/// let mut job = Job::new(&book, Options::default(), BlockData::new(2, 1.0));
+/// let members = [(); 2].map(|()| job.value(RegBank(0), Remat::None));
+/// let (inst, slot, vgroup) = (Inst(1), 0, job.vgroup(&members));
+/// job.operand(Operand { inst, slot, vgroup, class: pairs });
+/// for (group_index, value) in (0..).zip(members) {
+///     let kind = UseKind::GroupClassUse { slot, class: pairs, group_index };
+///     job.segment(value, Inst(0).boundary(), inst.normal(), Flags::NONE).add(inst, kind);
+/// }
+///
+/// let tables = build(&job)?;
+/// for register in tables.registers() {
+///     assert_eq!((register.class, register.weight), (pairs, 0.5));
+///     for segment in tables.segments(&register) {
+///         assert_eq!((segment.from, segment.to), (Inst(0).boundary(), inst.normal()));
+///         assert!(tables.uses(&segment).all(|one| one.inst == inst));
+///     }
+/// }
+/// let group = tables.groups().next().expect("a group");
+/// assert_eq!(group.members, [Some(VirtReg(0)), Some(VirtReg(1))]);
+/// # Ok::<(), cundzeli::Refusal>(())
+/// ```
+#[derive(Clone, Default)]
 pub struct Tables {
-    pub(super) bytes: Vec<u8>,
-    pub(super) rows: Rows,
-    pub(super) made: Counts,
+    /// At least as long as the rows ask for.
+    bytes: Vec<u8>,
+    rows: Rows,
+    made: Counts,
 }
 
 impl Tables {
-    pub fn new(rows: Rows) -> Self {
-        Self {
-            bytes: vec![0; rows.bytes()],
-            rows,
-            made: Counts::default(),
+    /// Tables without a row.
+    pub fn new() -> Self {
+        Self::default()
+    }
+
+    /// The slice to lend for a build in so many rows. What it holds before does not matter.
+    pub(super) fn lend(&mut self, rows: Rows) -> &mut [u8] {
+        self.made = Counts::default();
+        self.rows = rows;
+        let length = rows.bytes();
+        if self.bytes.len() < length {
+            self.bytes.resize(length, 0);
         }
+        &mut self.bytes[..length]
     }
 
-    /// All four tables as they stand.
+    /// What a build made in the slice that was lent.
+    pub(super) fn fill(&mut self, made: Counts) {
+        self.made = made;
+    }
+
+    /// All four tables as the last build left them (docs/TABLES.md), cut by [`rows`](Self::rows).
     pub fn bytes(&self) -> &[u8] {
-        &self.bytes
+        &self.bytes[..self.rows.bytes()]
     }
 
-    /// How many registers and groups the last build made.
+    /// The rows that the last build was lent.
+    pub fn rows(&self) -> Rows {
+        self.rows
+    }
+
+    /// How many registers and groups the last build made: none where it was refused.
     pub fn made(&self) -> Counts {
         self.made
     }
@@ -119,7 +180,7 @@ impl Tables {
     fn row<const W: usize>(&self, before: usize, place: u32) -> [u32; W] {
         let at = 4 * (before + place as usize * W);
         let mut row = [0; W];
-        for (word, bytes) in row.iter_mut().zip(self.bytes[at..].chunks_exact(4)) {
+        for (word, bytes) in row.iter_mut().zip(self.bytes()[at..].chunks_exact(4)) {
             *word = u32::from_le_bytes(bytes.try_into().expect("four bytes"));
         }
         row
@@ -132,76 +193,108 @@ impl Tables {
         [segments, uses, uses + self.rows.uses as usize * USE]
     }
 
-    /// Register number `place`, of those that were made.
-    pub fn register(&self, place: u32) -> Register {
-        assert!(place < self.made.registers, "no register {place}");
-        let [set, class, weight, group, index, hint, first, count] = self.row::<REGISTER>(0, place);
+    /// A register, of those that were made.
+    ///
+    /// # Panics
+    ///
+    /// If it was not made.
+    pub fn register(&self, number: VirtReg) -> Register {
+        assert!(number.0 < self.made.registers, "no register {number}");
+        let row = self.row::<REGISTER>(0, number.0);
+        let [set, class, weight, group, index, hint, first, count] = row;
+        let group = group.checked_sub(1).map(VirtRegGroup);
         Register {
-            set,
-            class,
+            number,
+            set: ValueSet(set),
+            class: RegClass(class),
             weight: f32::from_bits(weight),
-            group: group.checked_sub(1),
-            group_index: index,
+            group: group.map(|group| GroupPlace { group, index }),
             fixed_hint: hint != 0,
             segments: first..first + count,
         }
     }
 
+    /// All registers, by rising number: set by set, in a set those made by cuts by their points, then those made for
+    /// conflicts.
     pub fn registers(&self) -> impl ExactSizeIterator<Item = Register> {
-        (0..self.made.registers).map(|place| self.register(place))
+        (0..self.made.registers).map(|number| self.register(VirtReg(number)))
     }
 
-    /// The segment at a place that a register names.
+    /// The piece at a row that a register names. Rows that none names are zero.
+    ///
+    /// # Panics
+    ///
+    /// If the table has no such row.
     pub fn segment(&self, place: u32) -> Segment {
         assert!(place < self.rows.segments, "no segment {place}");
         let [before, _, _] = self.before();
         let [value, from, to, flags, origin, first, count] = self.row::<SEGMENT>(before, place);
+        let point = |number| Point::from_number(number).expect("a point in a result");
+        let conflict = origin == 1;
+        let origins = [Origin::Own, Origin::Conflict];
         Segment {
-            value,
-            from,
-            to,
-            flags,
-            origin: if origin == 0 {
-                Origin::Own
-            } else {
-                Origin::Conflict
-            },
+            value: Value(value),
+            from: point(from),
+            to: point(to),
+            flags: Flags::from_bits(flags).expect("flags in a result"),
+            origin: origins[usize::from(conflict)],
             uses: first..first + count,
         }
     }
 
-    pub fn segments(&self, register: &Register) -> impl Iterator<Item = Segment> {
-        register.segments.clone().map(|place| self.segment(place))
+    /// The pieces of a register, by their points.
+    pub fn segments<'a>(
+        &'a self,
+        register: &Register,
+    ) -> impl ExactSizeIterator<Item = Segment> + use<'a> {
+        let rows = register.segments.clone();
+        rows.map(|place| self.segment(place))
     }
 
-    /// The use at a place that a segment names.
+    /// The use at a row that a piece names. Rows that none names are zero.
+    ///
+    /// # Panics
+    ///
+    /// If the table has no such row.
     pub fn a_use(&self, place: u32) -> Use {
         assert!(place < self.rows.uses, "no use {place}");
         let [_, before, _] = self.before();
-        let [kind, inst, a, b, c, d] = self.row::<USE>(before, place);
-        Use {
-            kind,
-            inst,
-            fields: [a, b, c, d],
-        }
+        let [kind, inst, fields @ ..] = self.row::<USE>(before, place);
+        Use { inst: Inst(inst), kind: UseKind::of_row(kind, fields) }
     }
 
-    pub fn uses(&self, segment: &Segment) -> impl Iterator<Item = Use> {
-        segment.uses.clone().map(|place| self.a_use(place))
+    /// The uses of a piece, in their order.
+    pub fn uses<'a>(&'a self, segment: &Segment) -> impl ExactSizeIterator<Item = Use> + use<'a> {
+        let rows = segment.uses.clone();
+        rows.map(|place| self.a_use(place))
     }
 
-    /// Group number `place`, of those that were made.
-    pub fn group(&self, place: u32) -> Group {
-        assert!(place < self.made.groups, "no group {place}");
+    /// A group, of those that were made.
+    ///
+    /// # Panics
+    ///
+    /// If it was not made.
+    pub fn group(&self, number: VirtRegGroup) -> Group {
+        assert!(number.0 < self.made.groups, "no group {number}");
         let [_, _, before] = self.before();
-        let [size, places @ ..] = self.row::<GROUP>(before, place);
+        let [size, places @ ..] = self.row::<GROUP>(before, number.0);
         let members = places[..size as usize].iter();
-        Group {
-            members: members.map(|member| member.checked_sub(1)).collect(),
-        }
+        let members = members.map(|member| member.checked_sub(1).map(VirtReg));
+        Group { number, members: members.collect() }
     }
 
+    /// All groups, by rising number.
     pub fn groups(&self) -> impl ExactSizeIterator<Item = Group> {
-        (0..self.made.groups).map(|place| self.group(place))
+        (0..self.made.groups).map(|number| self.group(VirtRegGroup(number)))
+    }
+}
+
+/// The registers and groups that were made.
+impl fmt::Debug for Tables {
+    fn fmt(&self, f: &mut fmt::Formatter<'_>) -> fmt::Result {
+        f.debug_struct("Tables")
+            .field("registers", &self.registers().collect::<Vec<_>>())
+            .field("groups", &self.groups().collect::<Vec<_>>())
+            .finish_non_exhaustive()
     }
 }

@@ -1,0 +1,96 @@
+//! How many rows the result tables have.
+
+/// Words in a row of each table.
+pub(super) const REGISTER: usize = 8;
+pub(super) const SEGMENT: usize = 7;
+pub(super) const USE: usize = 6;
+pub(super) const GROUP: usize = 9;
+
+/// Places in a job's header.
+const OPERANDS: usize = 6;
+const SEGMENTS: usize = 8;
+const USES: usize = 9;
+
+/// How many rows each table has.
+///
+/// ```
+/// use cundzeli::build::{Book, ClassData, Job, Options, Rows};
+/// use cundzeli::{BlockData, RegClass, RegClassMask};
+///
+/// let book = Book::new(RegClass(0), ClassData::new(RegClassMask(1)));
+/// let job = Job::new(&book, Options::default(), BlockData::new(8, 1.0));
+/// assert_eq!(Rows::for_job(&job.bytes()).bytes(), 0);
+/// assert_eq!(Rows::USUAL.bytes(), 460_800);
+/// ```
+#[derive(Clone, Copy, Debug, Default, PartialEq, Eq)]
+pub struct Rows {
+    /// Registers.
+    pub registers: u32,
+    /// Pieces of registers.
+    pub segments: u32,
+    /// Uses of pieces.
+    pub uses: u32,
+    /// Groups.
+    pub groups: u32,
+}
+
+impl Rows {
+    /// What the program `vregs` has.
+    pub const USUAL: Self = Self { registers: 4096, segments: 4096, uses: 8192, groups: 512 };
+
+    /// Rows that are enough for a job wherever the [usual](Self::USUAL) ones are, and never more than these: with S
+    /// segments, U uses and O operands in its header, S + U registers, S + U segments, 3 × U uses and O groups, each at
+    /// most the usual number. In them **a job has the same answer as in the usual ones**, refusals included, and only
+    /// they are set to zero in a call.
+    ///
+    /// They are never too few. Take a job that passes tests 1 to 7 (any other is refused in any room), and any moment
+    /// of its build at which a register is to be placed: the registers placed so far and this one need no more rows.
+    ///
+    /// - *Turns and cuts together are at most U.* Each of them uses up a class use of its own. A turn turns a class use
+    ///   that was not turned before, and a turned use is never turned again. A cut lies behind the start, which is a
+    ///   class use that was not admitted and so is not turned; the part before the cut, with the start in it, holds
+    ///   only uses that the forward scan admitted, so it is placed as it is and no later turn or cut concerns it. (Both
+    ///   are proved in crates/definition/proofs/Fuel.antt: with every turn and every cut the class uses that are left
+    ///   fall, and the part before a cut is always admitted.)
+    /// - *A conflict register takes up at least one turned use*, which then is in no other: a round that admits none is
+    ///   a stop. It has one piece.
+    /// - *Registers*: one for each set that has a segment, at most S; one more for each cut; at most one for each turn.
+    ///   A merge adds none. In all S + U.
+    /// - *Segments*: a cut parts at most one segment in two, so pieces of the job's segments are at most S and one for
+    ///   each cut; at most one for each turn. A merge moves pieces, and they count once. In all S + U.
+    /// - *Uses*: each use of the job once in its own piece, as it was or turned; each turned one once more in a
+    ///   conflict piece; at most one BlockparamIn for each conflict piece. In all U and twice the turns, at most 3 × U.
+    /// - *Groups*: a register makes a group only where none of its group operands is mapped, and maps them all, at
+    ///   least one. An operand stays mapped. In all O.
+    ///
+    /// So in S + U, S + U, 3 × U and O rows no table is ever full; and where the usual number stands in place of a
+    /// greater one, that table is full at the same register as in the usual room. A job that is refused by 9 there may
+    /// still be built in more rows by [`build_in_rows`](super::build_in_rows).
+    ///
+    /// The job is any bytes; of those that are no job the answer is 1 in any room.
+    pub fn for_job(job: &[u8]) -> Self {
+        let [operands, segments, uses] = [OPERANDS, SEGMENTS, USES].map(|place| word(job, place));
+        let pieces = segments.saturating_add(uses);
+        Self {
+            registers: pieces.min(Self::USUAL.registers),
+            segments: pieces.min(Self::USUAL.segments),
+            uses: uses.saturating_mul(3).min(Self::USUAL.uses),
+            groups: operands.min(Self::USUAL.groups),
+        }
+    }
+
+    /// The bytes of tables with this many rows.
+    pub fn bytes(self) -> usize {
+        let words = self.registers as usize * REGISTER
+            + self.segments as usize * SEGMENT
+            + self.uses as usize * USE
+            + self.groups as usize * GROUP;
+        4 * words
+    }
+}
+
+/// A word of a slice, 0 behind its end.
+fn word(bytes: &[u8], place: usize) -> u32 {
+    let word = bytes[bytes.len().min(4 * place)..].first_chunk();
+    word.map_or(0, |&word| u32::from_le_bytes(word))
+}
