@@ -1,6 +1,6 @@
 //! Where a set was cut: between own pieces, in the order of their points, that are in two registers or were one segment.
 
-use std::collections::BTreeMap;
+use std::collections::{BTreeMap, HashMap};
 
 use crate::job::Job;
 use crate::registers::{Answer, Piece};
@@ -37,6 +37,7 @@ impl Cut {
 
 /// All cuts that the pieces show, set by set.
 pub fn cuts(job: &Job, answer: &Answer) -> Vec<Cut> {
+    let segs = segments(job);
     let mut sets: BTreeMap<u32, Vec<(usize, &Piece)>> = BTreeMap::new();
     for (r, vreg) in answer.vregs.iter().enumerate() {
         let own = vreg.pieces.iter().filter(|piece| !piece.conflict);
@@ -46,17 +47,32 @@ pub fn cuts(job: &Job, answer: &Answer) -> Vec<Cut> {
         pieces.sort_by_key(|(r, piece)| (piece.from, piece.to, *r));
     }
     let pairs = sets.values().flat_map(|pieces| pieces.windows(2));
-    pairs.filter_map(|pair| between(job, pair[0], pair[1])).collect()
+    pairs.filter_map(|pair| between(&segs, pair[0], pair[1])).collect()
 }
 
-fn between(job: &Job, (left, a): (usize, &Piece), (right, b): (usize, &Piece)) -> Option<Cut> {
+/// The points of each value's segments, sorted.
+type Segments = HashMap<u32, Vec<(u32, u32)>>;
+
+fn segments(job: &Job) -> Segments {
+    let mut segs = Segments::new();
+    for seg in &job.segs {
+        segs.entry(seg.value).or_default().push((seg.from, seg.to));
+    }
+    segs.values_mut().for_each(|points| points.sort_unstable());
+    segs
+}
+
+fn between(segs: &Segments, (left, a): (usize, &Piece), (right, b): (usize, &Piece)) -> Option<Cut> {
     let cut = Cut { left, right, from: a.to, to: b.from };
     let (first, last) = cut.boundaries();
-    let parted = left != right || one_segment(job, a, b);
+    let parted = left != right || one_segment(segs, a, b);
     (parted && a.to <= b.from && first <= last).then_some(cut)
 }
 
-fn one_segment(job: &Job, a: &Piece, b: &Piece) -> bool {
-    let whole = |from: u32, to: u32| from < a.to && a.to < to;
-    a.value == b.value && a.to == b.from && job.segs.iter().any(|seg| seg.value == a.value && whole(seg.from, seg.to))
+/// Whether two pieces that meet were one segment.
+fn one_segment(segs: &Segments, a: &Piece, b: &Piece) -> bool {
+    let points = segs.get(&a.value).map(Vec::as_slice).unwrap_or_default();
+    let next = points.partition_point(|&(from, _)| from < a.to);
+    let across = next > 0 && a.to < points[next - 1].1;
+    a.value == b.value && a.to == b.from && across
 }

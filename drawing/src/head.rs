@@ -8,6 +8,9 @@ use crate::style::{grey, text_width};
 use crate::svg::{N, Svg};
 use crate::words::{exact, readable};
 
+/// As many blocks as a job may have; more are left out.
+pub const MOST_BLOCKS: usize = 512;
+
 /// A block's place and shade.
 pub struct Band {
     pub first: u64,
@@ -34,7 +37,7 @@ pub fn bands(chart: &Chart, job: &Job) -> Vec<Band> {
         first = next;
         band
     };
-    job.blocks.iter().zip(&levels).map(band).collect()
+    job.blocks.iter().zip(&levels).take(MOST_BLOCKS).map(band).collect()
 }
 
 /// Frequencies are shaded by their powers of two; one that is 0 or no frequency has the lightest shade.

@@ -150,7 +150,7 @@ fn place_row(chart: &Chart, row: &Row) -> PlacedRow {
 fn is_narrow(chart: &Chart, bar: &Bar, marks: &[PlacedMark]) -> bool {
     let width = chart.x(f64::from(bar.to)) - chart.x(f64::from(bar.from));
     let spans = bar.marks.iter().zip(marks).map(|(mark, placed)| span(chart, mark, placed));
-    spans.map(|(from, to)| to - from).fold(0.0, f64::max) + 10.0 > width && !marks.is_empty()
+    spans.map(|(from, to)| to - from).fold(0.0, f64::max) + 8.0 > width && !marks.is_empty()
 }
 
 /// Gives each mark the first lane that is free for it, and says how many lanes there are.
@@ -174,16 +174,26 @@ fn set_lanes(chart: &Chart, row: &Row, placed: &mut PlacedRow) -> usize {
     ends.len()
 }
 
-/// A mark's middle: where its kind stands in the instruction, but never off its piece.
+/// Marks where their kinds stand in the instruction, inside their bar. Uses have their text at the left, if it fits.
 fn place_marks(chart: &Chart, bar: &Bar) -> Vec<PlacedMark> {
-    let inside = |point: f64| point.max(f64::from(bar.from)).min(f64::from(bar.to).max(f64::from(bar.from)));
+    let left = chart.x(f64::from(bar.from));
     let place = |mark: &Mark| {
-        let x = chart.x(inside(4.0 * f64::from(mark.inst) + anchor(mark.kind)));
-        let left = matches!(mark.kind, 1..=4 | 6) && x - short_width(mark) - HALF > chart.x0;
-        let right_end = x + short_width(mark) + HALF > chart.right() + MARGIN;
-        PlacedMark { x, lane: 0, text_left: left || right_end }
+        let x = middle(chart, bar, mark);
+        let fits_left = x - short_width(mark) - HALF >= left;
+        let fits_right = x + short_width(mark) + HALF <= chart.right() + MARGIN;
+        let text_left = fits_left && (matches!(mark.kind, 1..=4 | 6) || !fits_right);
+        PlacedMark { x, lane: 0, text_left }
     };
     bar.marks.iter().map(place).collect()
+}
+
+/// A mark's middle. One that ends where its instruction begins may stand on the end of its bar.
+fn middle(chart: &Chart, bar: &Bar, mark: &Mark) -> f64 {
+    let inst = 4.0 * f64::from(mark.inst);
+    let (left, right) = (chart.x(f64::from(bar.from)), chart.x(f64::from(bar.to)));
+    let edge = f64::min(5.0, chart.step * 0.35);
+    let (least, most) = (left + edge, (right - edge).max(chart.x(inst)));
+    if least <= most { chart.x(inst + anchor(mark.kind)).max(least).min(most) } else { (left + right) / 2.0 }
 }
 
 fn anchor(kind: u32) -> f64 {

@@ -58,8 +58,9 @@ impl Page {
             self.svg.text((MARGIN + 64.0, self.y + 11.5), class, &shown(line, most));
             self.y += 15.0;
         }
+        self.svg.text((MARGIN + 64.0, self.y + 10.0), "small grey", "The job sheet's lines; → is a tab.");
         self.svg.close();
-        self.y += 10.0;
+        self.y += 22.0;
     }
 
     /// The whole picture, with its name and description.

@@ -4,7 +4,7 @@
 use std::collections::{HashMap, VecDeque};
 
 use crate::job::{BLOCKPARAM_IN, CONFLICT, Job, Seg, Use};
-use crate::registers::{Answer, Piece, Vreg};
+use crate::registers::{Answer, Group, Piece, Vreg};
 
 /// Where a use stands in the register sheet: register, piece, use, by position.
 pub type Place = (usize, usize, usize);
@@ -29,7 +29,7 @@ pub fn pair(job: &Job, answer: &Answer) -> Pair {
     let mut pair = Pair::default();
     pair.odd.extend(counts(answer));
     pair.odd.extend(answer.vregs.iter().enumerate().find_map(|(at, vreg)| register(job, answer, at, vreg)));
-    pair.odd.extend(answer.groups.iter().find_map(|group| members(answer, group.number)));
+    pair.odd.extend(answer.groups.iter().find_map(|group| members(answer, group)));
     let missing = turned_uses(job, answer, &mut pair.turned);
     pair.odd.extend(missing.filter(|_| answer.whole));
     let stray = settle(job, answer, &mut pair.turned);
@@ -78,8 +78,8 @@ fn piece_fault(job: &Job, vreg: &Vreg, piece: &Piece) -> Option<String> {
     None
 }
 
-fn members(answer: &Answer, group: u32) -> Option<String> {
-    let row = answer.groups.iter().find(|row| row.number == group)?;
+fn members(answer: &Answer, row: &Group) -> Option<String> {
+    let group = row.number;
     let is_there = |(place, number): (usize, u32)| {
         let vreg = answer.vregs.get(number as usize);
         vreg.is_some_and(|vreg| vreg.group == Some(group) && vreg.index as usize == place)

@@ -2,7 +2,7 @@
 
 use crate::Drawing;
 use crate::forms::{Fault, counted};
-use crate::head::{bands, blocks, ticks};
+use crate::head::{MOST_BLOCKS, bands, blocks, ticks};
 use crate::job::Job;
 use crate::layout::{Layout, layout};
 use crate::legend::{hatches, legend};
@@ -22,7 +22,7 @@ pub fn draw(sheet: &[u8], job: &Job, fault: Option<Fault>, answer: &Answer) -> D
         true => of_job(job, fault.as_ref(), &verdict.sets),
         false => of_registers(job, answer, &pair),
     };
-    verdict.remarks.extend(left_out(&scene));
+    verdict.remarks.extend(left_out(job, &scene));
     let layout = layout(&scene, insts(job, &scene));
     let mut page = Page::new(layout.width);
     let title = headline(job, &scene, &verdict);
@@ -41,11 +41,14 @@ fn said(note: &Note) -> String {
     format!("{}: {}", note.head, note.body.join(" "))
 }
 
-fn left_out(scene: &Scene) -> Option<Note> {
-    let (rows, marks) = (scene.rows_left_out, scene.marks_left_out);
-    let head = "Not all is drawn".into();
-    let body = vec![format!("{} and {} are left out.", counted(rows, "row"), counted(marks, "use"))];
-    (rows + marks > 0).then_some(Note { head, body })
+fn left_out(job: &Job, scene: &Scene) -> Option<Note> {
+    let out = &scene.left_out;
+    let blocks = job.blocks.len().saturating_sub(MOST_BLOCKS);
+    let parts = [(out.rows, "row"), (out.bars, "piece"), (out.marks, "use"), (out.groups, "group"), (blocks, "block")];
+    let parts = parts.iter().filter(|(many, _)| *many > 0).map(|(many, noun)| counted(*many, noun));
+    let words = parts.collect::<Vec<_>>().join(", ");
+    let note = Note { head: "Not all is drawn".into(), body: vec![format!("Left out: {words}.")] };
+    (!words.is_empty()).then_some(note)
 }
 
 /// The instructions of the job; without blocks, as many as the pieces need.
@@ -61,10 +64,10 @@ fn headline(job: &Job, scene: &Scene, verdict: &Verdict) -> String {
     let insts = format!("{} in {}", counted(job.insts() as usize, "instruction"), counted(job.blocks.len(), "block"));
     let rows = match scene.registers {
         true => {
-            let registers = counted(scene.rows.len() + scene.rows_left_out, "register");
-            format!("{registers}, {}", counted(scene.groups.len(), "group"))
+            let registers = counted(scene.rows.len() + scene.left_out.rows, "register");
+            format!("{registers}, {}", counted(scene.groups.len() + scene.left_out.groups, "group"))
         }
-        false => counted(scene.rows.len() + scene.rows_left_out, "segment"),
+        false => counted(scene.rows.len() + scene.left_out.rows, "segment"),
     };
     match &verdict.refusal {
         Some(note) => format!("{}: a job of {insts}, {rows}", note.head),

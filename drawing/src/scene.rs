@@ -9,9 +9,11 @@ use crate::pair::{Pair, Place};
 use crate::registers::{Answer, Piece, Vreg};
 use crate::words::{class_words, exact, flag_words, readable, short, span_words, use_words, value_words};
 
-/// As many rows and marks as the largest answer has; more are left out, and counted.
+/// As many as the largest job or answer has; more are left out, and counted.
 const MOST_ROWS: usize = 4096;
+const MOST_BARS: usize = 4096;
 const MOST_MARKS: usize = 8192;
+const MOST_GROUPS: usize = 512;
 
 #[derive(Default)]
 pub struct Scene {
@@ -22,8 +24,15 @@ pub struct Scene {
     pub groups: Vec<Bracket>,
     /// Whether the rows are registers, not segments of the job.
     pub registers: bool,
-    pub rows_left_out: usize,
-    pub marks_left_out: usize,
+    pub left_out: LeftOut,
+}
+
+#[derive(Default)]
+pub struct LeftOut {
+    pub rows: usize,
+    pub bars: usize,
+    pub marks: usize,
+    pub groups: usize,
 }
 
 pub struct Row {
@@ -77,10 +86,11 @@ pub fn of_registers(job: &Job, answer: &Answer, pair: &Pair) -> Scene {
     let heads = vec!["register", "set", "class", "weight", "group·place", "hint"];
     let mut scene = Scene { heads, registers: true, ..Scene::default() };
     scene.rows = rows.take(MOST_ROWS).collect();
-    scene.rows_left_out = answer.vregs.len() - scene.rows.len();
+    scene.left_out.rows = answer.vregs.len() - scene.rows.len();
     scene.cuts = cuts(job, answer);
     scene.links = pair.turned.iter().filter_map(|turn| link(answer, turn.own, turn.conflict?)).collect();
     scene.groups = brackets(answer);
+    scene.left_out.groups = answer.groups.len() - scene.groups.len();
     trim(&mut scene);
     drop_empty_columns(&mut scene, 4);
     scene
@@ -93,19 +103,20 @@ pub fn of_job(job: &Job, fault: Option<&Fault>, sets: &[u32]) -> Scene {
     let heads = vec!["line", "value", "set", "bank's top class", "points"];
     let mut scene = Scene { heads, ..Scene::default() };
     scene.rows = rows.take(MOST_ROWS).collect();
-    scene.rows_left_out = job.segs.len() - scene.rows.len();
+    scene.left_out.rows = job.segs.len() - scene.rows.len();
     trim(&mut scene);
     scene
 }
 
 /// Leaves out what no picture can hold: marks beyond the most, and lines to rows that are not there.
 fn trim(scene: &mut Scene) {
+    let mut room = MOST_BARS;
+    for row in &mut scene.rows {
+        scene.left_out.bars += shorten(&mut row.bars, &mut room);
+    }
     let mut room = MOST_MARKS;
     for bar in scene.rows.iter_mut().flat_map(|row| &mut row.bars) {
-        let kept = bar.marks.len().min(room);
-        scene.marks_left_out += bar.marks.len() - kept;
-        bar.marks.truncate(kept);
-        room -= kept;
+        scene.left_out.marks += shorten(&mut bar.marks, &mut room);
     }
     let rows = &scene.rows;
     let there = |(r, s, u): Place| rows.get(r).and_then(|row| row.bars.get(s)?.marks.get(u)).is_some();
@@ -114,6 +125,14 @@ fn trim(scene: &mut Scene) {
     for place in scene.groups.iter_mut().flat_map(|group| &mut group.places) {
         *place = place.filter(|&row| row < rows.len());
     }
+}
+
+/// Keeps what there is room for, and says how many were left out.
+fn shorten<T>(list: &mut Vec<T>, room: &mut usize) -> usize {
+    let out = list.len().saturating_sub(*room);
+    list.truncate(*room);
+    *room -= list.len();
+    out
 }
 
 /// Columns from the first named on that say nothing are left away.
@@ -216,7 +235,7 @@ fn link(answer: &Answer, from: Place, to: Place) -> Option<Link> {
 
 fn brackets(answer: &Answer) -> Vec<Bracket> {
     let row = |member: u32| answer.vregs.iter().position(|vreg| vreg.number == member);
-    let whole = answer.groups.iter().map(|group| {
+    let whole = answer.groups.iter().take(MOST_GROUPS).map(|group| {
         let places = group.members.iter().map(|member| row((*member)?)).collect();
         let names = group.members.iter().map(|member| member.map_or("-".into(), |number| format!("r{number}")));
         let names = names.collect::<Vec<_>>().join(", ");

@@ -27,7 +27,7 @@ pub fn cause(number: u8) -> &'static str {
         4 => {
             "block empty or of bad frequency; leader not leading itself; vgroup not 2 to 8 known values; \
              operand twice, out of range, or class size not the vgroup's; \
-             cut ends not after < before < instructions"
+             cut ends not `after` < `before` < instructions"
         }
         5 => "hint's value unknown, instruction above the count; keys falling",
         6 => {
@@ -36,7 +36,7 @@ pub fn cause(number: u8) -> &'static str {
         }
         7 => {
             "use falling in position, unknown instruction, class or register, field beyond its UseKind type, kind 3; \
-             from not below the next Boundary, or end_point above to; \
+             `from` not below the next Boundary, or `end_point` above `to`; \
              group use without its operand, of another class, or whose index has no member or another value"
         }
         8 => {
