@@ -8,8 +8,8 @@ use crate::style::{grey, text_width};
 use crate::svg::{N, Svg};
 use crate::words::{exact, readable};
 
-/// As many blocks as a job may have; more are left out.
-pub const MOST_BLOCKS: usize = 512;
+/// More blocks than a job may have; still more are left out.
+pub const MOST_BLOCKS: usize = 4096;
 
 /// A block's place and shade.
 pub struct Band {

@@ -27,7 +27,7 @@ pub fn legend(page: &mut Page, job: &Job, scene: &Scene, roomy: bool) {
     section(page, "Uses, at their instruction (hollow: a use; full: a definition)", &uses(roomy));
     section(page, "Pieces and lines", &pieces(scene.registers));
     let groups: Vec<Item> = scene.groups.iter().map(|group| (Icon::None, places(scene, group))).collect();
-    section(page, "Groups (the register at each place)", &groups);
+    section(page, "Groups (a bracket at the left; – for an empty place)", &groups);
 }
 
 fn uses(roomy: bool) -> Vec<Item> {
@@ -69,8 +69,8 @@ fn places(scene: &Scene, group: &Bracket) -> String {
         let cells = row.and_then(|row| scene.rows.get(row)).map(|row| &row.cells);
         cells.and_then(|cells| cells.first().cloned()).unwrap_or("–".into())
     };
-    let places = group.places.iter().enumerate().map(|(place, row)| format!("{place}: {}", name(row)));
-    format!("g{}  {}", group.number, places.collect::<Vec<_>>().join(", "))
+    let places = group.places.iter().enumerate().map(|(place, row)| format!("place {place} {}", name(row)));
+    format!("group {}: {}", group.number, places.collect::<Vec<_>>().join(", "))
 }
 
 /// A headline and its items in as many columns as there is room for.

@@ -64,15 +64,20 @@ fn taken(scene: &Scene, layout: &Layout) -> Vec<Vec<(f64, f64)>> {
     taken
 }
 
-fn line(svg: &mut Svg, layout: &Layout, (left, x1): (usize, f64), (right, x2): (usize, f64)) {
-    let (upper, lower) = (left.min(right), left.max(right));
-    let (top, bottom) = (layout.rows[upper].y + 1.0, layout.rows[lower].y + layout.rows[lower].height - 1.0);
-    if x1 == x2 {
+/// Strong in the two rows that were one, thin over rows between them.
+fn line(svg: &mut Svg, layout: &Layout, (left, x1): End, (right, x2): End) {
+    let (upper, lower) = (&layout.rows[left.min(right)], &layout.rows[left.max(right)]);
+    let (top, bottom) = (upper.y + 1.0, lower.y + lower.height - 1.0);
+    let near = left.abs_diff(right) <= 1;
+    if x1 == x2 && near {
         svg.line((x1, top), (x1, bottom), "cutline");
+    } else if x1 == x2 {
+        svg.line((x1, top), (x1, upper.y + upper.height), "cutline");
+        svg.line((x1, top), (x1, bottom), "cutfar");
+        svg.line((x1, lower.y), (x1, bottom), "cutline");
     } else {
         let (y1, y2) = (layout.rows[left].middle(), layout.rows[right].middle());
-        let between = if left < right { layout.rows[right].y } else { layout.rows[left].y };
-        let path = format!("M{} {}V{}H{}V{}", N(x1), N(y1), N(between), N(x2), N(y2));
+        let path = format!("M{} {}V{}H{}V{}", N(x1), N(y1), N(lower.y), N(x2), N(y2));
         svg.path(&path, "gapline");
     }
 }

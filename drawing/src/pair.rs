@@ -43,25 +43,28 @@ fn counts(answer: &Answer) -> Option<String> {
     let same = end.vregs as usize == vregs && end.groups as usize == groups;
     (!same).then(|| {
         let said = format!("{} registers and {} groups", end.vregs, end.groups);
-        format!("line {}: the end line says {said}, and there are {vregs} and {groups}", end.line)
+        format!("Line {} of the register sheet: the end line says {said}, and there are {vregs} and {groups}", end.line)
     })
 }
 
 fn register(job: &Job, answer: &Answer, at: usize, vreg: &Vreg) -> Option<String> {
     let line = vreg.line;
     if vreg.number as usize != at {
-        return Some(format!("line {line}: register {} is the {at}th from 0", vreg.number));
+        return Some(format!("Line {line} of the register sheet: register {} is the {at}th from 0", vreg.number));
     }
     if job.set(vreg.set) != Some(vreg.set) {
-        return Some(format!("line {line}: the job has no set {}", vreg.set));
+        return Some(format!("Line {line} of the register sheet: the job has no set {}", vreg.set));
     }
     if vreg.class as usize >= job.classes.len() {
-        return Some(format!("line {line}: the job has no class {}", vreg.class));
+        return Some(format!("Line {line} of the register sheet: the job has no class {}", vreg.class));
     }
     if let Some(group) = vreg.group.filter(|_| answer.end.is_some()) {
         let place = answer.groups.get(group as usize).and_then(|row| row.members.get(vreg.index as usize));
         if place != Some(&Some(vreg.number)) {
-            return Some(format!("line {line}: group {group} does not have it at place {}", vreg.index));
+            return Some(format!(
+                "Line {line} of the register sheet: group {group} does not have it at place {}",
+                vreg.index
+            ));
         }
     }
     vreg.pieces.iter().find_map(|piece| piece_fault(job, vreg, piece))
@@ -70,10 +73,16 @@ fn register(job: &Job, answer: &Answer, at: usize, vreg: &Vreg) -> Option<String
 fn piece_fault(job: &Job, vreg: &Vreg, piece: &Piece) -> Option<String> {
     let line = piece.line;
     if job.set(piece.value) != Some(vreg.set) {
-        return Some(format!("line {line}: value {} is not of set {} in the job", piece.value, vreg.set));
+        return Some(format!(
+            "Line {line} of the register sheet: value {} is not of set {} in the job",
+            piece.value, vreg.set
+        ));
     }
     if u64::from(piece.to) > 4 * job.insts() || piece.from >= piece.to {
-        return Some(format!("line {line}: [{}, {}) is no piece of this job", piece.from, piece.to));
+        return Some(format!(
+            "Line {line} of the register sheet: [{}, {}) is no piece of this job",
+            piece.from, piece.to
+        ));
     }
     None
 }
@@ -86,7 +95,10 @@ fn members(answer: &Answer, row: &Group) -> Option<String> {
     };
     let mut taken = row.members.iter().enumerate().filter_map(|(place, member)| Some((place, (*member)?)));
     let odd = taken.find(|&member| !is_there(member))?;
-    Some(format!("line {}: register {} does not say that it has place {} of group {group}", row.line, odd.1, odd.0))
+    Some(format!(
+        "Line {} of the register sheet: register {} does not say that it has place {} of group {group}",
+        row.line, odd.1, odd.0
+    ))
 }
 
 /// The own pieces of each value, by their points.
@@ -117,7 +129,8 @@ fn turned_uses(job: &Job, answer: &Answer, turned: &mut Vec<Turned>) -> Option<S
         lost_turns(answer, r, s, turned);
     }
     let first = left.iter().map(|&(r, s)| answer.vregs[r].pieces[s].line).min();
-    odd.or(first.map(|line| format!("line {line}: an own piece that is part of no segment of the job")))
+    odd.or(first
+        .map(|line| format!("Line {line} of the register sheet: an own piece that is part of no segment of the job")))
 }
 
 /// Turned uses of a piece that no segment explains: they are drawn, without what they were.
@@ -137,18 +150,22 @@ fn segment(
     while at < seg.to {
         let next = pieces.front().copied();
         let Some((r, s)) = next.filter(|&(r, s)| answer.vregs[r].pieces[s].from < seg.to) else {
-            return odd.or(Some(format!("the job's line {} has no piece from point {at} on", seg.line)));
+            return odd.or(Some(format!("Line {} of the job sheet has no piece from point {at} on", seg.line)));
         };
         pieces.pop_front();
         let piece = &answer.vregs[r].pieces[s];
-        let gap = (piece.from != at || piece.to > seg.to)
-            .then(|| format!("line {}: the piece does not fit the segment of the job's line {}", piece.line, seg.line));
+        let gap = (piece.from != at || piece.to > seg.to).then(|| {
+            format!(
+                "Line {} of the register sheet: the piece does not fit the segment of line {} of the job sheet",
+                piece.line, seg.line
+            )
+        });
         odd = odd.or(gap);
         let differs = walk_uses(piece, (r, s), &mut uses, turned);
         odd = odd.or(differs);
         at = piece.to.max(at.saturating_add(1));
     }
-    odd.or(uses.next().map(|u| format!("the job's line {} has no use line in the register sheet", u.line)))
+    odd.or(uses.next().map(|u| format!("Line {} of the job sheet has no use line in the register sheet", u.line)))
 }
 
 fn walk_uses<'a>(
@@ -166,7 +183,7 @@ fn walk_uses<'a>(
             turned.push(Turned { own: (r, s, at), was: was.copied().filter(|_| fits), conflict: None });
         }
         if !fits && odd.is_none() {
-            odd = Some(format!("line {}: the job has another use there, or none", u.line));
+            odd = Some(format!("Line {} of the register sheet: the job has another use there, or none", u.line));
         }
     }
     odd
@@ -185,11 +202,14 @@ fn settle(job: &Job, answer: &Answer, turned: &mut [Turned]) -> Option<String> {
             waiting.get_mut(&(set, was.inst, was.kind, was.fields))?.pop_front()
         });
         if turn.conflict.is_none() && answer.whole && !job.segs.is_empty() {
-            lacking = lacking.or(Some(format!("line {line}: no conflict piece has this turned use")));
+            lacking =
+                lacking.or(Some(format!("Line {line} of the register sheet: no conflict piece has this turned use")));
         }
     }
     let lines = waiting.values().flatten().map(|&(r, s, u)| answer.vregs[r].pieces[s].uses[u].line);
-    lacking.or(lines.min().map(|line| format!("line {line}: a use in a conflict piece that no turned use explains")))
+    lacking.or(lines.min().map(|line| {
+        format!("Line {line} of the register sheet: a use in a conflict piece that no turned use explains")
+    }))
 }
 
 fn conflict_uses(answer: &Answer) -> Waiting {

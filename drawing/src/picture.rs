@@ -25,7 +25,7 @@ pub fn draw(sheet: &[u8], job: &Job, fault: Option<Fault>, answer: &Answer) -> D
     verdict.remarks.extend(left_out(job, &scene));
     let layout = layout(&scene, insts(job, &scene));
     let mut page = Page::new(layout.width);
-    let title = headline(job, &scene, &verdict);
+    let title = headline(job, &scene, &verdict, fault.as_ref());
     page.headline(&title);
     notes(&mut page, &verdict);
     if let Some(fault) = &fault {
@@ -60,18 +60,20 @@ fn insts(job: &Job, scene: &Scene) -> u64 {
     }
 }
 
-fn headline(job: &Job, scene: &Scene, verdict: &Verdict) -> String {
+fn headline(job: &Job, scene: &Scene, verdict: &Verdict, fault: Option<&Fault>) -> String {
     let insts = format!("{} in {}", counted(job.insts() as usize, "instruction"), counted(job.blocks.len(), "block"));
+    let rows = scene.rows.len() + scene.left_out.rows;
+    let groups = scene.groups.len() + scene.left_out.groups;
     let rows = match scene.registers {
-        true => {
-            let registers = counted(scene.rows.len() + scene.left_out.rows, "register");
-            format!("{registers}, {}", counted(scene.groups.len() + scene.left_out.groups, "group"))
-        }
-        false => counted(scene.rows.len() + scene.left_out.rows, "segment"),
+        true => format!("{}, {}", counted(rows, "register"), counted(groups, "group")),
+        false => counted(rows, "segment"),
     };
+    let unread = fault.filter(|fault| fault.number == 1).map(|fault| format!(" before line {}", fault.line));
+    let unread = unread.unwrap_or_default();
     match &verdict.refusal {
-        Some(note) => format!("{}: a job of {insts}, {rows}", note.head),
-        None => format!("{insts}: {rows}"),
+        Some(note) if job.blocks.is_empty() => format!("{}: a job sheet that can't be drawn", note.head),
+        Some(note) => format!("{}: a job of {insts}, {rows}{unread}", note.head),
+        None => format!("{insts}: {rows}{unread}"),
     }
 }
 
@@ -108,8 +110,8 @@ fn chart(page: &mut Page, job: &Job, scene: &Scene, mut layout: Layout) {
         if scene.rows.len() > 20 {
             ticks(page, &layout.chart);
         }
+        legend(page, job, scene, layout.chart.roomy());
     }
-    legend(page, job, scene, layout.chart.roomy());
 }
 
 /// Puts the rows one under the other, and gives their height.

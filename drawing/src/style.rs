@@ -75,6 +75,7 @@ pub const SHEET: &str = "<style>
 .drawing .stroke{fill:none;stroke:#000;stroke-width:1.9}
 .drawing .ring{fill:none;stroke:#c00000;stroke-width:2.2}
 .drawing .cutline{stroke:#000;stroke-width:2.2}
+.drawing .cutfar{stroke:#000;stroke-width:.8}
 .drawing .gapline{stroke:#000;stroke-width:1.4;stroke-dasharray:1.5 2.5;fill:none}
 .drawing .linkline{stroke:#000;stroke-width:1.1;stroke-dasharray:4 2.5;fill:none}
 .drawing .bracket{stroke:#222;stroke-width:1.5;fill:none}

@@ -30,7 +30,7 @@ pub fn verdict(job: &Job, fault: Option<&Fault>, answer: &Answer, odd: &[String]
         verdict.remark("The job sheet is refused, and the register sheet is not its answer", line_words(fault));
         verdict.line_known = true;
     } else if let Some(first) = odd.first().filter(|_| !answer.vregs.is_empty() || answer.whole) {
-        verdict.remark("The register sheet is not the answer to this job sheet", format!("Register sheet, {first}."));
+        verdict.remark("The register sheet is not the answer to this job sheet", format!("{first}."));
     }
     verdict.wholeness(answer);
     verdict
@@ -38,7 +38,16 @@ pub fn verdict(job: &Job, fault: Option<&Fault>, answer: &Answer, odd: &[String]
 
 /// The line and what is wrong with it.
 fn line_words(fault: &Fault) -> String {
-    format!("Job sheet, line {}, number {}: {}.", fault.line, fault.number, fault.why)
+    format!("Line {} of the job sheet falls to number {}: {}.", fault.line, fault.number, fault.why)
+}
+
+/// A sheet is read up to a line that is no record.
+fn up_to(job: &Job, fault: &Fault) -> &'static str {
+    match fault.number {
+        1 if job.blocks.is_empty() => " There is no block before it, so nothing is drawn.",
+        1 => " What stands before it is drawn.",
+        _ => "",
+    }
 }
 
 impl Verdict {
@@ -51,7 +60,7 @@ impl Verdict {
         match fault {
             Some(fault) if fault.number == number => {
                 self.line_known = true;
-                body.push(format!("Line {} of the job sheet: {}.", fault.line, fault.why));
+                body.push(format!("Line {} of the job sheet: {}.{}", fault.line, fault.why, up_to(job, fault)));
             }
             Some(fault) => {
                 body.push("The line can't be told.".into());
@@ -81,7 +90,7 @@ impl Verdict {
             }
             _ => "In which set, and at which line, can't be told from the sheets.".into(),
         };
-        if number == 9 && self.sets.len() > 1 {
+        if self.sets.len() > 1 && self.sets.len() == sets(job).len() {
             self.sets.clear();
         }
         vec![passed, which]
@@ -94,7 +103,9 @@ impl Verdict {
         } else if !answer.whole {
             let words = match answer.lines {
                 0 => "No line of it could be read; the segments of the job are drawn.".to_string(),
-                lines => format!("It has no last line end or refused, with its line feed, behind line {lines}."),
+                lines => format!(
+                    "Line {lines} is its last whole line, and is neither end nor refused. It is drawn up to there."
+                ),
             };
             self.remark("The register sheet is cut", words);
         }

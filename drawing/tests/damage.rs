@@ -125,7 +125,7 @@ fn too_much_is_left_out() {
     let cases = [
         job(&(block.to_string() + value + &"seg\t0\t0\t4294967295\t0\n".repeat(5000))),
         job(&(block.to_string() + value + "seg\t0\t0\t4\t0\n" + &"use\t4\t0\t0\t0\n".repeat(9000))),
-        job(&block.repeat(2000)),
+        job(&block.repeat(5000)),
     ];
     for sheet in &cases {
         let drawing = draw(sheet, b"refused\t2\n");

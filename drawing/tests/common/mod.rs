@@ -37,8 +37,7 @@ pub fn folder(folder: &Path) -> Vec<Pair> {
 
 fn blocks(text: &str) -> Vec<Pair> {
     let (mut pairs, mut job) = (Vec::new(), Vec::new());
-    let mut parts = text.split("\n```");
-    while let Some(part) = parts.next() {
+    for part in text.split("\n```") {
         let Some((kind, body)) = part.split_once('\n').filter(|(kind, _)| !kind.is_empty()) else { continue };
         let lacks_end = kind.contains("no-last-line-feed");
         let body = if lacks_end { body.to_string() } else { format!("{body}\n") };
