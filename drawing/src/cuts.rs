@@ -1,4 +1,4 @@
-//! Where a set was cut: between own pieces, in the order of their points, that are in two registers or were one segment.
+//! Where a set was cut: between neighbouring own pieces that are in two registers, or were one segment.
 
 use std::collections::{BTreeMap, HashMap};
 

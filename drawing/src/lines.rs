@@ -97,10 +97,11 @@ fn label(svg: &mut Svg, layout: &Layout, taken: &mut [Vec<(f64, f64)>], left: En
     let words = format!("cut {inst}");
     let width = text_width(&words, 9.0);
     let beside = [(right.0, right.1 - 4.0 - width), (left.0, left.1 + 4.0)];
-    let farther = (1..8).map(|far| (right.0, right.1 - 4.0 - width - 8.0 * f64::from(far)));
+    let far_left = (1..8).map(|far| (right.0, right.1 - 4.0 - width - 8.0 * f64::from(far)));
+    let far_right = (1..8).map(|far| (left.0, left.1 + 4.0 + 8.0 * f64::from(far)));
     let inside = |x: f64| x >= layout.chart.x0 && x + width <= layout.chart.right() + 2.0 * MARGIN;
     let free = |row: usize, x: f64| taken[row].iter().all(|&(from, to)| to <= x + 1.0 || x + width - 1.0 <= from);
-    let found = beside.into_iter().chain(farther).find(|&(row, x)| inside(x) && free(row, x));
+    let found = beside.into_iter().chain(far_left).chain(far_right).find(|&(row, x)| inside(x) && free(row, x));
     if let Some((row, x)) = found {
         taken[row].push((x, x + width));
         svg.text((x, layout.rows[row].middle() + 3.5), "small bold", &words);

@@ -154,18 +154,18 @@ fn segment(
         };
         pieces.pop_front();
         let piece = &answer.vregs[r].pieces[s];
-        let gap = (piece.from != at || piece.to > seg.to).then(|| {
-            format!(
-                "Line {} of the register sheet: the piece does not fit the segment of line {} of the job sheet",
-                piece.line, seg.line
-            )
-        });
-        odd = odd.or(gap);
         let differs = walk_uses(piece, (r, s), &mut uses, turned);
-        odd = odd.or(differs);
+        odd = odd.or(misfit(piece, seg, at)).or(differs);
         at = piece.to.max(at.saturating_add(1));
     }
     odd.or(uses.next().map(|u| format!("Line {} of the job sheet has no use line in the register sheet", u.line)))
+}
+
+fn misfit(piece: &Piece, seg: &Seg, at: u32) -> Option<String> {
+    let (line, of) = (piece.line, seg.line);
+    let words =
+        || format!("Line {line} of the register sheet: the piece does not fit the segment of line {of} of the job");
+    (piece.from != at || piece.to > seg.to).then(words)
 }
 
 fn walk_uses<'a>(

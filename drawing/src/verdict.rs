@@ -79,18 +79,21 @@ impl Verdict {
     /// For 8 and 9: the set, if only one can be meant.
     fn while_placing(&mut self, job: &Job, number: u8) -> Vec<String> {
         let passed = "The job passed the entry rules (1 to 7) and stopped while registers were placed.".to_string();
-        self.sets = if number == 8 { suspects(job) } else { sets(job) };
+        let all = sets(job);
+        self.sets = if number == 8 { suspects(job) } else { all.clone() };
         let names = self.sets.iter().map(u32::to_string).collect::<Vec<_>>().join(", ");
-        let which = match (self.sets.len(), number) {
-            (0, 8) => "No set of this job can stop: the refusal is not its answer.".into(),
-            (0, _) => "No set of this job has segments: the refusal is not its answer.".into(),
-            (1, _) => format!("It is in set {names}: no other set can be meant. {}", seg_lines(job, self.sets[0])),
+        let which = match (self.sets.as_slice(), number) {
+            ([], _) => "In no set of it can that be.".into(),
+            ([set], _) => format!("It is in set {set}: no other set can be meant. {}", seg_lines(job, *set)),
             (_, 8) => {
                 format!("It is in one of the sets {names}; which, and at which line, can't be told from the sheets.")
             }
             _ => "In which set, and at which line, can't be told from the sheets.".into(),
         };
-        if self.sets.len() > 1 && self.sets.len() == sets(job).len() {
+        if self.sets.is_empty() {
+            let none = format!("No set of it can give number {number}.");
+            self.remark("The refusal is not the answer to this job sheet", none);
+        } else if self.sets.len() > 1 && self.sets.len() == all.len() {
             self.sets.clear();
         }
         vec![passed, which]

@@ -118,6 +118,36 @@ fn is_the_same_each_time() {
     }
 }
 
+/// The box of a text line: left, top, right, bottom. Upright names of blocks are left out.
+fn text_box(line: &str) -> Option<(f64, f64, f64, f64)> {
+    let field = |name: &str| line.split_once(&format!(" {name}=\"")).and_then(|(_, rest)| rest.split_once('"'));
+    let (x, y): (f64, f64) = (field("x")?.0.parse().ok()?, field("y")?.0.parse().ok()?);
+    let class = field("class")?.0;
+    let words = line.split_once('>')?.1.strip_suffix("</text>")?;
+    let letters = words.replace("&apos;", "'").replace("&quot;", "'").replace("&lt;", "<").replace("&gt;", ">");
+    let size = [("big", 14.0), ("small", 9.0)].iter().find(|(name, _)| class.contains(name)).map_or(11.0, |one| one.1);
+    let width = letters.replace("&amp;", "&").chars().count() as f64 * size * 0.58;
+    let left = if class.contains("end") { x - width } else { x };
+    let left = if class.contains("mid") { x - width / 2.0 } else { left };
+    Some((left, y - 0.75 * size, left + width, y))
+}
+
+/// No text lies over another or leaves the picture, by the width that letters have in usual fonts.
+#[test]
+fn no_texts_overlap() {
+    for pair in pairs() {
+        let svg = draw(&pair.job, &pair.out).svg;
+        let right: f64 = svg.split_once("viewBox=\"0 0 ").unwrap().1.split_once(' ').unwrap().0.parse().unwrap();
+        let texts: Vec<(&str, _)> = svg.lines().filter_map(|line| Some((line, text_box(line)?))).collect();
+        assert!(texts.len() > 3);
+        for (at, (line, a)) in texts.iter().enumerate() {
+            assert!(a.0 >= 0.0 && a.2 <= right, "{}: {line} leaves the picture", pair.name);
+            let over = texts[..at].iter().find(|(_, b)| a.0 < b.2 && b.0 < a.2 && a.1 < b.3 && b.1 < a.3);
+            assert!(over.is_none(), "{}: {line} lies over {}", pair.name, over.unwrap().0);
+        }
+    }
+}
+
 /// docs/pictures/make.sh was run since the last change.
 #[test]
 fn kept_pictures_are_as_drawn() {

@@ -204,6 +204,8 @@ fn stops_name_their_set() {
     assert!(one.contains("It is in set 1: no other set can be meant. Its lines are 15 to 17;"), "{one}");
     let two = draw(&job("|seg 2 0 6 0|use 4 1 0 2|use 4 1 1 3"), b"refused\t8\n").svg;
     assert!(two.contains("It is in one of the sets 1, 2;"));
+    let none = draw(&sheet(&format!("{head}end\n")), b"refused\t8\n");
+    assert_eq!(none.remarks.len(), 1);
     let full = draw(&job(""), b"refused\t9\n").svg;
     assert!(full.contains("In which set, and at which line, can&apos;t be told from the sheets."));
 }
