@@ -41,9 +41,14 @@ pub fn cuts(page: &mut Page, scene: &Scene, layout: &Layout) {
     }
 }
 
+/// Where the line of a cut begins and ends: at its Boundary, or at the sides of the gap.
 fn ends(layout: &Layout, cut: &Cut) -> (End, End) {
     let x = |point: u32| layout.chart.x(f64::from(point));
-    ((cut.left, x(cut.from)), (cut.right, x(cut.to)))
+    let (from, to) = match cut.instruction() {
+        Some(inst) => (layout.chart.x(4.0 * f64::from(inst)), layout.chart.x(4.0 * f64::from(inst))),
+        None => (x(cut.from), x(cut.to)),
+    };
+    ((cut.left, from), (cut.right, to))
 }
 
 /// What bars, marks and lines cover, row by row.

@@ -167,3 +167,21 @@ pub fn class_words(job: &Job, class: usize) -> String {
     let (members, cost) = (members(row.mask), readable(row.cost));
     format!("class {class}: subclasses {members}; cost {cost}; group size {}; {spill}", row.size)
 }
+
+#[cfg(test)]
+mod tests {
+    use super::{members, point, readable};
+
+    #[test]
+    fn floats() {
+        let all = [0.0, 0.5, 1.0 / 3.0, 1234.5, 999_999.0, 1e-5, 1e-45, f32::MAX, f32::INFINITY, -1.5, 0.99999];
+        let words = ["0", "0.5", "0.3333", "1234", "999999", "1e-5", "1.401e-45", "3.403e38", "inf", "-1.5", "1"];
+        assert_eq!(all.map(readable), words);
+    }
+
+    #[test]
+    fn masks_and_points() {
+        assert_eq!([0, 1, 0b10111, u32::MAX].map(members), ["none", "0", "0–2, 4", "0–31"]);
+        assert_eq!(point(14), "14 (instruction 3, Normal)");
+    }
+}

@@ -87,6 +87,25 @@ fn cuts_are_drawn_at_their_boundary() {
     assert!(svg.contains(">cut 2</text>"));
 }
 
+/// Between pieces that do not meet, the pieces tell the cut only where one Boundary lies between them.
+#[test]
+fn cuts_in_gaps() {
+    let head = "opt 0 3f800000 3f800000 3f800000\nbank 0\nclass 00000007 3f800000 1 0\nclass 00000002 3f800000 1 0\n\
+                class 00000004 3f800000 1 0\nblock 8 3f800000\nvalue 0 0 0\n";
+    let sheets = |from: u32, weight: &str| {
+        let job = format!("{head}seg 0 2 4 0\nuse 5 0 0 1\nseg 0 {from} 26 0\nuse 4 6 0 2\nend\n");
+        let first = "vreg 0 0 1 7f800000 - 0 0\nseg 0 2 4 0 own\nuse 5 0 0 1\n";
+        let out = format!("{first}vreg 1 0 2 {weight} - 0 0\nseg 0 {from} 26 0 own\nuse 4 6 0 2\nend 2 0\n");
+        draw(job.replace(' ', "\t").as_bytes(), out.replace(' ', "\t").as_bytes())
+    };
+    let wide = sheets(14, "3e800000");
+    assert_eq!(wide.remarks, Vec::<String>::new());
+    assert!(wide.svg.contains("<title>cut in a gap, before one of the instructions 1 to 3</title>"));
+    assert!(!wide.svg.contains("class=\"small bold\">cut "));
+    let tight = sheets(6, "3e2aaaab").svg;
+    assert!(tight.contains("<title>cut before instruction 1, at point 4</title>") && tight.contains(">cut 1</text>"));
+}
+
 #[test]
 fn true_pairs_have_no_remark() {
     for pair in pairs() {
