@@ -115,10 +115,11 @@ fn true_pairs_have_no_remark() {
     }
 }
 
-/// A sheet with another's answer is told, wherever the two answers are not for jobs of the same answer.
+/// A sheet with another's answer is told, but for refusals while registers are placed.
 #[test]
 fn mixed_pairs_are_told() {
-    let all = pairs();
+    let mut all = folder(&docs().join("samples"));
+    all.extend(folder(&docs().join("pictures")));
     let mut told = 0;
     for (a, b) in all.iter().flat_map(|a| all.iter().map(move |b| (a, b))).filter(|(a, b)| a.out != b.out) {
         let drawing = draw(&a.job, &b.out);
@@ -127,7 +128,7 @@ fn mixed_pairs_are_told() {
         assert!(refusals || !drawing.remarks.is_empty(), "{} with the answer of {}", a.name, b.name);
         told += usize::from(!drawing.remarks.is_empty());
     }
-    assert!(told > 300, "{told}");
+    assert!(told > 100, "{told}");
 }
 
 #[test]
