@@ -121,7 +121,7 @@ fn a_full_usual_room_is_9_in_the_own_rows_too() {
 
 #[test]
 fn any_bytes_have_rows() {
-    assert_eq!(Rows::for_job(&[]), Rows::default());
+    assert_eq!(Rows::for_job(&[]), Rows::NONE);
     assert_eq!(Rows::for_job(&[0xff; 56]), Rows::USUAL);
     let (mut tables, mut work) = (Tables::new(), Work::new());
     for length in 0..60 {

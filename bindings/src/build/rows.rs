@@ -22,7 +22,7 @@ const USES: usize = 9;
 /// assert_eq!(Rows::for_job(&job.bytes()).bytes(), 0);
 /// assert_eq!(Rows::USUAL.bytes(), 460_800);
 /// ```
-#[derive(Clone, Copy, Debug, Default, PartialEq, Eq)]
+#[derive(Clone, Copy, Debug, PartialEq, Eq)]
 pub struct Rows {
     /// Registers.
     pub registers: u32,
@@ -35,6 +35,9 @@ pub struct Rows {
 }
 
 impl Rows {
+    /// No row: a job with a segment is then refused by 9.
+    pub const NONE: Self = Self { registers: 0, segments: 0, uses: 0, groups: 0 };
+
     /// What the program `vregs` has.
     pub const USUAL: Self = Self { registers: 4096, segments: 4096, uses: 8192, groups: 512 };
 

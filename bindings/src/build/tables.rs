@@ -131,7 +131,7 @@ pub struct Group {
 /// assert_eq!(group.members, [Some(VirtReg(0)), Some(VirtReg(1))]);
 /// # Ok::<(), cundzeli::Refusal>(())
 /// ```
-#[derive(Clone, Default)]
+#[derive(Clone)]
 pub struct Tables {
     /// At least as long as the rows ask for.
     bytes: Vec<u8>,
@@ -139,10 +139,16 @@ pub struct Tables {
     made: Counts,
 }
 
+impl Default for Tables {
+    fn default() -> Self {
+        Self::new()
+    }
+}
+
 impl Tables {
     /// Tables without a row.
     pub fn new() -> Self {
-        Self::default()
+        Self { bytes: Vec::new(), rows: Rows::NONE, made: Counts::default() }
     }
 
     /// The slice to lend for a build in so many rows. What it holds before does not matter.
