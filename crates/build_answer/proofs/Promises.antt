@@ -1,7 +1,7 @@
 -- The promises on calls of the exported build, of the bytes that a call leaves: a theorem for each. Assumes nothing.
 -- A call is lent a slice of n bytes with the tables ol and a job of the bytes s; it answers r and leaves the bytes x (`Answered`). It accepts where `r .number` is 0.
 -- `binaryJob s` is the job that s stands for; `resultIn ol r x` the result, its registers and groups read back from the bytes x by the counts in r.
--- What each word means is in `specs/Promised.antt` of the definition: `held v q` how many segments of value v hold the point q, `had v u` how often they have the use u.
+-- What each word means is in `specs/Promised.antt` of the definition: `liveAt v q` how many segments of value v hold the point q, `had v u` how often they have the use u.
 use mathlib.Core.Path.{_≡_, refl, sym, ap, _∙_}
 use mathlib.Core.Bool.{true}
 use mathlib.Core.Option.{some}
@@ -20,7 +20,7 @@ use Rattle.definition.specs.RegInfo.{setOf}
 use Rattle.definition.specs.Uses.{classOf, isClassUse}
 use Rattle.definition.specs.Build.{Result}
 use Rattle.definition.specs.Lines.{printed}
-use Rattle.definition.specs.Promised.{Follows, In, Listed, Transitive, addedIn, byFirst, classUsesAt, covered, had, held, inputOf, marksAt, ownIn, ownOf, valued, markedFor}
+use Rattle.definition.specs.Promised.{Follows, In, Listed, Transitive, addedIn, byFirst, classUsesAt, covered, had, liveAt, inputOf, marksAt, ownIn, ownOf, valued, markedFor}
 use Rattle.definition.proofs.Places.{All}
 use Rattle.definition.proofs.Promises as defined
 use Rattle.job_shape.specs.Answer.{binaryJob, binaryAnswer}
@@ -60,18 +60,18 @@ promise-result n ol s r x a = (
 module _ (n₁ n₂ : ℕ) (ol₁ ol₂ : OutLayout) (s₁ s₂ : List ℕ) (r₁ r₂ : BuildEnd) (x₁ x₂ : List ℕ) (a₁ : Answered n₁ ol₁ (binaryAnswer s₁ (roomOf ol₁)) r₁ x₁) (z₁ : r₁ .number ≡ 0)
     (a₂ : Answered n₂ ol₂ (binaryAnswer s₂ (roomOf ol₂)) r₂ x₂) (z₂ : r₂ .number ≡ 0) where
   pub promise-read-back : printed (resultIn ol₁ r₁ x₁) ≡ printed (resultIn ol₂ r₂ x₂)
-      → (v : Value) → ((q : ℕ) → held v q (binaryJob s₁ .segments) ≡ held v q (binaryJob s₂ .segments)) × ((u : Use) → had v u (binaryJob s₁ .segments) ≡ had v u (binaryJob s₂ .segments))
+      → (v : Value) → ((q : ℕ) → liveAt v q (binaryJob s₁ .segments) ≡ liveAt v q (binaryJob s₂ .segments)) × ((u : Use) → had v u (binaryJob s₁ .segments) ≡ had v u (binaryJob s₂ .segments))
   promise-read-back e v =
       defined.promise-read-back (binaryJob s₁) (binaryJob s₂) (roomOf ol₁) (roomOf ol₂) _ _ (accepted n₁ ol₁ s₁ r₁ x₁ a₁ z₁) (accepted n₂ ol₂ s₂ r₂ x₂ a₂ z₂) e v
 
   -- the same, of the registers and groups that are read
   pub promise-rows-back : registersIn ol₁ (wordsOf x₁) (r₁ .registers) ≡ registersIn ol₂ (wordsOf x₂) (r₂ .registers) → groupsIn ol₁ (wordsOf x₁) (r₁ .groups) ≡ groupsIn ol₂ (wordsOf x₂) (r₂ .groups)
-      → (v : Value) → ((q : ℕ) → held v q (binaryJob s₁ .segments) ≡ held v q (binaryJob s₂ .segments)) × ((u : Use) → had v u (binaryJob s₁ .segments) ≡ had v u (binaryJob s₂ .segments))
+      → (v : Value) → ((q : ℕ) → liveAt v q (binaryJob s₁ .segments) ≡ liveAt v q (binaryJob s₂ .segments)) × ((u : Use) → had v u (binaryJob s₁ .segments) ≡ had v u (binaryJob s₂ .segments))
   promise-rows-back er eg = promise-read-back (λ i. printed (record { registers = er i; groups = eg i }))
 
   -- the same, of the bytes: tables with the same numbers of rows, the same answer and the same bytes
   pub promise-bytes-back : ol₁ ≡ ol₂ → r₁ ≡ r₂ → x₁ ≡ x₂
-      → (v : Value) → ((q : ℕ) → held v q (binaryJob s₁ .segments) ≡ held v q (binaryJob s₂ .segments)) × ((u : Use) → had v u (binaryJob s₁ .segments) ≡ had v u (binaryJob s₂ .segments))
+      → (v : Value) → ((q : ℕ) → liveAt v q (binaryJob s₁ .segments) ≡ liveAt v q (binaryJob s₂ .segments)) × ((u : Use) → had v u (binaryJob s₁ .segments) ≡ had v u (binaryJob s₂ .segments))
   promise-bytes-back eo er ex = promise-read-back (λ i. printed (resultIn (eo i) (er i) (ex i)))
 
 module _ (n : ℕ) (ol : OutLayout) (s : List ℕ) (r : BuildEnd) (x : List ℕ) (a : Answered n ol (binaryAnswer s (roomOf ol)) r x) (z : r .number ≡ 0) where
@@ -81,7 +81,7 @@ module _ (n : ℕ) (ol : OutLayout) (s : List ℕ) (r : BuildEnd) (x : List ℕ)
   -- value v as often as by the input ranges of t, and under whatever values as often as by them, which is once or not at all.
   -- Rules out: a right half whose row begins one instruction behind the cut, so that points are lost; a segment cut in two whose left row keeps the old end, so that points are held twice.
   pub promise-points : (t : ValueSet)
-      → ((v : Value) (q : ℕ) → (held v q (ownOf t (resultIn ol r x .registers)) ≡ held v q (inputOf (binaryJob s) t)) × (held v q (inputOf (binaryJob s) t) ≤ 1))
+      → ((v : Value) (q : ℕ) → (liveAt v q (ownOf t (resultIn ol r x .registers)) ≡ liveAt v q (inputOf (binaryJob s) t)) × (liveAt v q (inputOf (binaryJob s) t) ≤ 1))
       × ((q : ℕ) → (covered q (ownOf t (resultIn ol r x .registers)) ≡ covered q (inputOf (binaryJob s) t)) × (covered q (inputOf (binaryJob s) t) ≤ 1))
   promise-points = defined.promise-points (binaryJob s) (roomOf ol) (resultIn ol r x) (accepted n ol s r x a z)
 
@@ -127,6 +127,6 @@ module _ (n : ℕ) (ol : OutLayout) (s : List ℕ) (r : BuildEnd) (x : List ℕ)
 -- "its input ranges" and "its input uses": those of a value's set have all the points and uses that the value has in the job, so the promises speak of every segment of the job.
 -- Rules out, as readings of the words: the segments of the leader alone; those of the set's first value alone.
 pub input-whole : (s : List ℕ) (v : Value)
-    → ((q : ℕ) → held v q (inputOf (binaryJob s) (setOf (binaryJob s) v)) ≡ held v q (binaryJob s .segments))
+    → ((q : ℕ) → liveAt v q (inputOf (binaryJob s) (setOf (binaryJob s) v)) ≡ liveAt v q (binaryJob s .segments))
     × ((w : Use) → had v w (inputOf (binaryJob s) (setOf (binaryJob s) v)) ≡ had v w (binaryJob s .segments))
 input-whole s v = defined.input-whole (binaryJob s) v

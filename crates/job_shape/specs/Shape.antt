@@ -17,23 +17,23 @@ abbrev pub table : ℕ → ℕ → Table
 table at n = record { at = at; n = n }
 
 -- a table of n rows behind table t, which has rows of `stride` words
-abbrev pub behind : Table → ℕ → ℕ → Table
-behind t stride n = table (t .at + t .n * stride) n
+abbrev pub tableBehind : Table → ℕ → ℕ → Table
+tableBehind t stride n = table (t .at + t .n * stride) n
 
 -- the header's numbers of rows are those of banks, classes, regs, blocks, values, vgroups, operands, hints, segments and uses;
 -- the tables follow each other in this order, behind its fourteen words
 unfoldable pub layoutOf : List ℕ → Layout
 layoutOf W =
     let banks = table 14 (getD W 0 0) in
-    let classes = behind banks 1 (getD W 1 0) in
-    let regs = behind classes 4 (getD W 2 0) in
-    let blocks = behind regs 1 (getD W 3 0) in
-    let values = behind blocks 2 (getD W 4 0) in
-    let vgroups = behind values 3 (getD W 5 0) in
-    let operands = behind vgroups 9 (getD W 6 0) in
-    let hints = behind operands 4 (getD W 7 0) in
-    let segments = behind hints 3 (getD W 8 0) in
-    let uses = behind segments 5 (getD W 9 0) in
+    let classes = tableBehind banks 1 (getD W 1 0) in
+    let regs = tableBehind classes 4 (getD W 2 0) in
+    let blocks = tableBehind regs 1 (getD W 3 0) in
+    let values = tableBehind blocks 2 (getD W 4 0) in
+    let vgroups = tableBehind values 3 (getD W 5 0) in
+    let operands = tableBehind vgroups 9 (getD W 6 0) in
+    let hints = tableBehind operands 4 (getD W 7 0) in
+    let segments = tableBehind hints 3 (getD W 8 0) in
+    let uses = tableBehind segments 5 (getD W 9 0) in
     record {
       opts = 10;
       banks = banks;

@@ -73,7 +73,7 @@ fn map_operand(
     g: u32,
 ) -> bool
     requires { ⌜ Ready (wordCount (now job)) (wordCount (now work)) (wordsOf (now job)) (wordsOf (now work)) lay wl × HasOperand (jobOf (wordsOf (now job)) lay) p slot × (g < 4294967295) ⌝ }
-    ensures { λ r. ⌜ Maps (wordsOf (now (job .entry))) (wordsOf (now (work .entry))) lay wl (λ ms. mapOne p (some slot) (vrgroup g) ms (mappedAt ms p slot)) r (wordsOf (now (work .exit))) ⌝ }
+    ensures { λ r. ⌜ Maps (wordsOf (now (job .entry))) (wordsOf (now (work .entry))) lay wl (mapOne p (some slot) (vrgroup g)) r (wordsOf (now (work .exit))) ⌝ }
 {
     let insts = wl.nexts - wl.heads;
     let c = Chains {
