@@ -237,7 +237,7 @@ unfoldable pub answer : Job → Room → Out Result
 unfolding entry answerTo
 answer job room = answerTo (entry job) job room
 
--- ---- the cut finder, "public, over blocks, both ends and a side": a count above its limit is 2; a block empty or of bad frequency, or
+-- ---- the cut finder. "Public, over blocks, both ends and a side." A count above its limit is 2; a block empty or of bad frequency, or
 -- "cut ends not `after` < `before` < instructions", is 4. (A side off its list, 1, is no `Side`.)
 
 abbrev pub sideOf : Side → List BlockData → ℕ → ℕ → ℕ

@@ -273,7 +273,7 @@ ontoSegments seg ns r = record { waiting = []; made = segmentOf ns (r .waiting) 
 ontoSegments use′ ns r = record { waiting = useOf ns ∷ r .waiting; made = r .made }
 ontoSegments end ns r = r
 
--- "seg .., each followed by its use lines"
+-- "seg (value, from, to, flags), each followed by its use lines"
 unfoldable pub segmentsOf : List Record → Segments
 unfolding segmentOf useOf
 segmentsOf [] = record { waiting = []; made = [] }

@@ -46,7 +46,7 @@ abbrev pub pickN : Bool → ℕ → ℕ → ℕ
 pickN true x y = x
 pickN false x y = y
 
--- "The uses of a segment are those from its own count up to the next segment's, the last one's up to the number of uses"
+-- the uses of a segment are those from its own count up to the next segment's, the last one's up to the number of uses
 unfoldable pub nextUse : List ℕ → Layout → ℕ → ℕ
 nextUse W lay i = pickN (ltb (i + 1) (lay .segments .n)) (getD W (lay .segments .at + (i + 1) * 5 + 4) 0) (lay .uses .n)
 

@@ -49,7 +49,7 @@ shown-uses W lay O ol l =
     (λ j k.
     ap (λ (n : ℕ). getD (part at (at + l .count * 6) T) n 0) (zero-add j) ∙ part-get at (at + l .count * 6) j T (omega arith))
 
--- ---- a part: "the uses of a part are a part of the job's"
+-- ---- the uses of a part are a part of the job's
 
 -- the rows of uses `first` to `end` - 1 of the job
 pub part-shown : (W : List ℕ) (lay : Layout) (O : List ℕ) (ol : OutLayout) (sp : SetPart) → sp .first ≤ sp .end
