@@ -15,7 +15,6 @@ use Rattle.definition.specs.declared.Inst.{Inst}
 use Rattle.definition.specs.declared.RegClass.{RegClass}
 use Rattle.definition.specs.declared.Stop.the-variants.{MappedTwice, Overlap}
 use Rattle.definition.specs.declared.Use.{Use}
-use Rattle.definition.specs.declared.UseKind.{UseKind}
 use Rattle.definition.specs.declared.ValueSet.{ValueSet}
 use Rattle.definition.specs.declared.VirtReg.{VirtReg}
 use Rattle.definition.specs.declared.VirtRegGroup.{VirtRegGroup}

@@ -1,9 +1,9 @@
 -- A round over turned uses: those that are taken scan through to what is held; and placing them keeps what a state is. Assumes nothing.
-use mathlib.Core.Path.{_≡_, refl, ap}
+use mathlib.Core.Path.{_≡_, refl}
 use Prim.Native.Nat.{ℕ, zero, suc}
 use native.Mathlib.Omega.{arith}
 use mathlib.Core.Option.{Option, none, some}
-use mathlib.Core.List.{List, [], _∷_, _++_, map, append-nil}
+use mathlib.Core.List.{List, [], _∷_, _++_}
 use lib.ListN.{length}
 use Rattle.definition.specs.declared.Inst.{Inst}
 use Rattle.definition.specs.declared.RegClass.{RegClass}
@@ -11,7 +11,7 @@ use Rattle.definition.specs.declared.Use.{Use}
 use Rattle.definition.specs.declared.Value.{Value}
 use Rattle.definition.specs.declared.ValueSet.{ValueSet}
 use Rattle.definition.specs.Types.{Job, Room, State, Held, Turned, done}
-use Rattle.definition.specs.Admit.{admit, admitKind, scan, through, fresh}
+use Rattle.definition.specs.Admit.{admit, scan, through, fresh}
 use Rattle.definition.specs.Place.{place, segsOf, usesOf}
 use Rattle.definition.specs.Build.{Round, conflictPiece, lastFirst, opening, try, usesTurned}
 use Rattle.definition.proofs.Places.{All, all-append, all-first}

@@ -43,6 +43,7 @@ hasRoom room st r g ps =
     leb (length (st .registers) + r) (room .registers) && leb (piecesIn st + length ps) (room .segments)
     && leb (usesIn st + usesOfPieces ps) (room .uses) && leb (length (st .groups) + g) (room .groups)
 
+-- the state, if there is room
 unfoldable pub ifRoom : Bool → State → Out State
 ifRoom true st = done st
 ifRoom false st = refused Full
@@ -162,8 +163,7 @@ onMapping (some ms) k = k ms
 unfoldable pub mapUses : VirtRegGroup → List Use → List Mapped → Option (List Mapped)
 unfolding mappedAt
 mapUses g [] ms = some ms
-mapUses g (u ∷ us) ms =
-    onMapping (mapOne (u .pos) (slotOf (u .kind)) g ms) λ ns. mapUses g us ns
+mapUses g (u ∷ us) ms = onMapping (mapOne (u .pos) (slotOf (u .kind)) g ms) λ ns. mapUses g us ns
 
 unfoldable pub usesOf : List Segment → List Use
 usesOf [] = []
@@ -207,8 +207,8 @@ alone job room set′ h new st = ifRoom (hasRoom room st 1 0 new) (aloneState jo
 
 -- ---- all four
 
--- In a group: a new one where the operands are unmapped, else the one that they are mapped to. A register to merge into is read from a place of a mapped group
--- (`atPlace`), and a mapping once held stays (`mappingFits`): so where none is held there is no such register (`scan-unmapped` in `proofs/Targets.antt`).
+-- In a group: a new one where no mapping is held, else the one that is mapped to. A register to merge into is read from a place of that one (`atPlace`), and a mapping
+-- once held stays (`mappingFits`): so where none is held there is no register to merge into (`scan-unmapped` in `proofs/Targets.antt`), and none is asked for.
 unfoldable pub placeGroup : Job → Room → ValueSet → Held → List Piece → State → HeldGroup → Option VirtRegGroup → Option VirtReg → Out State
 unfolding merge join lead
 placeGroup job room set′ h new st hg none t = lead job room set′ h hg new st

@@ -13,7 +13,6 @@ ghost use Prim.Native.Nat.{_+_, _<_};
 ghost use Rattle.words.specs.Words.{wordCount, wordsOf};
 ghost use Rattle.definition.specs.Types.{vrgroup};
 ghost use Rattle.definition.specs.Uses.{slotOf};
-ghost use Rattle.definition.specs.Admit.{mappedAt};
 ghost use Rattle.definition.specs.Place.{mapOne, mapUses, usesOf};
 ghost use Rattle.job.specs.Job.{jobOf};
 ghost use Rattle.set_part.specs.Part.{PartOk, partSegs};
