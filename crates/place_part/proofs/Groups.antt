@@ -44,11 +44,11 @@ use Rattle.place_part.specs.Asked.{newPieces, Standing, Asked, RoomEnds,
 
 -- ---- by the answer b to whether there is room
 
-pub room-full : (ol : OutLayout) (O : List ℕ) (r : PlaceEnd) (b x : Bool) (st : State) → b ≡ x → b ≡ false → r .end ≡ ended.Full → RoomEnds ol O r x st
-room-full ol O r b x st ex eb e = record { full = λ _. e; done = λ t. absurd (let z : _≡_ {A = ℕ} 0 1 = cc in omega arith) }
+pub room-ends-full : (ol : OutLayout) (O : List ℕ) (r : PlaceEnd) (b x : Bool) (st : State) → b ≡ x → b ≡ false → r .end ≡ ended.Full → RoomEnds ol O r x st
+room-ends-full ol O r b x st ex eb e = record { full = λ _. e; done = λ t. absurd (let z : _≡_ {A = ℕ} 0 1 = cc in omega arith) }
 
-pub room-done : (ol : OutLayout) (O : List ℕ) (r : PlaceEnd) (b x : Bool) (st : State) → b ≡ x → b ≡ true → r .end ≡ ended.Done → Left ol O (r .counts) st → RoomEnds ol O r x st
-room-done ol O r b x st ex eb e l = record { full = λ t. absurd (let z : _≡_ {A = ℕ} 0 1 = cc in omega arith); done = λ _. (e, l) }
+pub room-ends-done : (ol : OutLayout) (O : List ℕ) (r : PlaceEnd) (b x : Bool) (st : State) → b ≡ x → b ≡ true → r .end ≡ ended.Done → Left ol O (r .counts) st → RoomEnds ol O r x st
+room-ends-done ol O r b x st ex eb e l = record { full = λ t. absurd (let z : _≡_ {A = ℕ} 0 1 = cc in omega arith); done = λ _. (e, l) }
 
 -- ---- what is asked
 
