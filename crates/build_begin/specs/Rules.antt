@@ -18,7 +18,7 @@ use Rattle.definition.specs.declared.Use.{Use}
 use Rattle.definition.specs.Types.{Segment, Job}
 use Rattle.definition.specs.RegInfo.{classAt, noClass}
 use Rattle.definition.specs.Build.{withUses}
-use Rattle.definition.specs.Entry.{bookOk, bookTests, chained, classOk, classTests, entry, entryTests, every, functionOk, groupUseOk, insts, limitTests, limitsOk, membersOf, segmentOk, segmentTests, segmentsOk, sized, useOk, usesOk}
+use Rattle.definition.specs.Entry.{bookOk, bookTests, chained, classOk, classTests, entry, entryTests, every, functionOk, groupUseOk, insts, limitTests, limitsOk, vgroupValues, segmentOk, segmentTests, segmentsOk, sized, useOk, usesOk}
 use Rattle.definition.specs.Promised.{bitAt}
 use Rattle.definition.proofs.Places.{All, all-map, all-getD}
 use Rattle.definition.proofs.Tables.{operandAt, uses-are}
@@ -104,7 +104,7 @@ module _ (J : Job) (e : entry J ≡ none) where
   group-use-fits v p s c i g =
       let o = operandAt (J .operands) p s in
       let t = group-operand J function-passed v p s c i g in
-      let size : sizeOf J c ≡ length (membersOf J (o .vgroup)) = subst (λ (x : RegClass). classAt J x .size ≡ length (membersOf J (o .vgroup))) (t .1 .2) (t .0 .1) in
+      let size : sizeOf J c ≡ length (vgroupValues J (o .vgroup)) = subst (λ (x : RegClass). classAt J x .size ≡ length (vgroupValues J (o .vgroup))) (t .1 .2) (t .0 .1) in
       (t .1 .2, omega (arith, t .0 .0), omega (arith, t .1 .3))
 
   segment-fits : (s : Segment) → usesOk J s ≡ true → SegFits J s

@@ -9,7 +9,7 @@ use Rattle.rows.specs.Tab.{tab, tab-done, tab-append}
 use Rattle.definition.specs.Types.{Segment, Job}
 use Rattle.definition.specs.RegInfo.{setOf}
 use Rattle.definition.specs.Build.{runs, sameSet}
-use Rattle.definition.specs.Entry.{behind, chained, every, entry, entryTests, segmentOk, segmentsOk}
+use Rattle.definition.specs.Entry.{inOrder, chained, every, entry, entryTests, segmentOk, segmentsOk}
 use Rattle.definition.proofs.Places.{All, all-split}
 use Rattle.definition.proofs.Entries.{and-both, lowest-none, Good}
 use Rattle.definition.proofs.Fits.{SegsFit}
@@ -81,12 +81,12 @@ each-kinds J [] h = tt
 each-kinds J (s ∷ ss) h = (all-each (UseFits J) (s .uses) (h .0), each-kinds J ss (h .1))
 
 module _ (W : List ℕ) (lay : Layout) (e : entry (jobOf W lay) ≡ none) where
-  ordered : (a : ℕ) → a ≤ lay .segments .n → chained (behind (jobOf W lay)) (segsFrom W lay a (lay .segments .n)) ≡ true
+  ordered : (a : ℕ) → a ≤ lay .segments .n → chained (inOrder (jobOf W lay)) (segsFrom W lay a (lay .segments .n)) ≡ true
   unfolding entry segmentsOk
   ordered a h =
-      let c = and-both (every (segmentOk (jobOf W lay)) (jobOf W lay .segments)) (chained (behind (jobOf W lay)) (jobOf W lay .segments)) (lowest-none (entryTests (jobOf W lay)) e .1 .1 .1 .1 .0) .1 in
-      chained-back (behind (jobOf W lay)) (segsFrom W lay 0 a) (segsFrom W lay a (lay .segments .n))
-      (subst (λ (ss : List Segment). chained (behind (jobOf W lay)) ss ≡ true) (sym (all-segs W lay) ∙ segs-split W lay 0 a (lay .segments .n) (omega arith) h) c)
+      let c = and-both (every (segmentOk (jobOf W lay)) (jobOf W lay .segments)) (chained (inOrder (jobOf W lay)) (jobOf W lay .segments)) (lowest-none (entryTests (jobOf W lay)) e .1 .1 .1 .1 .0) .1 in
+      chained-back (inOrder (jobOf W lay)) (segsFrom W lay 0 a) (segsFrom W lay a (lay .segments .n))
+      (subst (λ (ss : List Segment). chained (inOrder (jobOf W lay)) ss ≡ true) (sym (all-segs W lay) ∙ segs-split W lay 0 a (lay .segments .n) (omega arith) h) c)
 
   -- the sets from segment a on rise
   pub sets-rise : (a : ℕ) → a < lay .segments .n → (t : ℕ) × Rise (jobOf W lay) t (runs (sameSet (jobOf W lay)) (segsFrom W lay a (lay .segments .n)))
@@ -97,7 +97,7 @@ module _ (W : List ℕ) (lay : Layout) (e : entry (jobOf W lay) ≡ none) where
         subst (λ (ss : List Segment). Rise J (setOf J (segmentOf useRow W lay a .value) .0) (runs (sameSet J) ss)) (sym m)
             (runs-rise J (segmentOf useRow W lay a) (segsFrom W lay (a + 1) (lay .segments .n))
             (subst (λ (ss : List Segment). All (Good J) ss) m (all-from W lay (Good J) a (lay .segments .n) (omega arith) (omega arith) (accepted-good J e)))
-            (subst (λ (ss : List Segment). chained (behind J) ss ≡ true) m (ordered a (omega arith)))),
+            (subst (λ (ss : List Segment). chained (inOrder J) ss ≡ true) m (ordered a (omega arith)))),
       )
 
   -- Segments a to b - 1 are the first set of those from a on: they can be placed.

@@ -14,9 +14,9 @@ use scans::MoveKind;
 use scans::next_move;
 use set_part::SetPart;
 use steps::StepsEnd;
-use steps::behind;
 use steps::cut_front;
 use steps::is_done;
+use steps::saturating_sub;
 use steps::turn_one;
 use virt_regs::Counts;
 use virt_regs::OutLayout;
@@ -145,7 +145,7 @@ fn one_step(
             over(sp, r, n)
         }
         MoveKind::Turn(k) => {
-            let i = behind(k, a);
+            let i = saturating_sub(k, a);
             turn_one(job, lay, work, wl, sp, i, n);
             go_on(sp, c, n + 1)
         }

@@ -15,7 +15,6 @@ use Rattle.definition.specs.declared.Inst.{Inst}
 use Rattle.definition.specs.declared.RegClass.{RegClass}
 use Rattle.definition.specs.declared.Stop.the-variants.{MappedTwice, Overlap}
 use Rattle.definition.specs.declared.Use.{Use}
-use Rattle.definition.specs.declared.UseKind.{UseKind}
 use Rattle.definition.specs.declared.ValueSet.{ValueSet}
 use Rattle.definition.specs.declared.VirtReg.{VirtReg}
 use Rattle.definition.specs.declared.VirtRegGroup.{VirtRegGroup}
@@ -23,9 +22,9 @@ use Rattle.definition.specs.Types.{Job, Room, State, Held, HeldGroup, Piece, Re
 use Rattle.definition.specs.Uses.{slotOf}
 use Rattle.definition.specs.Weights.{weightOf}
 use Rattle.definition.specs.Admit.{scan, through, fresh, membersAt, mappedAt, registerAt, noRegister}
-use Rattle.definition.specs.Place.{alone, aloneState, firstFrom, groupWeight, hasRoom, inserted, isNone, join, joinState, lastTo, lead, leadState, made, mapOne, mapUses, merge, mergeState, onMapping, orElse, overlaps, place, placeBy, placeGroup, segsOf, slotD, spread, update, usesOf, withPieces}
+use Rattle.definition.specs.Place.{alone, aloneState, firstFrom, groupWeight, hasRoom, ifUnmapped, inserted, isNone, join, joinState, lastTo, lead, leadState, made, mapOne, mapUses, merge, mergeState, onMapping, orElse, overlaps, place, placeBy, placeGroup, segsOf, spread, update, usesOf, withPieces}
 use Rattle.definition.specs.Build.{asOwn, empty}
-use Rattle.definition.proofs.Places.{All, Ok, Members, Groups, all-map, all-append, all-getD, all-set, members-ok, gate-done, placed, scan-target, update-length, own-uses}
+use Rattle.definition.proofs.Places.{All, Ok, Members, Groups, all-map, all-append, all-getD, all-set, members-ok, gate-done, room-done, placed, scan-target, update-length, own-uses}
 use Rattle.definition.proofs.Classes.{Masks}
 use Rattle.definition.proofs.Tables.{nth, memb, memb-all, Inside, spread-in, spread-out, spread-len, nth-left, nth-last}
 use Rattle.definition.proofs.Admission.{asked, sizeOf, UseFits, Sizes}
@@ -177,22 +176,24 @@ module _ (M : Inst → ℕ → VirtRegGroup → Type 0) where
   OnFound none = Unit {0}
   OnFound (some ms) = Found M ms
 
-  found-one : (g : VirtRegGroup) (p : Inst) (k : UseKind) (o : Option ℕ) (at : Option VirtRegGroup) (ms : List Mapped) → slotOf k ≡ o → ((s : ℕ) → slotOf k ≡ some s → M p s g) → Found M ms
-      → OnFound (mapOne p o g ms at)
-  found-one g p k none at ms e f a = a
-  found-one g p k (some s) (some x) ms e f a = tt
-  found-one g p k (some s) none ms e f a = λ q t x r. go q t x (mapped-snoc (record { inst = p; slot = s; group = g }) ms q t x r)
+  if-unmapped : (o : Option VirtRegGroup) (ms : List Mapped) → Found M ms → OnFound (ifUnmapped o ms)
+  if-unmapped none ms a = a
+  if-unmapped (some x) ms a = tt
+
+  found-one : (g : VirtRegGroup) (p : Inst) (o : Option ℕ) (ms : List Mapped) → ((s : ℕ) → o ≡ some s → M p s g) → Found M ms → OnFound (mapOne p o g ms)
+  found-one g p none ms f a = a
+  found-one g p (some s) ms f a =
+      if-unmapped (mappedAt ms p s) (ms ++ (record { inst = p; slot = s; group = g } ∷ [])) λ q t x r. go q t x (mapped-snoc (record { inst = p; slot = s; group = g }) ms q t x r)
     where
       go : (q : Inst) (t : ℕ) (x : VirtRegGroup) → (mappedAt ms q t ≡ some x) ⊎ ((p ≡ q) × (s ≡ t) × (g ≡ x)) → M q t x
       go q t x (inl r) = a q t x r
-      go q t x (inr r) = let a₀ : p ≡ q = r .0 in let a₁ : s ≡ t = r .1 in let a₂ : g ≡ x = r .2 in rw (← a₀, ← a₁, ← a₂) (f s e)
+      go q t x (inr r) = let a₀ : p ≡ q = r .0 in let a₁ : s ≡ t = r .1 in let a₂ : g ≡ x = r .2 in rw (← a₀, ← a₁, ← a₂) (f s refl)
 
   found-all : (g : VirtRegGroup) (us : List Use) (ms : List Mapped) → Found M ms → All (λ w. (s : ℕ) → slotOf (w .kind) ≡ some s → M (w .pos) s g) us → OnFound (mapUses g us ms)
   unfolding mapUses
   found-all g [] ms a b = a
   found-all g (w ∷ us) ms a b =
-      go (mapOne (w .pos) (slotOf (w .kind)) g ms (mappedAt ms (w .pos) (slotD (slotOf (w .kind)))))
-      (found-one g (w .pos) (w .kind) (slotOf (w .kind)) (mappedAt ms (w .pos) (slotD (slotOf (w .kind)))) ms refl (b .0) a) (λ ns c. found-all g us ns c (b .1))
+      go (mapOne (w .pos) (slotOf (w .kind)) g ms) (found-one g (w .pos) (slotOf (w .kind)) ms (b .0) a) (λ ns c. found-all g us ns c (b .1))
     where
       go : (o : Option (List Mapped)) → OnFound o → ((ns : List Mapped) → Found M ns → OnFound (mapUses g us ns)) → OnFound (onMapping o (λ ns. mapUses g us ns))
       go none c ih = tt
@@ -285,12 +286,12 @@ module _ (J : Job) (st : State) (ok : GroupsFit J st) (gs : Groups st) (vs : Val
       grp hg none t a q =
           let o = mapUses (vrgroup (length (st .groups))) (usesOf (segsOf new)) (st .mapping) in
           subst (GroupsFit J) (gate-done (isNone o) (hasRoom room st 1 1 new) MappedTwice (leadState J vs h hg new st (orElse o [])) st′ q) (lead-fits hg us)
-      grp hg (some g) none a q = subst (GroupsFit J) (gate-done false (hasRoom room st 1 0 new) Overlap (joinState J vs h hg g new st) st′ q) (join-fits hg g (a .2))
+      grp hg (some g) none a q = subst (GroupsFit J) (room-done (hasRoom room st 1 0 new) (joinState J vs h hg g new st) st′ q) (join-fits hg g (a .2))
       grp hg (some g) (some v) a q =
           subst (GroupsFit J) (gate-done (overlaps (firstFrom new) (lastTo new) (registerAt st v .pieces)) (hasRoom room st 0 0 new) Overlap (mergeState J h hg g v new st) st′ q) (merge-fits hg g v (a .2))
 
       go : (gr : Option HeldGroup) → GroupFit J st (h .class) gr → placeBy J room vs h new st gr ≡ done st′ → GroupsFit J st′
-      go none a q = subst (GroupsFit J) (gate-done false (hasRoom room st 1 0 new) Overlap (aloneState J vs h new st) st′ q) alone-fits
+      go none a q = subst (GroupsFit J) (room-done (hasRoom room st 1 0 new) (aloneState J vs h new st) st′ q) alone-fits
       go (some hg) a q = grp hg (hg .mapped) (h .target) (a .2) q
 
 -- ---- placing what was scanned

@@ -31,7 +31,7 @@ use Rattle.operands.proofs.Twice.{never}
 use Rattle.operands.proofs.Only.{under-of}
 use Rattle.uses.specs.Rows.{useRow}
 use Rattle.layout.specs.declared.Layout.{Layout}
-use Rattle.layout.specs.Layout.{Fits, segRow, segAt, nextUse, usesIn, segmentOf}
+use Rattle.layout.specs.Layout.{Fits, segRow, segAt, nextUse, jobUses, segmentOf}
 use Rattle.job.specs.Job.{jobBy, jobOf}
 use Rattle.work_layout.specs.declared.WorkLayout.{WorkLayout}
 use Rattle.constraints.specs.Asks.{askOf}
@@ -187,7 +187,7 @@ module _ (W : List ℕ) (lay : Layout) (ok : every (usesOk (jobOf W lay)) (jobOf
       ∙ every-at (usesOk (jobOf W lay)) (tab (segmentOf useRow W lay) 0 (lay .segments .n)) i noSegment e l
 
   pub use-ok : (n : ℕ) (s : InSegment W lay n) → useOk (jobOf W lay) (segmentOf useRow W lay (s .number)) (useRow W (lay .uses .at + n * 6)) ≡ true
-  unfolding usesOk segmentOf usesIn
+  unfolding usesOk segmentOf jobUses
   use-ok n s =
       let j : n - segAt W lay (s .number) .first < nextUse W lay (s .number) - segAt W lay (s .number) .first = omega (arith, s .after, s .before) in
       let us : every (useOk (jobOf W lay) (segmentOf useRow W lay (s .number))) (rowsAt useRow W (lay .uses .at + segAt W lay (s .number) .first * 6) 6 (nextUse W lay (s .number) - segAt W lay (s .number) .first)) ≡ true =

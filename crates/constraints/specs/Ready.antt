@@ -32,7 +32,7 @@ use Rattle.constraints.specs.Asks.{askOf}
 abbrev pub operandsIn : List ℕ → Layout → List Operand
 operandsIn W lay = operandsAt W (lay .operands .at) (lay .operands .n)
 
--- "mapping: one word per operand": the words of K from word `at` on say which group each operand is mapped to
+-- a word for each operand: the words of K from word `at` on say which group each operand is mapped to
 pub record Mapping (K : List ℕ) (at : ℕ) (os : List Operand) (ms : List Mapped) : Type 0 where
   pub is : (k : ℕ) → k < length os → getD K (at + k) 0 ≡ groupWord (mappedAt ms (opAt os k .inst) (opAt os k .slot))
 

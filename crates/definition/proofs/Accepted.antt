@@ -14,7 +14,7 @@ use Rattle.definition.specs.Types.{Inst, Value, RegClass, VirtReg, Use, 
 use Rattle.definition.specs.RegInfo.{classAt, noClass}
 use Rattle.definition.specs.Place.{total}
 use Rattle.definition.specs.Build.{Result, build, one}
-use Rattle.definition.specs.Entry.{answer, answerTo, apart, bookOk, bookTests, classOk, classTests, conj, entry, entryTests, functionOk, functionTests, groupUseOk, groupUseTests, limitTests, limitsOk, membersOf, operandOk, operandTests, samePlace, sized, some-is, usesOk, vgroupOk, vgroupTests}
+use Rattle.definition.specs.Entry.{answer, answerTo, apart, bookOk, bookTests, classOk, classTests, conj, entry, entryTests, functionOk, functionTests, groupUseOk, groupUseTests, limitTests, limitsOk, vgroupValues, operandOk, operandTests, samePlace, sized, some-is, usesOk, vgroupOk, vgroupTests}
 use Rattle.definition.specs.Promised.{Transitive, bitAt, holds}
 use Rattle.definition.proofs.Places.{All, all-map, all-getD, counted}
 use Rattle.definition.proofs.Tables.{nth, operandAt, uses-are}
@@ -89,7 +89,7 @@ module _ (job : Job) where
 
   abbrev pub There : Value → Inst → ℕ → RegClass → ℕ → Operand → Type 0
   There v p s c i o =
-      (o .inst ≡ p) × (o .slot ≡ s) × (o .class ≡ c) × (i < length (membersOf job (o .vgroup))) × (getD (membersOf job (o .vgroup)) i (val 0) ≡ v)
+      (o .inst ≡ p) × (o .slot ≡ s) × (o .class ≡ c) × (i < length (vgroupValues job (o .vgroup))) × (getD (vgroupValues job (o .vgroup)) i (val 0) ≡ v)
 
   there : (v : Value) (p : Inst) (s : ℕ) (c : RegClass) (i : ℕ) (o : Operand) → conj (groupUseTests job v p s c i o) ≡ true → There v p s c i o
   there v p s c i o e =
@@ -137,17 +137,17 @@ module _ (job : Job) where
 
   module _ (fn : functionOk job ≡ true) where
     abbrev OpFits : Operand → Type 0
-    OpFits o = (2 ≤ length (membersOf job (o .vgroup))) × (classAt job (o .class) .size ≡ length (membersOf job (o .vgroup)))
+    OpFits o = (2 ≤ length (vgroupValues job (o .vgroup))) × (classAt job (o .class) .size ≡ length (vgroupValues job (o .vgroup)))
 
     op-fits : (o : Operand) → operandOk job o ≡ true → OpFits o
-    unfolding operandOk functionOk membersOf vgroupOk
+    unfolding operandOk functionOk vgroupValues vgroupOk
     op-fits o e =
         let a = conj-all (operandTests job o) e in
         let f = conj-all (functionTests job) fn in
         let g = every-all (vgroupOk job) (job .vgroups) (f .1 .1 .0) in
         let l : o .vgroup .0 < length (job .vgroups) = ltb-true _ _ (a .1 .1 .0) in
-        let v : vgroupOk job (membersOf job (o .vgroup)) ≡ true = all-at (λ x. vgroupOk job x ≡ true) (job .vgroups) (o .vgroup .0) [] g l in
-        (leb-true _ _ (conj-all (vgroupTests job (membersOf job (o .vgroup))) v .0), eqb-true _ _ (a .1 .1 .1 .1 .0))
+        let v : vgroupOk job (vgroupValues job (o .vgroup)) ≡ true = all-at (λ x. vgroupOk job x ≡ true) (job .vgroups) (o .vgroup .0) [] g l in
+        (leb-true _ _ (conj-all (vgroupTests job (vgroupValues job (o .vgroup))) v .0), eqb-true _ _ (a .1 .1 .1 .1 .0))
 
     -- the operand of a group use
     pub group-operand : (v : Value) (p : Inst) (s : ℕ) (c : RegClass) (i : ℕ) → groupUseOk job v p s c i ≡ true
@@ -161,7 +161,7 @@ module _ (job : Job) where
     group-use-fits v p s c i e =
         let o = operandAt (job .operands) p s in
         let t = group-operand v p s c i e in
-        let size : sizeOf job c ≡ length (membersOf job (o .vgroup)) = subst (λ (x : RegClass). classAt job x .size ≡ length (membersOf job (o .vgroup))) (t .1 .2) (t .0 .1) in
+        let size : sizeOf job c ≡ length (vgroupValues job (o .vgroup)) = subst (λ (x : RegClass). classAt job x .size ≡ length (vgroupValues job (o .vgroup))) (t .1 .2) (t .0 .1) in
         (t .1 .2, omega (arith, t .0 .0), omega (arith, t .1 .3))
 
     uses-fit : (s : Segment) → usesOk job s ≡ true → All (UseFits job) (s .uses)

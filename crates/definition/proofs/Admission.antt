@@ -19,7 +19,7 @@ use Rattle.definition.specs.Admit.{admit, admitClass, admitGroup, admitK
 use Rattle.definition.specs.Place.{alone, aloneState, firstFrom, groupWeight, hasRoom, inserted, isNone, join, joinState, lastTo, lead, leadState, made, mapUses, merge, mergeState, orElse, overlaps, place, placeBy, placeGroup, segsOf, spread, update, usesOf, withPieces}
 use Rattle.definition.specs.Build.{Result, build, buildSets, empty, runs, sameSet}
 use Rattle.definition.specs.Promised.{In, Transitive}
-use Rattle.definition.proofs.Places.{All, all-getD, all-set, all-map, bind-some, bind-done, update-length, gate-done}
+use Rattle.definition.proofs.Places.{All, all-getD, all-set, all-map, bind-some, bind-done, update-length, gate-done, room-done}
 use Rattle.definition.proofs.Classes.{Masks, Serves, Below, common-in, below-in, below-trans, serves-below, same-step, class-step}
 use Rattle.definition.proofs.Scans.{scan-step}
 use Rattle.definition.proofs.Tables.{nth, update-same, update-other, same-vreg, same-group, memb, Inside, spread-at, spread-in, spread-out, getD-memb, memb-all, all-memb, spread-len, nth-left, nth-last, AllMapped, OnMapped, mapped-found, map-all, or-empty, operandAt, all-inserted, by-pieces, piece-uses, guarded, fits-parts, KindIs, kind-cases}
@@ -585,7 +585,7 @@ module _ (job : Job) (ms : Masks job) (tr : Transitive job) (sz : Sizes job) (ro
                 (lead-sound job ms tr st κ ok set′ h new sp hg o k (map-all (Entered job ms tr st κ ok set′ h new sp g) g (usesOf (segsOf new)) (st .mapping) (old-entries job ms tr st κ ok set′ h new sp) (new-entries job ms tr st κ ok set′ h new sp g (usesOf (segsOf new)) fit sv))),
           )
       grp hg (some g) none k a f =
-          let q : joinState job set′ h hg g new st ≡ st′ = gate-done false (hasRoom room st 1 0 new) Overlap (joinState job set′ h hg g new st) st′ f in
+          let q : joinState job set′ h hg g new st ≡ st′ = room-done (hasRoom room st 1 0 new) (joinState job set′ h hg g new st) st′ f in
           (over κ g (h .class), subst (λ (x : State). Sound job x (over κ g (h .class))) q (join-sound job ms tr st κ ok set′ h new sp hg g (a .0) (a .1)))
       grp hg (some g) (some v) k a f =
           let q : mergeState job h hg g v new st ≡ st′ = gate-done (overlaps (firstFrom new) (lastTo new) (registerAt st v .pieces)) (hasRoom room st 0 0 new) Overlap (mergeState job h hg g v new st) st′ f in
@@ -593,7 +593,7 @@ module _ (job : Job) (ms : Masks job) (tr : Transitive job) (sz : Sizes job) (ro
 
       go : (gr : Option HeldGroup) → GroupOk job st κ (h .class) (h .target) gr → placeBy job room set′ h new st gr ≡ done st′ → SoundIn st′
       go none a f =
-          let q : aloneState job set′ h new st ≡ st′ = gate-done false (hasRoom room st 1 0 new) Overlap (aloneState job set′ h new st) st′ f in
+          let q : aloneState job set′ h new st ≡ st′ = room-done (hasRoom room st 1 0 new) (aloneState job set′ h new st) st′ f in
           (κ, subst (λ (x : State). Sound job x κ) q (alone-sound job ms tr st κ ok set′ h new sp))
       go (some hg) a f = grp hg (hg .mapped) (h .target) (a .0) (a .2) f
 

@@ -4,7 +4,7 @@ use Prim.Native.Nat.{ℕ, zero, suc, _+_, _-_, _*_, _≤_}
 use native.Mathlib.Omega.{arith}
 use mathlib.Core.Bool.{Bool, true, false, cond}
 use mathlib.Core.Option.{Option, none, some}
-use mathlib.Core.List.{List, [], _∷_, _++_, map, append-nil, reverse, reverseAux}
+use mathlib.Core.List.{List, [], _∷_, _++_, append-nil, reverse, reverseAux}
 use lib.ListN.{length}
 use lib.Dec.{eqb, leb, ltb}
 use borrow.Author.Tests.{eqb-true}
@@ -13,7 +13,7 @@ use Rattle.definition.specs.RegInfo.{setOf, topOf}
 use Rattle.definition.specs.Cuts.{leftCut, leftOf, rightCut, rightOf}
 use Rattle.definition.specs.Admit.{Move, Scan, admit, admitKind, cut, fails-at, fresh, halt, move, scan, through, turn, whole}
 use Rattle.definition.specs.Place.{place, segsOf, total, usesOf}
-use Rattle.definition.specs.Build.{Built, Result, Round, allOf, asOwn, atInst, build, buildSet, buildSets, classUses, conflictPiece, conflicts, empty, lastFirst, lastFirst′, onto, opening, placeFront, placeRound, placeScan, rounds, runs, sameInst, sameSet, step, steps, try, turnAt, turnIn, turnedAt, withUses}
+use Rattle.definition.specs.Build.{Built, Result, Round, allOf, asOwn, atInst, build, buildSet, buildSets, classUses, conflictPiece, conflicts, empty, lastFirst, lastFirst′, onto, opening, placeFront, placeRound, placeScan, rounds, runs, sameInst, sameSet, step, steps, try, turnAt, turnIn, turnedAt, usesTurned, withUses}
 use Rattle.definition.proofs.Scans.{scan-snoc}
 use Rattle.definition.proofs.Moves.{ClassAt, move-whole, move-turn}
 use Rattle.definition.proofs.Places.{All, all-append, all-first, bind-done, own-uses, total-append}
@@ -62,10 +62,10 @@ unfolding total
 total-one [] = refl
 total-one (x ∷ xs) = omega (arith, total-one xs)
 
-abbrev usesIn : List Turned → List Use
-usesIn ts = map (λ t. t .use′) ts
+pub first-length : (us : List Turned) → length (lastFirst us) ≡ length us
+first-length us = omega (arith, first-total (λ _. 1) us, total-one us, total-one (lastFirst us))
 
-uses-snoc : (ts : List Turned) (t : Turned) → usesIn (ts ++ (t ∷ [])) ≡ usesIn ts ++ (t .use′ ∷ [])
+pub uses-snoc : (ts : List Turned) (t : Turned) → usesTurned (ts ++ (t ∷ [])) ≡ usesTurned ts ++ (t .use′ ∷ [])
 uses-snoc [] t = refl
 uses-snoc (s ∷ ts) t = ap (λ (l : List Use). s .use′ ∷ l) (uses-snoc ts t)
 
@@ -77,10 +77,10 @@ pub record Split (us taken left : List Turned) : Type 1 where
 module _ (job : Job) (st : State) (h₀ : Held) where
   abbrev Picked : (Turned → ℕ) → (Turned → Type 0) → List Turned → List Turned → List Turned → Round → Type 0
   Picked f P taken us left r =
-      (scan job st (usesIn (r .taken)) h₀ ≡ through (r .held)) × (total f (r .taken) + total f (r .left) ≡ total f taken + total f us + total f left)
+      (scan job st (usesTurned (r .taken)) h₀ ≡ through (r .held)) × (total f (r .taken) + total f (r .left) ≡ total f taken + total f us + total f left)
       × (All P taken → All P us → All P left → All P (r .taken) × All P (r .left))
 
-  try-picked : (f : Turned → ℕ) (P : Turned → Type 0) (n : ℕ) (h : Held) (taken us left : List Turned) → length us ≤ n → scan job st (usesIn taken) h₀ ≡ through h
+  try-picked : (f : Turned → ℕ) (P : Turned → Type 0) (n : ℕ) (h : Held) (taken us left : List Turned) → length us ≤ n → scan job st (usesTurned taken) h₀ ≡ through h
       → Picked f P taken us left (try n job st h taken us left)
   unfolding try total
   try-picked f P zero h taken [] left l e = (e, omega arith, λ a b c. (a, c))
@@ -88,15 +88,23 @@ module _ (job : Job) (st : State) (h₀ : Held) where
   try-picked f P (suc n) h taken [] left l e = (e, omega arith, λ a b c. (a, c))
   try-picked f P (suc n) h taken (t ∷ us) left l e =
       go (admit job st h (t .use′)) refl (λ g d. try-picked f P n g (taken ++ (t ∷ [])) us left (omega arith) d)
-      (try-picked f P n h taken (lastFirst us) (t ∷ left) (omega (arith, first-total (λ _. 1) us, total-one us, total-one (lastFirst us))) e)
+      (try-picked f P n h taken (lastFirst us) (t ∷ left) (omega (arith, first-length us)) e)
     where
       go : (r : Option Held) → admit job st h (t .use′) ≡ r
-          → ((g : Held) → scan job st (usesIn (taken ++ (t ∷ []))) h₀ ≡ through g → Picked f P (taken ++ (t ∷ [])) us left (try n job st g (taken ++ (t ∷ [])) us left))
+          → ((g : Held) → scan job st (usesTurned (taken ++ (t ∷ []))) h₀ ≡ through g → Picked f P (taken ++ (t ∷ [])) us left (try n job st g (taken ++ (t ∷ [])) us left))
           → Picked f P taken (lastFirst us) (t ∷ left) (try n job st h taken (lastFirst us) (t ∷ left)) → Picked f P taken (t ∷ us) left (try (suc n) job st h taken (t ∷ us) left)
       go none a y k = rw (a, try) (k .0, omega (arith, k .1, first-total f us), λ x z w. k .2 x (all-first P us (z .1)) (z .0, w))
       go (some g) a y k =
-          let q = y g (rw (uses-snoc taken t) (scan-snoc job st (usesIn taken) (t .use′) h₀ h g e a)) in
+          let q = y g (rw (uses-snoc taken t) (scan-snoc job st (usesTurned taken) (t .use′) h₀ h g e a)) in
           rw (a, try) (q .0, omega (arith, q .1, total-append f taken (t ∷ [])), λ x z w. q .2 (all-append P taken (t ∷ []) x (z .0, tt)) (z .1) w)
+
+-- a round parts its uses into those taken and those left
+pub try-length : (job : Job) (st : State) (top : RegClass) (us : List Turned)
+    → length (try (length us) job st (fresh top) [] us [] .taken) + length (try (length us) job st (fresh top) [] us [] .left) ≡ length us
+unfolding scan total
+try-length job st top us =
+    let r = try (length us) job st (fresh top) [] us [] in
+    omega (arith, try-picked job st (fresh top) (λ _. 1) (λ _. Unit {0}) (length us) (fresh top) [] us [] (omega arith) refl .1, total-one (r .taken), total-one (r .left), total-one us)
 
 -- an opening block parameter is admitted
 opened-scan : (job : Job) (st : State) (p : Inst) (o : Option ℕ) (us : List Use) (h g : Held) → scan job st us h ≡ through g → scan job st (opening p o ++ us) h ≡ through g
@@ -104,10 +112,10 @@ unfolding scan admit admitKind
 opened-scan job st p none us h g e = e
 opened-scan job st p (some q) us h g e = rw e
 
-conflict-scan : (job : Job) (st : State) (v : Value) (p : Inst) (o : Option ℕ) (ts : List Turned) (h g : Held) → scan job st (usesIn ts) h ≡ through g
+pub conflict-scan : (job : Job) (st : State) (v : Value) (p : Inst) (o : Option ℕ) (ts : List Turned) (h g : Held) → scan job st (usesTurned ts) h ≡ through g
     → scan job st (usesOf (segsOf (conflictPiece v p o ts ∷ []))) h ≡ through g
 unfolding usesOf conflictPiece
-conflict-scan job st v p o ts h g e = rw append-nil (opened-scan job st p o (usesIn ts) h g e)
+conflict-scan job st v p o ts h g e = rw append-nil (opened-scan job st p o (usesTurned ts) h g e)
 
 all-of : (v : Value) (ts : List Turned) → allOf v ts ≡ true → All (λ t. t .value ≡ v) ts
 all-of v [] e = tt
@@ -204,7 +212,7 @@ module _ (job : Job) (room : Room) (u : ValueSet) (Inv : State → List Segment 
       go r (r .taken) (q (λ _. 0) (λ _. Unit {0}) .0) (record { sums = λ g. q g (λ _. Unit {0}) .1 ∙ omega arith; alls = λ P b. q (λ _. 0) P .2 tt b tt })
       (λ st″ s b j d. rounds-kept f t st″ (r .left) more st′ s b j d) e
     where
-      go : (r : Round) (taken : List Turned) → scan job st (usesIn taken) (fresh top) ≡ through (r .held) → Split (w ∷ ws) taken (r .left)
+      go : (r : Round) (taken : List Turned) → scan job st (usesTurned taken) (fresh top) ≡ through (r .held) → Split (w ∷ ws) taken (r .left)
           → ((st″ : State) → length (r .left) ≤ f → All (λ x. x .value ≡ t .value) (r .left) → Inv st″ [] (r .left ++ more) → rounds f job room u top t st″ (r .left) ≡ done st′ → Inv st′ [] more)
           → placeRound job room u t st r taken (λ st″ left. rounds f job room u top t st″ left) ≡ done st′ → Inv st′ [] more
       go r [] s x ih d = let z : _≡_ {A = ℕ} 0 1 = cc in absurd (omega arith)

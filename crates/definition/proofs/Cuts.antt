@@ -10,7 +10,7 @@ use Rattle.definition.specs.Types.{Hint, Inst, Segment, Use, Value}
 use Rattle.definition.specs.Cuts.{leftCut, leftOf, rightCut, rightOf, usesBefore, usesFrom}
 use Rattle.definition.specs.Place.{total, usesOf}
 use Rattle.definition.specs.Build.{one}
-use Rattle.definition.specs.Promised.{held, holds}
+use Rattle.definition.specs.Promised.{liveAt, holds}
 
 -- ---- the uses
 
@@ -71,6 +71,6 @@ pub point-parted : (v : Value) (x : ℕ) (hs : List Hint) (p : Inst) → PartedB
 unfolding leftOf rightOf
 point-parted v x hs p s a b = halves (eqb (s .value .0) (v .0)) (s .«from» .0) (4 * p .0) (s .to .0) x a b
 
-pub cut-points : (v : Value) (x : ℕ) (hs : List Hint) (p : Inst) (ss : List Segment) → held v x (leftCut hs p ss) + held v x (rightCut hs p ss) ≡ held v x ss
-unfolding held
+pub cut-points : (v : Value) (x : ℕ) (hs : List Hint) (p : Inst) (ss : List Segment) → liveAt v x (leftCut hs p ss) + liveAt v x (rightCut hs p ss) ≡ liveAt v x ss
+unfolding liveAt
 cut-points v x hs p ss = cut-total (λ s. one (holds v x s)) hs p (point-parted v x hs p) ss

@@ -11,7 +11,7 @@ use Rattle.definition.specs.Types.{Job, Refusal, Segment, Use}
 use Rattle.definition.specs.RegInfo.{setOf}
 use Rattle.definition.specs.Uses.{endPoint}
 use Rattle.definition.specs.Build.{onto, runs, sameSet}
-use Rattle.definition.specs.Entry.{behind, chained, conj, entry, entryTests, every, lowestOf, segmentOk, segmentTests, segmentsOk, useOk, useTests, usesOk}
+use Rattle.definition.specs.Entry.{inOrder, chained, conj, entry, entryTests, every, lowestOf, segmentOk, segmentTests, segmentsOk, useOk, useTests, usesOk}
 use Rattle.definition.proofs.Fits.{UsesFit, SegsFit}
 use Rattle.definition.proofs.Places.{All}
 
@@ -66,8 +66,8 @@ module _ (job : Job) where
 
   -- ---- the sets
 
-  pub next-to : (s t : Segment) → behind job s t ≡ true → sameSet job s t ≡ true → s .to .0 ≤ t .«from» .0
-  unfolding behind
+  pub next-to : (s t : Segment) → inOrder job s t ≡ true → sameSet job s t ≡ true → s .to .0 ≤ t .«from» .0
+  unfolding inOrder
   next-to s t e f = go (ltb (setOf job (s .value) .0) (setOf job (t .value) .0)) refl e
     where
       go : (b : Bool) → ltb (setOf job (s .value) .0) (setOf job (t .value) .0) ≡ b → (b || (sameSet job s t && leb (s .to .0) (t .«from» .0))) ≡ true → s .to .0 ≤ t .«from» .0
@@ -81,20 +81,20 @@ module _ (job : Job) where
   pub from-on : (q : ℕ) (s : Segment) (ss : List Segment) → q ≤ s .«from» .0 → SegsFit 0 (s ∷ ss) → SegsFit q (s ∷ ss)
   from-on q s ss h k = (h, k .1, k .2, k .3)
 
-  runs-fit : (ss : List Segment) → All Good ss → chained (behind job) ss ≡ true → All (SegsFit 0) (runs (sameSet job) ss)
+  runs-fit : (ss : List Segment) → All Good ss → chained (inOrder job) ss ≡ true → All (SegsFit 0) (runs (sameSet job) ss)
   unfolding runs chained
   runs-fit [] g c = tt
   runs-fit (s ∷ []) g c = ((omega arith, g .0 .0, g .0 .1, tt), tt)
   runs-fit (s ∷ t ∷ ss) g c =
-      let d = and-both (behind job s t) (chained (behind job) (t ∷ ss)) c in
+      let d = and-both (inOrder job s t) (chained (inOrder job) (t ∷ ss)) c in
       put (runs (sameSet job) ss) (d .0) (runs-fit (t ∷ ss) (g .1) (d .1))
     where
-      join : (cs : List Segment) (ds : List (List Segment)) → behind job s t ≡ true → SegsFit 0 (t ∷ cs) → All (SegsFit 0) ds
+      join : (cs : List Segment) (ds : List (List Segment)) → inOrder job s t ≡ true → SegsFit 0 (t ∷ cs) → All (SegsFit 0) ds
           → (b : Bool) → sameSet job s t ≡ b → All (SegsFit 0) (cond b ((s ∷ t ∷ cs) ∷ ds) ((s ∷ []) ∷ (t ∷ cs) ∷ ds))
       join cs ds e k a true f = ((omega arith, g .0 .0, g .0 .1, from-on (s .to .0) t cs (next-to s t e f) k), a)
       join cs ds e k a false f = ((omega arith, g .0 .0, g .0 .1, tt), (k, a))
 
-      put : (rs : List (List Segment)) → behind job s t ≡ true → All (SegsFit 0) (onto (sameSet job) t rs) → All (SegsFit 0) (onto (sameSet job) s (onto (sameSet job) t rs))
+      put : (rs : List (List Segment)) → inOrder job s t ≡ true → All (SegsFit 0) (onto (sameSet job) t rs) → All (SegsFit 0) (onto (sameSet job) s (onto (sameSet job) t rs))
       put [] e k = join [] [] e (k .0) tt (sameSet job s t) refl
       put ([] ∷ ds) e k = join [] ds e (k .0) (k .1) (sameSet job s t) refl
       put ((c ∷ cs) ∷ ds) e k = pick (sameSet job t c) k
@@ -107,7 +107,7 @@ module _ (job : Job) where
   pub sets-fit : segmentsOk job ≡ true → every (usesOk job) (job .segments) ≡ true → All (SegsFit 0) (runs (sameSet job) (job .segments))
   unfolding segmentsOk
   sets-fit e f =
-      let a = and-both (every (segmentOk job) (job .segments)) (chained (behind job) (job .segments)) e in
+      let a = and-both (every (segmentOk job) (job .segments)) (chained (inOrder job) (job .segments)) e in
       runs-fit (job .segments) (goods (job .segments) (every-all (segmentOk job) (job .segments) (a .0)) (every-all (usesOk job) (job .segments) f)) (a .1)
     where
       goods : (ss : List Segment) → All (λ s. segmentOk job s ≡ true) ss → All (λ s. usesOk job s ≡ true) ss → All Good ss

@@ -8,6 +8,7 @@ pub mod Fuel
 pub mod Places
 pub mod Measures
 pub mod Builder
+pub mod Rounds
 pub mod Points
 pub mod Entries
 pub mod ReadBack
@@ -16,6 +17,7 @@ pub mod Same
 pub mod Printed
 pub mod Runs
 pub mod Tables
+pub mod Targets
 pub mod Classes
 pub mod Admission
 pub mod Accepted

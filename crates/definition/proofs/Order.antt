@@ -14,7 +14,7 @@ use Rattle.definition.specs.Uses.{isClassUse}
 use Rattle.definition.specs.Cuts.{leftCut, leftOf, rightCut, rightOf}
 use Rattle.definition.specs.Place.{total, usesOf}
 use Rattle.definition.specs.Build.{Result, build, buildSet, conflictPiece, onto, runs, sameSet, turnAt, turnIn, turnedUse}
-use Rattle.definition.specs.Entry.{behind, chained}
+use Rattle.definition.specs.Entry.{inOrder, chained}
 use Rattle.definition.specs.Promised.{Follows, Listed, StandsFor, ofSet, under, valued}
 use Rattle.definition.proofs.Cuts.{uses-cut}
 use Rattle.definition.proofs.Moves.{ClassAt}
@@ -214,24 +214,24 @@ onto-first {A} alike a ((c ∷ cs) ∷ ds) = go (alike a c)
     go false = ([], (c ∷ cs) ∷ ds, refl)
 
 -- a segment behind another one is of the same set or of a higher one
-behind-set : (job : Job) (s t : Segment) → behind job s t ≡ true → setOf job (s .value) .0 ≤ setOf job (t .value) .0
-unfolding behind
-behind-set job s t e = go (ltb (setOf job (s .value) .0) (setOf job (t .value) .0)) refl e
+order-set : (job : Job) (s t : Segment) → inOrder job s t ≡ true → setOf job (s .value) .0 ≤ setOf job (t .value) .0
+unfolding inOrder
+order-set job s t e = go (ltb (setOf job (s .value) .0) (setOf job (t .value) .0)) refl e
   where
     go : (b : Bool) → ltb (setOf job (s .value) .0) (setOf job (t .value) .0) ≡ b → (b || (sameSet job s t && leb (s .to .0) (t .«from» .0))) ≡ true → setOf job (s .value) .0 ≤ setOf job (t .value) .0
     go true a d = let l : setOf job (s .value) .0 < setOf job (t .value) .0 = ltb-true _ _ a in omega arith
     go false a d = let q : setOf job (s .value) .0 ≡ setOf job (t .value) .0 = eqb-true _ _ (and-both (sameSet job s t) (leb (s .to .0) (t .«from» .0)) d .0) in omega arith
 
-pub runs-rise : (job : Job) (s : Segment) (ss : List Segment) → All (Good job) (s ∷ ss) → chained (behind job) (s ∷ ss) ≡ true → Rise job (setOf job (s .value) .0) (runs (sameSet job) (s ∷ ss))
+pub runs-rise : (job : Job) (s : Segment) (ss : List Segment) → All (Good job) (s ∷ ss) → chained (inOrder job) (s ∷ ss) ≡ true → Rise job (setOf job (s .value) .0) (runs (sameSet job) (s ∷ ss))
 unfolding runs chained
 runs-rise job s [] g c = (omega arith, tt, (omega arith, g .0 .0, g .0 .1, tt), tt)
 runs-rise job s (t ∷ ss) g c =
-    let d = and-both (behind job s t) (chained (behind job) (t ∷ ss)) c in
+    let d = and-both (inOrder job s t) (chained (inOrder job) (t ∷ ss)) c in
     let o = onto-first (sameSet job) t (runs (sameSet job) ss) in
     let ih : Rise job (setOf job (t .value) .0) ((t ∷ o .0) ∷ o .1) = subst (Rise job (setOf job (t .value) .0)) (o .2) (runs-rise job t ss (g .1) (d .1)) in
     subst (λ (l : List (List Segment)). Rise job (setOf job (s .value) .0) (onto (sameSet job) s l)) (sym (o .2)) (go (o .0) (o .1) (d .0) ih (sameSet job s t) refl)
   where
-    go : (xs : List Segment) (ys : List (List Segment)) → behind job s t ≡ true → Rise job (setOf job (t .value) .0) ((t ∷ xs) ∷ ys) → (b : Bool) → sameSet job s t ≡ b
+    go : (xs : List Segment) (ys : List (List Segment)) → inOrder job s t ≡ true → Rise job (setOf job (t .value) .0) ((t ∷ xs) ∷ ys) → (b : Bool) → sameSet job s t ≡ b
         → Rise job (setOf job (s .value) .0) (cond b ((s ∷ t ∷ xs) ∷ ys) ((s ∷ []) ∷ (t ∷ xs) ∷ ys))
     go xs ys e r true f =
         let n : setOf job (s .value) .0 ≡ setOf job (t .value) .0 = eqb-true _ _ f in
@@ -239,7 +239,7 @@ runs-rise job s (t ∷ ss) g c =
         (omega arith, (sym q, rw q (r .1)), (omega arith, g .0 .0, g .0 .1, from-on job (s .to .0) t xs (next-to job s t e f) (r .2)), rw q (r .3))
     go xs ys e r false f =
         let n : setOf job (s .value) .0 ≡ setOf job (t .value) .0 → ⊥ = eqb-false _ _ f in
-        let l = behind-set job s t e in
+        let l = order-set job s t e in
         (omega arith, tt, (omega arith, g .0 .0, g .0 .1, tt), (omega arith, r .1, r .2, r .3))
 
 -- ---- what is of the set s

@@ -12,8 +12,8 @@ use Rattle.definition.specs.Uses.{isClassUse}
 use Rattle.definition.specs.Cuts.{leftOf, rightOf}
 use Rattle.definition.specs.Place.{total}
 use Rattle.definition.specs.Build.{one, runs, sameSet}
-use Rattle.definition.specs.Entry.{behind, chained, every, kindOk, segmentOk, segmentsOk, useOk, useTests, usesOk}
-use Rattle.definition.specs.Promised.{Follows, addedIn, addedPieces, classUsesAt, covered, covers, had, held, isMark, marksAt, ofSet, ownIn, ownOf, ownPieces, sameUse}
+use Rattle.definition.specs.Entry.{inOrder, chained, every, kindOk, segmentOk, segmentsOk, useOk, useTests, usesOk}
+use Rattle.definition.specs.Promised.{Follows, addedIn, addedPieces, classUsesAt, covered, covers, had, liveAt, isMark, marksAt, ofSet, ownIn, ownOf, ownPieces, sameUse}
 use Rattle.definition.proofs.Cuts.{halves}
 use Rattle.definition.proofs.Places.{total-append, counted, All, all-map}
 use Rattle.definition.proofs.Points.{Additive, cond-sum, ofOwn, Steady, ownUses}
@@ -115,12 +115,12 @@ covered-once q x (s ∷ ss) h = go (leb (s .«from» .0) x) (ltb x (s .to .0)) r
     go true false e i n = omega arith
     go false b e i n = omega arith
 
-pub held-covered : (v : Value) (x : ℕ) (ss : List Segment) → held v x ss ≤ covered x ss
-unfolding held covered total
-held-covered v x [] = omega arith
-held-covered v x (s ∷ ss) = go (eqb (s .value .0) (v .0)) (leb (s .«from» .0) x) (ltb x (s .to .0)) (held-covered v x ss)
+pub live-covered : (v : Value) (x : ℕ) (ss : List Segment) → liveAt v x ss ≤ covered x ss
+unfolding liveAt covered total
+live-covered v x [] = omega arith
+live-covered v x (s ∷ ss) = go (eqb (s .value .0) (v .0)) (leb (s .«from» .0) x) (ltb x (s .to .0)) (live-covered v x ss)
   where
-    go : (a b c : Bool) → held v x ss ≤ covered x ss → one (a && b && c) + held v x ss ≤ one (b && c) + covered x ss
+    go : (a b c : Bool) → liveAt v x ss ≤ covered x ss → one (a && b && c) + liveAt v x ss ≤ one (b && c) + covered x ss
     go true b c i = omega arith
     go false true true i = omega arith
     go false true false i = omega arith
@@ -168,14 +168,14 @@ no-runs job = tt
 pub accepted-rise : (job : Job) → segmentsOk job ≡ true → every (usesOk job) (job .segments) ≡ true → (t : ℕ) × Rise job t (runs (sameSet job) (job .segments))
 unfolding segmentsOk
 accepted-rise job e f =
-    let a = and-both (every (segmentOk job) (job .segments)) (chained (behind job) (job .segments)) e in
+    let a = and-both (every (segmentOk job) (job .segments)) (chained (inOrder job) (job .segments)) e in
     go (job .segments) (goods (job .segments) (every-all (segmentOk job) (job .segments) (a .0)) (every-all (usesOk job) (job .segments) f)) (a .1)
   where
     goods : (ss : List Segment) → All (λ s. segmentOk job s ≡ true) ss → All (λ s. usesOk job s ≡ true) ss → All (Good job) ss
     goods [] g h = tt
     goods (s ∷ ss) g h = (segment-good job s (g .0) (h .0), goods ss (g .1) (h .1))
 
-    go : (ss : List Segment) → All (Good job) ss → chained (behind job) ss ≡ true → (t : ℕ) × Rise job t (runs (sameSet job) ss)
+    go : (ss : List Segment) → All (Good job) ss → chained (inOrder job) ss ≡ true → (t : ℕ) × Rise job t (runs (sameSet job) ss)
     go [] g c = (0, no-runs job)
     go (s ∷ ss) g c = (setOf job (s .value) .0, runs-rise job s ss g c)
 

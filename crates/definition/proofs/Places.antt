@@ -13,7 +13,7 @@ use Rattle.definition.specs.Types.{BlockparamIn, BlockparamOut, ClassDef
 use Rattle.definition.specs.RegInfo.{classAt, commonSubclass}
 use Rattle.definition.specs.Weights.{weightOf}
 use Rattle.definition.specs.Admit.{admit, admitClass, admitGroup, admitKind, atPlace, groupFits, guard, inGroup, mappedAt, membersAt, narrowed, noRegister, registerAt, scan, setsAt, through}
-use Rattle.definition.specs.Place.{_>>=_, alone, aloneState, firstFrom, gate, groupWeight, hasRoom, inserted, isNone, join, joinState, lastTo, lead, leadState, made, mapUses, merge, mergeState, orElse, overlaps, place, placeBy, placeGroup, segsOf, spread, total, update, usesOf, withPieces, withWeight}
+use Rattle.definition.specs.Place.{_>>=_, alone, aloneState, firstFrom, gate, groupWeight, hasRoom, ifRoom, inserted, isNone, join, joinState, lastTo, lead, leadState, made, mapUses, merge, mergeState, orElse, overlaps, place, placeBy, placeGroup, segsOf, spread, total, update, usesOf, withPieces, withWeight}
 use Rattle.definition.specs.Build.{asOwn, lastFirst, lastFirst′, try}
 use Rattle.definition.proofs.Scans.{scan-keeps}
 
@@ -35,11 +35,15 @@ unfolding total
 total-append f [] ys = omega arith
 total-append f (x ∷ xs) ys = omega (arith, total-append f xs ys)
 
+pub room-done : (b : Bool) (x y : State) → ifRoom b x ≡ done y → x ≡ y
+unfolding ifRoom
+room-done true x y e = cc
+room-done false x y e = cc
+
 pub gate-done : (a b : Bool) (s : Stop) (x y : State) → gate a s b x ≡ done y → x ≡ y
 unfolding gate
 gate-done true b s x y e = cc
-gate-done false true s x y e = cc
-gate-done false false s x y e = cc
+gate-done false b s x y e = room-done b x y e
 
 pub update-length : (f : Register → Register) (n : ℕ) (rs : List Register) → length (update f n rs) ≡ length rs
 unfolding update
@@ -312,11 +316,11 @@ module _ (μ : Piece → ℕ) (job : Job) (room : Room) (set′ : ValueSet) (h :
   -- a placing that is done gives the state that it was to give
   alone-done : (st′ : State) → alone job room set′ h new st ≡ done st′ → aloneState job set′ h new st ≡ st′
   unfolding alone
-  alone-done st′ e = gate-done false (hasRoom room st 1 0 new) Overlap (aloneState job set′ h new st) st′ e
+  alone-done st′ e = room-done (hasRoom room st 1 0 new) (aloneState job set′ h new st) st′ e
 
   join-done : (hg : HeldGroup) (g : VirtRegGroup) (st′ : State) → join job room set′ h hg g new st ≡ done st′ → joinState job set′ h hg g new st ≡ st′
   unfolding join
-  join-done hg g st′ e = gate-done false (hasRoom room st 1 0 new) Overlap (joinState job set′ h hg g new st) st′ e
+  join-done hg g st′ e = room-done (hasRoom room st 1 0 new) (joinState job set′ h hg g new st) st′ e
 
   abbrev theMapping : Option (List Mapped)
   theMapping = mapUses (vrgroup (length (st .groups))) (usesOf (segsOf new)) (st .mapping)

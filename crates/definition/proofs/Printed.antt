@@ -87,8 +87,8 @@ module _ (v : Value) (x : ℕ) where
 
 module _ (f : Value → Origin → Bool) (w : Use) where
   -- of a piece that passes
-  abbrev pub usesIn : Piece → ℕ
-  usesIn p = cond (f (p .seg .value) (p .origin)) (total (λ u. one (sameUse w u)) (p .seg .uses)) 0
+  abbrev pub pieceUses : Piece → ℕ
+  pieceUses p = cond (f (p .seg .value) (p .origin)) (total (λ u. one (sameUse w u)) (p .seg .uses)) 0
 
   use-uses : (us : List Use) (b : Bool) (ls : List Line) → readUse f w b (useLines us ++ ls) ≡ cond b (total (λ u. one (sameUse w u)) us) 0 + readUse f w b ls
   unfolding readUse useLines total
@@ -98,22 +98,22 @@ module _ (f : Value → Origin → Bool) (w : Use) where
   use-uses (u ∷ us) false ls = omega (arith, use-uses us false ls)
 
   -- where what follows is read alike after any seg line
-  use-pieces : (ps : List Piece) (ls : List Line) (n : ℕ) → ((b : Bool) → readUse f w b ls ≡ n) → (b : Bool) → readUse f w b (segLines ps ++ ls) ≡ total usesIn ps + n
+  use-pieces : (ps : List Piece) (ls : List Line) (n : ℕ) → ((b : Bool) → readUse f w b ls ≡ n) → (b : Bool) → readUse f w b (segLines ps ++ ls) ≡ total pieceUses ps + n
   unfolding readUse segLines total
   use-pieces [] ls n e b = e b ∙ omega arith
   use-pieces (p ∷ ps) ls n e b =
       let now = f (p .seg .value) (p .origin) in
-      let a : readUse f w now ((useLines (p .seg .uses) ++ segLines ps) ++ ls) ≡ usesIn p + readUse f w now (segLines ps ++ ls) =
+      let a : readUse f w now ((useLines (p .seg .uses) ++ segLines ps) ++ ls) ≡ pieceUses p + readUse f w now (segLines ps ++ ls) =
       ap (readUse f w now) (append-assoc (useLines (p .seg .uses)) (segLines ps) ls) ∙ use-uses (p .seg .uses) now (segLines ps ++ ls) in
       omega (arith, a, use-pieces ps ls n e now)
 
-  use-registers : (i : ℕ) (rs : List Register) (ls : List Line) (n : ℕ) → ((b : Bool) → readUse f w b ls ≡ n) → (b : Bool) → readUse f w b (vregLines i rs ++ ls) ≡ counted usesIn rs + n
+  use-registers : (i : ℕ) (rs : List Register) (ls : List Line) (n : ℕ) → ((b : Bool) → readUse f w b ls ≡ n) → (b : Bool) → readUse f w b (vregLines i rs ++ ls) ≡ counted pieceUses rs + n
   unfolding readUse vregLines counted
   use-registers i [] ls n e b = e b ∙ omega arith
   use-registers i (r ∷ rs) ls n e b =
-      let a : readUse f w false ((segLines (r .pieces) ++ vregLines (suc i) rs) ++ ls) ≡ total usesIn (r .pieces) + (counted usesIn rs + n) =
+      let a : readUse f w false ((segLines (r .pieces) ++ vregLines (suc i) rs) ++ ls) ≡ total pieceUses (r .pieces) + (counted pieceUses rs + n) =
       ap (readUse f w false) (append-assoc (segLines (r .pieces)) (vregLines (suc i) rs) ls)
-      ∙ use-pieces (r .pieces) (vregLines (suc i) rs ++ ls) (counted usesIn rs + n) (use-registers (suc i) rs ls n e) false in
+      ∙ use-pieces (r .pieces) (vregLines (suc i) rs ++ ls) (counted pieceUses rs + n) (use-registers (suc i) rs ls n e) false in
       a ∙ omega arith
 
   use-groups : (i : ℕ) (gs : List (List (Option VirtReg))) (r g : ℕ) (b : Bool) → readUse f w b (groupLines i gs ++ (end-line r g ∷ [])) ≡ 0
@@ -121,7 +121,7 @@ module _ (f : Value → Origin → Bool) (w : Use) where
   use-groups i [] r g b = refl
   use-groups i (ms ∷ gs) r g b = use-groups (suc i) gs r g false
 
-  pub uses-read : (res : Result) → readUse f w false (printed res) ≡ counted usesIn (res .registers)
+  pub uses-read : (res : Result) → readUse f w false (printed res) ≡ counted pieceUses (res .registers)
   unfolding printed
   uses-read res =
       use-registers 0 (res .registers) (groupLines 0 (res .groups) ++ (end-line (length (res .registers)) (length (res .groups)) ∷ [])) 0

@@ -14,7 +14,7 @@ use Rattle.definition.specs.Place.{total}
 use Rattle.definition.specs.Build.{Result, build, one, runs, sameSet}
 use Rattle.definition.specs.Entry.{answer, entry, entryTests, every, usesOk}
 use Rattle.definition.specs.Lines.{Line, printed}
-use Rattle.definition.specs.Promised.{Follows, In, Listed, Transitive, addedIn, byFirst, classUsesAt, covered, had, held, inputOf, isMark, marksAt, ofSet, ownIn, ownOf, sameUse, valued, markedFor}
+use Rattle.definition.specs.Promised.{Follows, In, Listed, Transitive, addedIn, byFirst, classUsesAt, covered, had, liveAt, inputOf, isMark, marksAt, ofSet, ownIn, ownOf, sameUse, valued, markedFor}
 use Rattle.definition.proofs.Places.{All}
 use Rattle.definition.proofs.Points.{Additive, points-additive, ofOwn, ownUses, built-same}
 use Rattle.definition.proofs.Entries.{lowest-none}
@@ -22,10 +22,10 @@ use Rattle.definition.proofs.Tables.{nth}
 use Rattle.definition.proofs.Accepted.{Kept, kept, accepted}
 use Rattle.definition.proofs.Order.{ledBy, InOrder, built-in-order, of-total, Rise}
 use Rattle.definition.proofs.Same.{class-test, other-test, first-total, first-is}
-use Rattle.definition.proofs.Printed.{readPoint, readUse, usesIn, points-read, uses-read}
+use Rattle.definition.proofs.Printed.{readPoint, readUse, pieceUses, points-read, uses-read}
 use Rattle.definition.proofs.Sets.{InSet, built-in-set, runs-in}
 use Rattle.definition.proofs.Marks.{valued-had, listed-marked}
-use Rattle.definition.proofs.Owned.{both-counted, led-counted, led-additive, covered-additive, covered-once, held-covered, counted-same, of-led, own-led, accepted-rise, no-mark-had, marks-turned}
+use Rattle.definition.proofs.Owned.{both-counted, led-counted, led-additive, covered-additive, covered-once, live-covered, counted-same, of-led, own-led, accepted-rise, no-mark-had, marks-turned}
 
 -- ---- what an accepted job is known to be
 
@@ -58,8 +58,8 @@ readUses v w ls = cond (isMark (w .kind)) 0 (readUse (wanted v (isClassUse (w .k
 
 -- The points and the uses of every value, of every kind, are read from the lines of the result.
 pub read-back : (job : Job) (room : Room) (res : Result) → answer job room ≡ done res
-    → (v : Value) → ((x : ℕ) → readPoint v x (printed res) ≡ held v x (job .segments)) × ((u : Use) → readUses v u (printed res) ≡ had v u (job .segments))
-unfolding held had readUses wanted
+    → (v : Value) → ((x : ℕ) → readPoint v x (printed res) ≡ liveAt v x (job .segments)) × ((u : Use) → readUses v u (printed res) ≡ had v u (job .segments))
+unfolding liveAt had readUses wanted
 read-back job room res e v = (
   λ x. points-read v x res ∙ k .points v x,
   λ u. go u (isMark (u .kind)) (isClassUse (u .kind)) refl refl,
@@ -68,7 +68,7 @@ read-back job room res e v = (
     k : Kept job res
     k = kept job room res e
 
-    own-of : (u : Use) (p : Piece) → usesIn (wanted v false) u p ≡ ofOwn (ownUses v (sameUse u)) p
+    own-of : (u : Use) (p : Piece) → pieceUses (wanted v false) u p ≡ ofOwn (ownUses v (sameUse u)) p
     own-of u p = pick (p .origin)
       where
         pick : (o : Origin) → cond (wanted v false (p .seg .value) o) (total (λ w. one (sameUse u w)) (p .seg .uses)) 0
@@ -80,15 +80,15 @@ read-back job room res e v = (
     go u true c a b = sym (no-mark-had job v u a (facts job room res e .uses-ok))
     go u false true a b = uses-read (wanted v true) u res ∙ k .uses v (sameUse u) (class-test (u .kind) (u .pos) b)
     go u false false a b =
-        uses-read (wanted v false) u res ∙ counted-same (usesIn (wanted v false) u) (ofOwn (ownUses v (sameUse u))) (own-of u) (res .registers)
+        uses-read (wanted v false) u res ∙ counted-same (pieceUses (wanted v false) u) (ofOwn (ownUses v (sameUse u))) (own-of u) (res .registers)
         ∙ k .own-uses v (sameUse u) (other-test u b a)
 
--- P1. "For every two accepted jobs with the same register book, function and options, whatever their hints and segments and whatever the lent tables held: if the results
--- are equal, every value covered exactly the same points and had the same uses, each as often, at each instruction."
--- Nothing is asked of book, function and options: more than the words promise. A use is its kind with all fields and its instruction.
+-- P1. For every two accepted jobs with the same register book, function and options, whatever their hints and segments and whatever the lent tables held: if the results
+-- are equal, every value covered exactly the same points and had the same uses, each as often, at each instruction.
+-- Nothing is asked of book, function and options: more than is promised. A use is its kind with all fields and its instruction.
 -- Rules out: one fixed result for all jobs; a turned use that is marked and put into no conflict register, so that its slot and class are lost.
 pub promise-read-back : (job₁ job₂ : Job) (room₁ room₂ : Room) (res₁ res₂ : Result) → answer job₁ room₁ ≡ done res₁ → answer job₂ room₂ ≡ done res₂ → printed res₁ ≡ printed res₂
-    → (v : Value) → ((x : ℕ) → held v x (job₁ .segments) ≡ held v x (job₂ .segments)) × ((u : Use) → had v u (job₁ .segments) ≡ had v u (job₂ .segments))
+    → (v : Value) → ((x : ℕ) → liveAt v x (job₁ .segments) ≡ liveAt v x (job₂ .segments)) × ((u : Use) → had v u (job₁ .segments) ≡ had v u (job₂ .segments))
 promise-read-back job₁ job₂ room₁ room₂ res₁ res₂ e₁ e₂ same v =
     let a = read-back job₁ room₁ res₁ e₁ v in
     let b = read-back job₂ room₂ res₂ e₂ v in
@@ -110,16 +110,16 @@ of-own job room res e s ν = sym (led-counted ν job s (res .registers) (facts j
 by-first : (job : Job) (room : Room) (res : Result) (e : answer job room ≡ done res) (s : ValueSet) → byFirst (ownOf s (res .registers)) ≡ in-order job room res e s .pieces
 by-first job room res e s = first-is (ownOf s (res .registers)) (in-order job room res e s .pieces) (in-order job room res e s .follow) (of-own job room res e s)
 
--- P2. "In the result of every accepted job, for each value set, its pieces not made for a conflict hold each point of its input ranges exactly once, under the same
--- value, and no other point". For each set s: a point x is held under value v as often as by the input ranges of s; and under whatever values it is held as often as by
+-- P2. In the result of every accepted job, for each value set, its pieces not made for a conflict hold each point of its input ranges exactly once, under the same
+-- value, and no other point. For each set s: a point x is held under value v as often as by the input ranges of s; and under whatever values it is held as often as by
 -- them, which is once or not at all.
 -- Rules out: a right half that starts one instruction behind the cut, whose points are lost; a split segment that keeps its old end on the left, whose points are held twice.
 pub promise-points : (job : Job) (room : Room) (res : Result) → answer job room ≡ done res → (s : ValueSet)
-    → ((v : Value) (x : ℕ) → (held v x (ownOf s (res .registers)) ≡ held v x (inputOf job s)) × (held v x (inputOf job s) ≤ 1))
+    → ((v : Value) (x : ℕ) → (liveAt v x (ownOf s (res .registers)) ≡ liveAt v x (inputOf job s)) × (liveAt v x (inputOf job s) ≤ 1))
     × ((x : ℕ) → (covered x (ownOf s (res .registers)) ≡ covered x (inputOf job s)) × (covered x (inputOf job s) ≤ 1))
-unfolding held covered inputOf
+unfolding liveAt covered inputOf
 promise-points job room res e s = (
-  λ v x. (same _ (points-additive v x), omega (arith, held-covered v x (inputOf job s), once x)),
+  λ v x. (same _ (points-additive v x), omega (arith, live-covered v x (inputOf job s), once x)),
   λ x. (same _ (covered-additive x), once x),
 )
   where
@@ -135,14 +135,14 @@ promise-points job room res e s = (
         subst (λ (n : ℕ). n ≤ 1) (sym (of-own job room res e s _) ∙ same _ (covered-additive x)) (covered-once 0 x (in-order job room res e s .pieces) (in-order job room res e s .follow))
 
 -- The input ranges of a value's set have all its points and uses, so P2 and P3 speak of every segment of the job.
--- Rules out, as readings of "its input ranges": the segments of the leader alone; those of the set's first value alone.
-pub input-whole : (job : Job) (v : Value) → ((x : ℕ) → held v x (inputOf job (setOf job v)) ≡ held v x (job .segments)) × ((w : Use) → had v w (inputOf job (setOf job v)) ≡ had v w (job .segments))
-unfolding held had inputOf
+-- Rules out, as readings of the input of a set: the segments of the leader alone; those of the set's first value alone.
+pub input-whole : (job : Job) (v : Value) → ((x : ℕ) → liveAt v x (inputOf job (setOf job v)) ≡ liveAt v x (job .segments)) × ((w : Use) → had v w (inputOf job (setOf job v)) ≡ had v w (job .segments))
+unfolding liveAt had inputOf
 input-whole job v = (λ x. of-led job v _ (λ s n. rw n) (job .segments), λ w. of-led job v _ (λ s n. rw n) (job .segments))
 
--- P3. "in order of their first points they list its input uses, each once and in input order, a turned one marked as a conflict". Put in order of their first points, the own
--- pieces of set s follow each other, so their first points differ. Place by place their uses are those of its input ranges, of the same value; or the input's is a class
--- use, and the piece's is of kind 3 at the same instruction.
+-- P3. In order of their first points the own pieces of a set list its input uses, each once and in input order, a turned one marked as a conflict. Put in this
+-- order they follow each other, so their first points differ. Place by place their uses are those of its input ranges, of the same value; or the input's is a class use,
+-- and the piece's is of kind 3 at the same instruction.
 -- Rules out: a turned use taken out of its own piece; uses behind a cut that stand in both halves.
 pub promise-order : (job : Job) (room : Room) (res : Result) → answer job room ≡ done res → (s : ValueSet)
     → Follows 0 (byFirst (ownOf s (res .registers))) × Listed (valued (inputOf job s)) (valued (byFirst (ownOf s (res .registers))))
@@ -191,7 +191,7 @@ all-nth : (P : Register → Type 0) (rs : List Register) → ((v : VirtReg) → 
 all-nth P [] f = tt
 all-nth P (r ∷ rs) f = (f (vreg 0) (omega arith), all-nth P rs (λ v l. f (vreg (suc (v .0))) (omega arith)))
 
--- P4. "where subclassing is transitive, the class of every class use in a result admits its register's final class". Uses of own pieces and of pieces made for a conflict.
+-- P4. Where subclassing is transitive, the class of every class use in a result admits its register's final class. Uses of own pieces and of pieces made for a conflict.
 -- Rules out: one register per set, uncut; a merge that keeps the class of the register that it merges into.
 pub promise-classes : (job : Job) (room : Room) (res : Result) → answer job room ≡ done res → Transitive job
     → All (λ r. All (λ p. All (λ u. (c : RegClass) → classOf (u .kind) ≡ some c → In job (r .class) c) (p .seg .uses)) (r .pieces)) (res .registers)

@@ -18,8 +18,8 @@ use Rattle.definition.specs.Weights.{weightOf}
 use Rattle.definition.specs.Admit.{admit, admitClass, admitGroup, admitKind, atPlace, fresh, groupFits, guard, inGroup, mappedAt, mappingFits, membersAt, narrowed, noRegister, registerAt, scan, setsAt, setsOf, through, vgroupAt}
 use Rattle.definition.specs.Place.{alone, aloneState, firstFrom, groupWeight, hasRoom, inserted, isNone, join, joinState, lastTo, lead, leadState, made, mapUses, merge, mergeState, orElse, overlaps, place, placeBy, placeGroup, segsOf, spread, update, usesOf, withPieces, withWeight}
 use Rattle.definition.specs.Build.{Result, build, buildSets, empty, runs, sameSet}
-use Rattle.definition.specs.Entry.{every, functionOk, groupUseOk, membersOf, usesOk}
-use Rattle.definition.proofs.Places.{All, all-append, all-getD, all-map, bind-some, bind-done, gate-done, update-length}
+use Rattle.definition.specs.Entry.{every, functionOk, groupUseOk, vgroupValues, usesOk}
+use Rattle.definition.proofs.Places.{All, all-append, all-getD, all-map, bind-some, bind-done, gate-done, room-done, update-length}
 use Rattle.definition.proofs.Entries.{every-all}
 use Rattle.definition.proofs.Scans.{scan-step}
 use Rattle.definition.proofs.Tables.{nth, same-group, nth-left, AllMapped, mapped-found, map-all, or-empty, operandAt, vgroup-at, all-inserted, piece-uses, guarded, fits-parts, KindIs, kind-cases, uses-are}
@@ -384,7 +384,7 @@ module _ (job : Job) (room : Room) (u : ValueSet) (h : Held) (new : List Piece) 
         subst (RightIn job) (gate-done (isNone o) (hasRoom room st 1 1 new) MappedTwice (leadState job u h hg new st (orElse o [])) st′ e) (lead-right (orElse o []) (or-empty Entered o all))
     place-group (some g) none st′ q pl sg ag e =
         let f = sg g refl in
-        subst (RightIn job) (gate-done false (hasRoom room st 1 0 new) Overlap (joinState job u h hg g new st) st′ e) (join-right g (f .0) (f .1))
+        subst (RightIn job) (room-done (hasRoom room st 1 0 new) (joinState job u h hg g new st) st′ e) (join-right g (f .0) (f .1))
     place-group (some g) (some v) st′ q pl sg ag e =
         subst (RightIn job) (gate-done (overlaps (firstFrom new) (lastTo new) (registerAt st v .pieces)) (hasRoom room st 0 0 new) Overlap (mergeState job h hg g v new st) st′ e)
         (merge-right g v (sg g refl .1) (sym pl))
@@ -392,7 +392,7 @@ module _ (job : Job) (room : Room) (u : ValueSet) (h : Held) (new : List Piece) 
   place-by : (o : Option HeldGroup) (st′ : State) → GroupRight st σ u (h .target) o → All (λ w. Agrees job o (w .pos) (w .kind)) (usesOf (segsOf new))
       → placeBy job room u h new st o ≡ done st′ → RightIn job st′
   unfolding placeBy alone
-  place-by none st′ r ag e = subst (RightIn job) (gate-done false (hasRoom room st 1 0 new) Overlap (aloneState job u h new st) st′ e) alone-right
+  place-by none st′ r ag e = subst (RightIn job) (room-done (hasRoom room st 1 0 new) (aloneState job u h new st) st′ e) alone-right
   place-by (some hg) st′ r ag e = place-group hg (r .2) (hg .mapped) (h .target) st′ refl (r .0) (r .1) ag e
 
   place-right : (st′ : State) → GroupRight st σ u (h .target) (h .group) → All (λ w. Agrees job (h .group) (w .pos) (w .kind)) (usesOf (segsOf new))
@@ -448,13 +448,13 @@ getD-padded f a b (x ∷ xs) ys (suc i) l = getD-padded f a b xs ys i (omega ari
 module _ (job : Job) where
   module _ (fn : functionOk job ≡ true) where
     group-in : (v : Value) (p : Inst) (s : ℕ) (c : RegClass) (i : ℕ) → groupUseOk job v p s c i ≡ true → getD (setsAt job p s) i (vset 0) ≡ setOf job v
-    unfolding setsAt setsOf membersOf
+    unfolding setsAt setsOf vgroupValues
     group-in v p s c i e =
         let t = group-operand job fn v p s c i e .1 in
-        let q : getD (job .vgroups) (vgroupAt (job .operands) p s) [] ≡ membersOf job (operandAt (job .operands) p s .vgroup) =
+        let q : getD (job .vgroups) (vgroupAt (job .operands) p s) [] ≡ vgroupValues job (operandAt (job .operands) p s .vgroup) =
         ap (λ (n : ℕ). getD (job .vgroups) n []) (vgroup-at (job .operands) p s) in
         ap (λ (xs : List Value). getD (setsOf job xs) i (vset 0)) q
-        ∙ getD-padded (λ x. setOf job x) (val 0) (vset 0) (membersOf job (operandAt (job .operands) p s .vgroup)) _ i (t .3) ∙ ap (λ (x : Value). setOf job x) (t .4)
+        ∙ getD-padded (λ x. setOf job x) (val 0) (vset 0) (vgroupValues job (operandAt (job .operands) p s .vgroup)) _ i (t .3) ∙ ap (λ (x : Value). setOf job x) (t .4)
 
     abbrev pub UsesIn : Segment → Type 0
     UsesIn s = All (UseIn job (setOf job (s .value))) (s .uses)

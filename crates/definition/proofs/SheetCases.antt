@@ -1,4 +1,4 @@
--- Sheets in and sheets out, byte for byte, by computation: case A, and sheets on both sides of number 1. Assumes nothing.
+-- Sheets in and sheets out, byte for byte, by computation: cases A and J, and sheets on both sides of number 1. Assumes nothing.
 use mathlib.Core.Path.{_≡_, refl}
 use Prim.Native.Nat.{ℕ, _+_}
 use Prim.Native.String.{String}
@@ -48,6 +48,24 @@ printedA =
 case-a : vregsOf (text caseA) ≡ text printedA
 unfolding vregsOf text caseA printedA
 case-a = refl
+
+-- "J: no segments prints `end 0 0`." In A's book.
+caseJ : List String
+caseJ =
+    "opt 0 3f800000 3f800000 3f800000"
+    ∷ "bank 0"
+    ∷ "class 00000007 3f800000 1 0"
+    ∷ "class 00000002 3f800000 1 0"
+    ∷ "class 00000004 3f800000 1 0"
+    ∷ "block 2 3f800000"
+    ∷ "block 2 3f000000"
+    ∷ "value 0 0 0"
+    ∷ "end"
+    ∷ []
+
+case-j : vregsOf (text caseJ) ≡ text ("end 0 0" ∷ [])
+unfolding vregsOf text caseJ
+case-j = refl
 
 -- ---- a sheet with every record, every kind of use that a job may have, and every form of a printed line
 

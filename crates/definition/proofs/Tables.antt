@@ -14,7 +14,7 @@ use borrow.Author.Tests.{eqb-true, eqb-false, eq-eqb}
 use Rattle.definition.specs.Types.{Inst, Value, ValueSet, RegClass, VirtReg, VirtRegGroup, LiveRangePoint, UseKind, FixedDef, FixedUse, TiedUse, ConstraintConflict, ClassUse, ClassDef, GroupClassUse, GroupClassDef, BlockparamIn, BlockparamOut, Use, Operand, Segment, Job, HeldGroup, Held, Piece, Register, Mapped, State, inst, vset, cls, vreg, vrgroup}
 use Rattle.definition.specs.Uses.{classOf, slotOf}
 use Rattle.definition.specs.Admit.{admitClass, admitGroup, admitKind, groupFits, guard, mappedAt, mappingFits, noRegister, sameSets, vgroupAt}
-use Rattle.definition.specs.Place.{inserted, mapOne, mapUses, onMapping, orElse, segsOf, slotD, spread, update, usesOf, withWeight}
+use Rattle.definition.specs.Place.{ifUnmapped, inserted, mapOne, mapUses, onMapping, orElse, segsOf, spread, update, usesOf, withWeight}
 use Rattle.definition.specs.Entry.{every, groupUseOk, kindOk, useOk, useTests, usesOk}
 use Rattle.definition.proofs.Places.{All, all-map, all-split, all-append, update-length}
 use Rattle.definition.proofs.Entries.{and-both, conj-all, every-all}
@@ -188,18 +188,21 @@ module _ (M : Inst → ℕ → VirtRegGroup → Type 0) where
   OnMapped none = Unit {0}
   OnMapped (some ms) = AllMapped ms
 
-  map-one : (g : VirtRegGroup) (p : Inst) (k : UseKind) (o : Option ℕ) (at : Option VirtRegGroup) (ms : List Mapped) → slotOf k ≡ o → ((s : ℕ) → slotOf k ≡ some s → M p s g)
-      → AllMapped ms → OnMapped (mapOne p o g ms at)
-  map-one g p k none at ms e f a = a
-  map-one g p k (some s) none ms e f a = all-append (λ m. M (m .inst) (m .slot) (m .group)) ms (record { inst = p; slot = s; group = g } ∷ []) a (f s e, tt)
-  map-one g p k (some s) (some x) ms e f a = tt
+  if-unmapped : (o : Option VirtRegGroup) (ms : List Mapped) → AllMapped ms → OnMapped (ifUnmapped o ms)
+  if-unmapped none ms a = a
+  if-unmapped (some x) ms a = tt
+
+  map-one : (g : VirtRegGroup) (p : Inst) (o : Option ℕ) (ms : List Mapped) → ((s : ℕ) → o ≡ some s → M p s g) → AllMapped ms → OnMapped (mapOne p o g ms)
+  map-one g p none ms f a = a
+  map-one g p (some s) ms f a =
+      if-unmapped (mappedAt ms p s) (ms ++ (record { inst = p; slot = s; group = g } ∷ []))
+      (all-append (λ m. M (m .inst) (m .slot) (m .group)) ms (record { inst = p; slot = s; group = g } ∷ []) a (f s refl, tt))
 
   pub map-all : (g : VirtRegGroup) (us : List Use) (ms : List Mapped) → AllMapped ms → All (λ w. (s : ℕ) → slotOf (w .kind) ≡ some s → M (w .pos) s g) us → OnMapped (mapUses g us ms)
   unfolding mapUses
   map-all g [] ms a b = a
   map-all g (w ∷ us) ms a b =
-      go (mapOne (w .pos) (slotOf (w .kind)) g ms (mappedAt ms (w .pos) (slotD (slotOf (w .kind)))))
-      (map-one g (w .pos) (w .kind) (slotOf (w .kind)) (mappedAt ms (w .pos) (slotD (slotOf (w .kind)))) ms refl (b .0) a) (λ ns c. map-all g us ns c (b .1))
+      go (mapOne (w .pos) (slotOf (w .kind)) g ms) (map-one g (w .pos) (slotOf (w .kind)) ms (b .0) a) (λ ns c. map-all g us ns c (b .1))
     where
       go : (o : Option (List Mapped)) → OnMapped o → ((ns : List Mapped) → AllMapped ns → OnMapped (mapUses g us ns)) → OnMapped (onMapping o (λ ns. mapUses g us ns))
       go none c ih = tt

@@ -33,7 +33,7 @@ turnAt n [] = []
 turnAt n (s ∷ ss) =
     elim (ltb n (length (s .uses))) [ true ↦ withUses (turnIn n (s .uses)) s ∷ ss | false ↦ s ∷ turnAt (n - length (s .uses)) ss ]
 
--- the block parameter, "if the list .. began with a BlockparamIn at p"
+-- the block parameter where a list of uses began with a BlockparamIn at p
 unfoldable pub paramAt : Inst → List Use → Option ℕ
 paramAt p [] = none
 paramAt p (u ∷ us) = cond (eqb (u .pos .0) (p .0)) (paramOf (u .kind)) none
@@ -76,7 +76,7 @@ step job room set′ top st ss ts k (turn n) = k st (turnAt n ss) (ts ++ (turned
 step job room set′ top st ss ts k (cut p) = placeFront job room set′ top (leftCut (job .hints) p ss) st >>= λ st′. k st′ (rightCut (job .hints) p ss) ts
 step job room set′ top st ss ts k (halt s) = refused (Stopped s)
 
--- The first argument counts the steps that are left: `proofs/Fuel.antt` shows that it never runs out.
+-- The first argument counts the steps that are left: with more than class uses, the clause for none left never answers (`run-step` in `proofs/Fuel.antt`).
 unfoldable pub steps : ℕ → Job → Room → ValueSet → RegClass → State → List Segment → List Turned → Out Built
 unfolding move step usesOf
 steps zero job room set′ top st ss ts = refused (Stopped NoStart)
@@ -107,7 +107,8 @@ pub record Round : Type 0 where
   pub taken : List Turned
   pub left : List Turned
 
--- "the turned uses are tried in the order turned; one not admitted trades places with the last untried one". The first argument is the number of untried ones.
+-- "the turned uses are tried in the order turned; one not admitted trades places with the last untried one". The first argument counts the tries that are left:
+-- with as many as untried uses, the clause for none left meets no untried use (`try-step` in `proofs/Rounds.antt`).
 unfoldable pub try : ℕ → Job → State → Held → List Turned → List Turned → List Turned → Round
 unfolding admit
 try zero job st h taken us left = record { held = h; taken = taken; left = left }
@@ -115,7 +116,8 @@ try (suc f) job st h taken [] left = record { held = h; taken = taken; left = le
 try (suc f) job st h taken (t ∷ us) left =
     elim (admit job st h (t .use′)) [ some g ↦ try f job st g (taken ++ (t ∷ [])) us left | none ↦ try f job st h taken (lastFirst us) (t ∷ left) ]
 
--- "If the list of the first turned use began with a BlockparamIn at p, the piece begins with it too; else it is live-in."
+-- "If the list of the first turned use began with a BlockparamIn at p, the piece begins with it too; else it is live-in." The first one is that of the run, and
+-- its list is taken as it stood when that use was turned: all registers of a run begin alike, those of another run of the same instruction need not.
 abbrev pub opening : Inst → Option ℕ → List Use
 opening p none = []
 opening p (some q) = record { pos = p; kind = BlockparamIn q } ∷ []
@@ -123,6 +125,10 @@ opening p (some q) = record { pos = p; kind = BlockparamIn q } ∷ []
 abbrev pub isNothing : Option ℕ → Bool
 isNothing none = true
 isNothing (some q) = false
+
+-- the uses as they were before they were turned
+abbrev pub usesTurned : List Turned → List Use
+usesTurned ts = map (λ t. t .use′) ts
 
 -- "A conflict piece covers [4p, 4p+2)."
 unfoldable pub conflictPiece : Value → Inst → Option ℕ → List Turned → Piece
@@ -133,21 +139,23 @@ conflictPiece v p param ts = record {
     «from» = point (4 * p .0);
     to = point (4 * p .0 + 2);
     flags = record { livein = isNothing param; liveout = false; fixedhint = false; fixeddef = false };
-    uses = opening p param ++ map (λ t. t .use′) ts;
+    uses = opening p param ++ usesTurned ts;
   };
 }
 
--- one register of an instruction whose first turned use is t; a stop where "a round .. admits none of the conflict uses left"
+-- one register of a run of turned uses whose first one is t; a stop where "a round that admits none of the conflict uses left" comes
 unfoldable pub placeRound : Job → Room → ValueSet → Turned → State → Round → List Turned → (State → List Turned → Out State) → Out State
 unfolding place conflictPiece
 placeRound job room set′ t st r [] k = refused (Stopped NoneAdmitted)
 placeRound job room set′ t st r (u ∷ us) k =
     place job room set′ (r .held) (conflictPiece (t .value) (t .use′ .pos) (t .param) (u ∷ us) ∷ []) st >>= λ st′. k st′ (r .left)
 
--- "From the top class, the turned uses are tried"; "those left over start the next register"
+-- "From the top class, the turned uses are tried"; "those left over start the next register". The first argument counts the rounds that are left:
+-- with as many as uses, the clause for uses left and no round never answers (`rounds-step` in `proofs/Rounds.antt`).
 unfoldable pub rounds : ℕ → Job → Room → ValueSet → RegClass → Turned → State → List Turned → Out State
 unfolding try fresh placeRound
-rounds zero job room set′ top t st us = done st
+rounds zero job room set′ top t st [] = done st
+rounds zero job room set′ top t st (u ∷ us) = refused (Stopped NoneAdmitted)
 rounds (suc f) job room set′ top t st [] = done st
 rounds (suc f) job room set′ top t st (u ∷ us) =
     let r = try (length (u ∷ us)) job st (fresh top) [] (u ∷ us) [] in
@@ -157,7 +165,8 @@ abbrev pub allOf : Value → List Turned → Bool
 allOf v [] = true
 allOf v (t ∷ ts) = eqb (t .value .0) (v .0) && allOf v ts
 
--- "conflict uses of one instruction differ in value"
+-- The conflict registers of a run: neighbours among the turned uses that are of one instruction. A stop where "conflict uses of one instruction differ in value",
+-- judged over the run, before any register of it is placed: an instruction with two runs is judged twice, each run for itself.
 unfoldable pub atInst : Job → Room → ValueSet → RegClass → State → List Turned → Out State
 unfolding rounds
 atInst job room set′ top st [] = done st

@@ -107,9 +107,9 @@ bookOk job = conj (bookTests job)
 unfoldable pub blockOk : BlockData → Bool
 blockOk b = leb 1 (b .insts) && plain (b .frequency)
 
-unfoldable pub leads : Job → ValueData → Bool
+unfoldable pub leaderOk : Job → ValueData → Bool
 unfolding setOf
-leads job v = ltb (v .leader .0) (length (job .values)) && eqb (setOf job (v .leader) .0) (v .leader .0)
+leaderOk job v = ltb (v .leader .0) (length (job .values)) && eqb (setOf job (v .leader) .0) (v .leader .0)
 
 abbrev pub vgroupTests : Job → List Value → List Bool
 vgroupTests job ms =
@@ -119,16 +119,16 @@ unfoldable pub vgroupOk : Job → List Value → Bool
 unfolding conj every
 vgroupOk job ms = conj (vgroupTests job ms)
 
-unfoldable pub membersOf : Job → ValueGroup → List Value
-membersOf job g = getD (job .vgroups) (g .0) []
+unfoldable pub vgroupValues : Job → ValueGroup → List Value
+vgroupValues job g = getD (job .vgroups) (g .0) []
 
 abbrev pub operandTests : Job → Operand → List Bool
 operandTests job o =
     ltb (o .inst .0) (insts job) ∷ ltb (o .slot) slots ∷ ltb (o .vgroup .0) (length (job .vgroups)) ∷ ltb (o .class .0) (length (job .classes))
-    ∷ eqb (classAt job (o .class) .size) (length (membersOf job (o .vgroup))) ∷ []
+    ∷ eqb (classAt job (o .class) .size) (length (vgroupValues job (o .vgroup))) ∷ []
 
 unfoldable pub operandOk : Job → Operand → Bool
-unfolding conj insts membersOf classAt
+unfolding conj insts vgroupValues classAt
 operandOk job o = conj (operandTests job o)
 
 abbrev pub samePlace : Operand → Operand → Bool
@@ -136,11 +136,11 @@ samePlace o r = eqb (o .inst .0) (r .inst .0) && eqb (o .slot) (r .slot)
 
 abbrev pub functionTests : Job → List Bool
 functionTests job =
-    every blockOk (job .blocks) ∷ every (leads job) (job .values) ∷ every (vgroupOk job) (job .vgroups)
+    every blockOk (job .blocks) ∷ every (leaderOk job) (job .values) ∷ every (vgroupOk job) (job .vgroups)
     ∷ every (operandOk job) (job .operands) ∷ apart samePlace (job .operands) ∷ []
 
 unfoldable pub functionOk : Job → Bool
-unfolding conj every blockOk leads vgroupOk operandOk apart
+unfolding conj every blockOk leaderOk vgroupOk operandOk apart
 functionOk job = conj (functionTests job)
 
 -- ---- 5: "hint's value unknown, instruction above the count; keys falling"
@@ -163,15 +163,15 @@ unfolding conj insts
 segmentOk job s = conj (segmentTests job s)
 
 -- the sets rise, and in one set the segments are sorted and do not overlap
-unfoldable pub behind : Job → Segment → Segment → Bool
+unfoldable pub inOrder : Job → Segment → Segment → Bool
 unfolding setOf
-behind job s t =
+inOrder job s t =
     ltb (setOf job (s .value) .0) (setOf job (t .value) .0)
     || (eqb (setOf job (s .value) .0) (setOf job (t .value) .0) && leb (s .to .0) (t .«from» .0))
 
 unfoldable pub segmentsOk : Job → Bool
-unfolding every chained segmentOk behind
-segmentsOk job = every (segmentOk job) (job .segments) && chained (behind job) (job .segments)
+unfolding every chained segmentOk inOrder
+segmentsOk job = every (segmentOk job) (job .segments) && chained (inOrder job) (job .segments)
 
 -- ---- 7: "use falling in position, unknown instruction, class or register, field beyond its UseKind type, kind 3; `from` not below the next Boundary, or `end_point` above `to`;
 -- group use without its operand, of another class, or whose index has no member or another value"
@@ -179,11 +179,11 @@ segmentsOk job = every (segmentOk job) (job .segments) && chained (behind job) (
 -- the operand of a group use is there, of this class, and its group has value v at place i
 abbrev pub groupUseTests : Job → Value → Inst → ℕ → RegClass → ℕ → Operand → List Bool
 groupUseTests job v p s c i o =
-    eqb (o .inst .0) (p .0) ∷ eqb (o .slot) s ∷ eqb (o .class .0) (c .0) ∷ ltb i (length (membersOf job (o .vgroup)))
-    ∷ eqb (getD (membersOf job (o .vgroup)) i (val 0) .0) (v .0) ∷ []
+    eqb (o .inst .0) (p .0) ∷ eqb (o .slot) s ∷ eqb (o .class .0) (c .0) ∷ ltb i (length (vgroupValues job (o .vgroup)))
+    ∷ eqb (getD (vgroupValues job (o .vgroup)) i (val 0) .0) (v .0) ∷ []
 
 unfoldable pub groupUseOk : Job → Value → Inst → ℕ → RegClass → ℕ → Bool
-unfolding some-is conj membersOf
+unfolding some-is conj vgroupValues
 groupUseOk job v p s c i =
     some-is (λ o. conj (groupUseTests job v p s c i o)) (job .operands)
 
@@ -237,7 +237,7 @@ unfoldable pub answer : Job → Room → Out Result
 unfolding entry answerTo
 answer job room = answerTo (entry job) job room
 
--- ---- the cut finder, "public, over blocks, both ends and a side": a count above its limit is 2; a block empty or of bad frequency, or
+-- ---- the cut finder. "Public, over blocks, both ends and a side." A count above its limit is 2; a block empty or of bad frequency, or
 -- "cut ends not `after` < `before` < instructions", is 4. (A side off its list, 1, is no `Side`.)
 
 abbrev pub sideOf : Side → List BlockData → ℕ → ℕ → ℕ

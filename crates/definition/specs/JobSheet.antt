@@ -273,15 +273,15 @@ ontoSegments seg ns r = record { waiting = []; made = segmentOf ns (r .waiting) 
 ontoSegments use′ ns r = record { waiting = useOf ns ∷ r .waiting; made = r .made }
 ontoSegments end ns r = r
 
--- "seg .., each followed by its use lines"
+-- "seg (value, from, to, flags), each followed by its use lines"
 unfoldable pub segmentsOf : List Record → Segments
 unfolding segmentOf useOf
 segmentsOf [] = record { waiting = []; made = [] }
 segmentsOf (r ∷ rs) = ontoSegments (r .word) (r .fields) (segmentsOf rs)
 
-unfoldable pub jobOf : List Record → Job
+unfoldable pub jobOfRecords : List Record → Job
 unfolding only optionsOf bankOf classDataOf memoryOf blockDataOf valueDataOf vgroupOf operandOf hintOf segmentsOf
-jobOf rs = record {
+jobOfRecords rs = record {
   options = optionsOf (getD (only opt rs) 0 []);
   banks = map bankOf (only bank rs);
   classes = map classDataOf (only class rs);
@@ -296,8 +296,8 @@ jobOf rs = record {
 
 -- the job that a sheet stands for
 unfoldable pub jobOfSheet : List ℕ → Option Job
-unfolding sheetOf jobOf
-jobOfSheet bs = sheetOf bs >>= λ rs. some (jobOf rs)
+unfolding sheetOf jobOfRecords
+jobOfSheet bs = sheetOf bs >>= λ rs. some (jobOfRecords rs)
 
 abbrev pub answerOrOne : Option Job → Room → Out Result
 answerOrOne none room = refused NotARecord

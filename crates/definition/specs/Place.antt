@@ -43,11 +43,16 @@ hasRoom room st r g ps =
     leb (length (st .registers) + r) (room .registers) && leb (piecesIn st + length ps) (room .segments)
     && leb (usesIn st + usesOfPieces ps) (room .uses) && leb (length (st .groups) + g) (room .groups)
 
+-- the state, if there is room
+unfoldable pub ifRoom : Bool → State → Out State
+ifRoom true st = done st
+ifRoom false st = refused Full
+
 -- "8 if one register meets both": the stop s where the Bool before it says so, then room
 unfoldable pub gate : Bool → Stop → Bool → State → Out State
+unfolding ifRoom
 gate true s b st = refused (Stopped s)
-gate false s true st = done st
-gate false s false st = refused Full
+gate false s b st = ifRoom b st
 
 -- ---- members of a group
 
@@ -136,20 +141,20 @@ joinState job set′ h hg g new st =
     }
 
 unfoldable pub join : Job → Room → ValueSet → Held → HeldGroup → VirtRegGroup → List Piece → State → Out State
-unfolding gate hasRoom joinState
-join job room set′ h hg g new st = gate false Overlap (hasRoom room st 1 0 new) (joinState job set′ h hg g new st)
+unfolding ifRoom hasRoom joinState
+join job room set′ h hg g new st = ifRoom (hasRoom room st 1 0 new) (joinState job set′ h hg g new st)
 
 -- ---- "A new group maps every group operand of its register; a joining or merging register maps none."
 
--- the mapping with one operand more; none where the operand is mapped already ("one operand mapped twice")
-abbrev pub mapOne : Inst → Option ℕ → VirtRegGroup → List Mapped → Option VirtRegGroup → Option (List Mapped)
-mapOne i none g ms at = some ms
-mapOne i (some s) g ms none = some (ms ++ (record { inst = i; slot = s; group = g } ∷ []))
-mapOne i (some s) g ms (some f) = none
+-- none where the operand has a group already ("one operand mapped twice")
+abbrev pub ifUnmapped : Option VirtRegGroup → List Mapped → Option (List Mapped)
+ifUnmapped none ms = some ms
+ifUnmapped (some f) ms = none
 
-abbrev pub slotD : Option ℕ → ℕ
-slotD none = 0
-slotD (some s) = s
+-- the mapping with the operand of a use at instruction i more: the use has a slot, and so an operand, only if it is a group use
+abbrev pub mapOne : Inst → Option ℕ → VirtRegGroup → List Mapped → Option (List Mapped)
+mapOne i none g ms = some ms
+mapOne i (some s) g ms = ifUnmapped (mappedAt ms i s) (ms ++ (record { inst = i; slot = s; group = g } ∷ []))
 
 abbrev pub onMapping : Option (List Mapped) → (List Mapped → Option (List Mapped)) → Option (List Mapped)
 onMapping none k = none
@@ -158,8 +163,7 @@ onMapping (some ms) k = k ms
 unfoldable pub mapUses : VirtRegGroup → List Use → List Mapped → Option (List Mapped)
 unfolding mappedAt
 mapUses g [] ms = some ms
-mapUses g (u ∷ us) ms =
-    onMapping (mapOne (u .pos) (slotOf (u .kind)) g ms (mappedAt ms (u .pos) (slotD (slotOf (u .kind))))) λ ns. mapUses g us ns
+mapUses g (u ∷ us) ms = onMapping (mapOne (u .pos) (slotOf (u .kind)) g ms) λ ns. mapUses g us ns
 
 unfoldable pub usesOf : List Segment → List Use
 usesOf [] = []
@@ -198,11 +202,13 @@ aloneState job set′ h new st = record {
 }
 
 unfoldable pub alone : Job → Room → ValueSet → Held → List Piece → State → Out State
-unfolding gate hasRoom aloneState
-alone job room set′ h new st = gate false Overlap (hasRoom room st 1 0 new) (aloneState job set′ h new st)
+unfolding ifRoom hasRoom aloneState
+alone job room set′ h new st = ifRoom (hasRoom room st 1 0 new) (aloneState job set′ h new st)
 
 -- ---- all four
 
+-- In a group: a new one where no mapping is held, else the one that is mapped to. A register to merge into is read from a place of that one (`atPlace`), and a mapping
+-- once held stays (`mappingFits`): so where none is held there is no register to merge into (`scan-unmapped` in `proofs/Targets.antt`), and none is asked for.
 unfoldable pub placeGroup : Job → Room → ValueSet → Held → List Piece → State → HeldGroup → Option VirtRegGroup → Option VirtReg → Out State
 unfolding merge join lead
 placeGroup job room set′ h new st hg none t = lead job room set′ h hg new st

@@ -22,9 +22,9 @@ use Rattle.definition.specs.Build.{one, turnedUse}
 abbrev pub holds : Value → ℕ → Segment → Bool
 holds v x s = eqb (s .value .0) (v .0) && leb (s .«from» .0) x && ltb x (s .to .0)
 
-unfoldable pub held : Value → ℕ → List Segment → ℕ
+unfoldable pub liveAt : Value → ℕ → List Segment → ℕ
 unfolding total
-held v x ss = total (λ s. one (holds v x s)) ss
+liveAt v x ss = total (λ s. one (holds v x s)) ss
 
 -- how many hold it, whatever their value
 abbrev pub covers : ℕ → Segment → Bool

@@ -30,8 +30,8 @@ abbrev pub hintField : Bool → List ℕ
 hintField true = decimal 1
 hintField false = decimal 0
 
--- "vreg: number, set, class, weight, group or -, group index, fixed hint. seg: value, from, to, flags, own or conflict.
--- Then `group` lines (number, members); end: registers, groups." A use line is that of a job sheet.
+-- "vreg: number, set, class, weight, group or -, group index, fixed hint (1 if a piece has flag 4). seg: value, from, to, flags, own or conflict (added).
+-- Then `group` lines (number, members, - for an empty place); end: registers, groups." A use line is that of a job sheet.
 unfoldable pub lineBytes : Line → List ℕ
 unfolding decimal eightDigits
 lineBytes (vreg-line n s c w g i h) =

@@ -44,7 +44,7 @@ unfolding freqAt starts keep earliest
 earlyCut bs after before =
     earliest (λ i. freqAt bs i) (suc after) (keep (λ i. ltb (suc after) i && leb i before) (starts 0 bs))
 
--- "Late: among `before` and the block ends from `after`+1 to it, the latest whose preceding instruction's block frequency is least."
+-- "Late: among `before` and the block ends (the instruction after the last) from `after`+1 to it, the latest whose preceding instruction's block frequency is least."
 -- The ends rise, so `before` stands last.
 unfoldable pub lateFrom : (ℕ → Float) → List ℕ → ℕ → ℕ
 unfolding latest

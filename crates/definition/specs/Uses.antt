@@ -47,7 +47,9 @@ isDef (GroupClassDef s c i) = true
 isDef (BlockparamIn p) = true
 isDef BlockparamOut = false
 
--- `end_point`: a definition and a BlockparamOut end at the next Boundary, a class use at Normal, the others at their Boundary
+-- `end_point`: FixedDef, ClassDef, GroupClassDef and BlockparamOut end at the Boundary of the next instruction, ClassUse and GroupClassUse at Normal of their own,
+-- FixedUse, TiedUse, ConstraintConflict and BlockparamIn at the Boundary of their own. So not every definition ends at the next Boundary: BlockparamIn is one that
+-- does not; and BlockparamOut, which is none, does.
 abbrev pub endSlot : UseKind → ℕ
 endSlot (FixedDef r) = 4
 endSlot (FixedUse r) = 0

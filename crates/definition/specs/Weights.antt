@@ -29,7 +29,7 @@ isZeroF (inf s) = false
 isZeroF (fin s zero e) = true
 isZeroF (fin s (suc m) e) = false
 
--- "the f32 sum, in order, of cost × block frequency, zero costs skipped": one use's cost added to the sum so far
+-- "the f32 sum, in order, of cost (× the value's remat scale) × block frequency, zero costs skipped": one use's cost, scaled, added to the sum so far
 unfoldable pub addCost : Float → Float → Float → Float
 unfolding add mul
 addCost sum cost freq = cond (isZeroF cost) sum (add binary32 sum (mul binary32 cost freq))
@@ -54,7 +54,7 @@ unfoldable pub normalized : Float → ℕ → ℕ → Float
 unfolding minF div ofInt
 normalized sum n k = minF (div binary32 sum (ofInt binary32 (pos (n + k)))) maxF
 
--- "One instruction or fewer, in a class without spillslots, is infinite. Else the f32 sum .."
+-- "One instruction or fewer, in a class without spillslots, is infinite. Else the f32 sum"
 unfoldable pub weightOf : Job → RegClass → List Segment → Float
 unfolding classAt liveInsts sumSegs normalized
 weightOf job class ss =

@@ -28,7 +28,7 @@ use Rattle.uses.specs.Rows.{useRow}
 use Rattle.layout.specs.declared.Table.{Table}
 use Rattle.layout.specs.declared.Layout.{Layout}
 use Rattle.layout.specs.declared.SegRow.{SegRow}
-use Rattle.layout.specs.Layout.{segAt, nextUse, usesIn, segmentOf}
+use Rattle.layout.specs.Layout.{segAt, nextUse, jobUses, segmentOf}
 use Rattle.job.specs.Job.{jobBy, rawJob, jobOf}
 use Rattle.job_shape.specs.Shape.{useCounts, rises, countsOk}
 use Rattle.job_shape.proofs.Rising.{begins-none}
@@ -89,7 +89,7 @@ module _ (W : List ℕ) (lay : Layout) (u : ℕ) (l : u < lay .uses .n) where
 
   -- a use passes test 7 with its owner
   pub use-passes : every (usesOk (jobOf W lay)) (jobOf W lay .segments) ≡ true → (o : Owner W lay u) → useOk (jobOf W lay) (segmentOf useRow W lay (o .seg)) (useRow W (lay .uses .at + u * 6)) ≡ true
-  unfolding jobOf jobBy usesOk usesIn rowsAt
+  unfolding jobOf jobBy usesOk jobUses rowsAt
   use-passes e o =
       let k : ℕ = o .seg in
       let a : ℕ = segAt W lay k .first in

@@ -10,7 +10,7 @@ use Rattle.definition.specs.declared.ValueGroup.{ValueGroup}
 use Rattle.definition.specs.declared.Value.{Value}
 use Rattle.definition.specs.declared.Operand.{Operand}
 use Rattle.definition.specs.Types.{Job}
-use Rattle.definition.specs.Entry.{every, vgroupOk, vgroupTests, membersOf, operandOk, operandTests, insts, apart, samePlace, functionOk, functionTests}
+use Rattle.definition.specs.Entry.{every, vgroupOk, vgroupTests, vgroupValues, operandOk, operandTests, insts, apart, samePlace, functionOk, functionTests}
 use Rattle.operands.specs.Rows.{noOperand, opAt}
 use Rattle.entry_function.proofs.Scans.{and-both, conj-at}
 
@@ -53,8 +53,8 @@ module _ (job : Job) (p : functionOk job ≡ true) where
       }
 
   -- a value group has at most eight members
-  pub members-few : (g : ValueGroup) → g .0 < length (job .vgroups) → length (membersOf job g) ≤ 8
-  unfolding vgroupOk membersOf
+  pub members-few : (g : ValueGroup) → g .0 < length (job .vgroups) → length (vgroupValues job g) ≤ 8
+  unfolding vgroupOk vgroupValues
   members-few g h =
       let ms : List Value = getD (job .vgroups) (g .0) [] in
       leb-true (length ms) 8 (conj-at (vgroupTests job ms) 1 (every-at (vgroupOk job) (job .vgroups) (g .0) [] passed-vgroups h) (omega arith))

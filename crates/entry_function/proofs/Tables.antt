@@ -14,7 +14,7 @@ use Rattle.definition.specs.declared.ClassData.{ClassData}
 use Rattle.definition.specs.declared.Value.{Value}
 use Rattle.definition.specs.Types.{Job}
 use Rattle.definition.specs.RegInfo.{noClass, classAt}
-use Rattle.definition.specs.Entry.{instsOf, insts, limitTests, limitsOk, membersOf}
+use Rattle.definition.specs.Entry.{instsOf, insts, limitTests, limitsOk, vgroupValues}
 use Rattle.reginfo.specs.Rows.{classRow, classesAt, bankRow, memoryRow}
 use Rattle.function.specs.Blocks.{blockRow, blocksAt}
 use Rattle.coalescing.specs.Rows.{valuesAt, vgroupRow, vgroupsAt}
@@ -100,8 +100,8 @@ module _ (W : List ℕ) (lay : Layout) where
   unfolding rawJob jobBy classAt classesAt classRow
   class-size c h = ap (λ (d : ClassData). d .size) (getD-rows-at classRow W (lay .classes .at) 4 (lay .classes .n) (c .0) noClass h)
 
-  pub members-row : (g : ValueGroup) → g .0 < lay .vgroups .n → membersOf (rawJob W lay) g ≡ vgroupRow W (lay .vgroups .at + g .0 * 9)
-  unfolding membersOf
+  pub members-row : (g : ValueGroup) → g .0 < lay .vgroups .n → vgroupValues (rawJob W lay) g ≡ vgroupRow W (lay .vgroups .at + g .0 * 9)
+  unfolding vgroupValues
   members-row g h =
       ap (λ (gs : List (List Value)). getD gs (g .0) []) raw-vgroups ∙ sym (group-row-at W (lay .vgroups .at) (lay .vgroups .n) (g .0) h)
 

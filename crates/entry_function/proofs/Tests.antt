@@ -13,7 +13,7 @@ use Rattle.definition.specs.declared.Value.{Value}
 use Rattle.definition.specs.declared.Operand.{Operand}
 use Rattle.definition.specs.Types.{Job, val}
 use Rattle.definition.specs.RegInfo.{setOf}
-use Rattle.definition.specs.Entry.{conj, every, insts, blockOk, leads, vgroupOk, operandOk, apart, samePlace, functionOk}
+use Rattle.definition.specs.Entry.{conj, every, insts, blockOk, leaderOk, vgroupOk, operandOk, apart, samePlace, functionOk}
 use Rattle.function.specs.Blocks.{blocksAt}
 use Rattle.coalescing.specs.Rows.{valueRow, valuesAt, memberRow, vgroupRow, vgroupsAt}
 use Rattle.coalescing.proofs.Members.{group-long}
@@ -32,13 +32,13 @@ use Rattle.entry_function.proofs.Tables.{raw-values, raw-vgroups, raw-o
 
 -- ---- a leader
 
-pub leads-no : (W : List ℕ) (lay : Layout) (i w k : ℕ) → w ≡ getD W (i + 1) 0 → k ≡ w → lay .values .n ≤ k → false ≡ leads (rawJob W lay) (valueRow W i)
-unfolding leads valueRow
+pub leads-no : (W : List ℕ) (lay : Layout) (i w k : ℕ) → w ≡ getD W (i + 1) 0 → k ≡ w → lay .values .n ≤ k → false ≡ leaderOk (rawJob W lay) (valueRow W i)
+unfolding leaderOk valueRow
 leads-no W lay i w k e q h = let z : length (rawJob W lay .values) ≤ w = omega (arith, values-count W lay) in rw (← e, le-ltb _ _ z)
 
 pub leads-by : (W : List ℕ) (lay : Layout) (i w k : ℕ) (s : ValueSet) → w ≡ getD W (i + 1) 0 → k ≡ w → k < lay .values .n
-    → ((job : Job) → job .values ≡ valuesAt W (lay .values .at) (lay .values .n) → s ≡ setOf job (val w)) → eqb (s .0) w ≡ leads (rawJob W lay) (valueRow W i)
-unfolding leads valueRow
+    → ((job : Job) → job .values ≡ valuesAt W (lay .values .at) (lay .values .n) → s ≡ setOf job (val w)) → eqb (s .0) w ≡ leaderOk (rawJob W lay) (valueRow W i)
+unfolding leaderOk valueRow
 leads-by W lay i w k s e q h f =
     let z : w < length (rawJob W lay .values) = omega (arith, values-count W lay) in
     rw (← e, lt-ltb _ _ z) (ap (λ (x : ValueSet). eqb (x .0) w) (f (rawJob W lay) (raw-values W lay)))
@@ -184,7 +184,7 @@ module _ (W : List ℕ) (lay : Layout) (c : Chains) (w : ℕ) (x : Indexes w W l
       }
 
   function-is : functionOk (rawJob W lay)
-      ≡ fiveOf (every blockOk (blocksAt W (lay .blocks .at) (lay .blocks .n))) (every (leads (rawJob W lay)) (valuesAt W (lay .values .at) (lay .values .n)))
+      ≡ fiveOf (every blockOk (blocksAt W (lay .blocks .at) (lay .blocks .n))) (every (leaderOk (rawJob W lay)) (valuesAt W (lay .values .at) (lay .values .n)))
       (every (vgroupOk (rawJob W lay)) (vgroupsAt W (lay .vgroups .at) (lay .vgroups .n)))
       (every (operandOk (rawJob W lay)) (operandsAt W (lay .operands .at) (lay .operands .n))) (apart samePlace (operandsOf W c))
   unfolding functionOk conj fiveOf
@@ -195,7 +195,7 @@ module _ (W : List ℕ) (lay : Layout) (c : Chains) (w : ℕ) (x : Indexes w W l
     pub function-1 : not a ≡ true → false ≡ functionOk (rawJob W lay)
     function-1 h = stop-1 _ _ _ _ _ (no a _ ea h) ∙ sym function-is
 
-    module _ (ha : not a ≡ false) (b : Bool) (eb : b ≡ every (leads (rawJob W lay)) (valuesAt W (lay .values .at) (lay .values .n))) where
+    module _ (ha : not a ≡ false) (b : Bool) (eb : b ≡ every (leaderOk (rawJob W lay)) (valuesAt W (lay .values .at) (lay .values .n))) where
       pub function-2 : not b ≡ true → false ≡ functionOk (rawJob W lay)
       function-2 h = stop-2 _ _ _ _ _ (yes a _ ea ha) (no b _ eb h) ∙ sym function-is
 

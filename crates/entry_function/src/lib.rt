@@ -7,7 +7,7 @@ ghost use mathlib.Core.Bool.{true};
 ghost use Prim.Native.Nat.{_+_, _*_, _≤_, _<_};
 ghost use lib.ListN.{length};
 ghost use Rattle.words.specs.Words.{wordCount, wordsOf};
-ghost use Rattle.definition.specs.Entry.{every, insts, leads, vgroupOk, operandOk, functionOk};
+ghost use Rattle.definition.specs.Entry.{every, insts, leaderOk, vgroupOk, operandOk, functionOk};
 ghost use Rattle.coalescing.specs.Rows.{valueRow, valuesAt, vgroupRow, vgroupsAt};
 ghost use Rattle.operands.specs.Rows.{operandRow, operandsAt};
 ghost use Rattle.operands.specs.Chains.{Chained, operandsOf, chainsOf};
@@ -18,7 +18,7 @@ ghost use Rattle.entry_function.specs.Counts.{known, Within, Indexes};
 // Whether value i's leader is a value that leads itself.
 fn leads_at(job: &[u8], lay: Layout, i: usize) -> bool
     requires { ⌜ Fits (wordCount (now job)) lay × (i < lay .values .n) ⌝ }
-    ensures { λ r. ⌜ r ≡ leads (rawJob (wordsOf (now (job .entry))) lay) (valueRow (wordsOf (now (job .entry))) (lay .values .at + i * 3)) ⌝ }
+    ensures { λ r. ⌜ r ≡ leaderOk (rawJob (wordsOf (now (job .entry))) lay) (valueRow (wordsOf (now (job .entry))) (lay .values .at + i * 3)) ⌝ }
 {
     let at = lay.values.at;
     let n = lay.values.n;
@@ -31,7 +31,7 @@ fn leads_at(job: &[u8], lay: Layout, i: usize) -> bool
 
 fn leaders_ok(job: &[u8], lay: Layout) -> bool
     requires { ⌜ Fits (wordCount (now job)) lay ⌝ }
-    ensures { λ r. ⌜ r ≡ every (leads (rawJob (wordsOf (now (job .entry))) lay)) (valuesAt (wordsOf (now (job .entry))) (lay .values .at) (lay .values .n)) ⌝ }
+    ensures { λ r. ⌜ r ≡ every (leaderOk (rawJob (wordsOf (now (job .entry))) lay)) (valuesAt (wordsOf (now (job .entry))) (lay .values .at) (lay .values .n)) ⌝ }
 {
     let n = lay.values.n;
     let mut i: usize = 0;

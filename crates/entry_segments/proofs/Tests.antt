@@ -10,7 +10,7 @@ use Rattle.definition.specs.declared.ValueSet.{ValueSet}
 use Rattle.definition.specs.declared.LiveRangePoint.{LiveRangePoint}
 use Rattle.definition.specs.Types.{Job}
 use Rattle.definition.specs.RegInfo.{setOf}
-use Rattle.definition.specs.Entry.{conj, every, chained, insts, segmentOk, behind, segmentsOk}
+use Rattle.definition.specs.Entry.{conj, every, chained, insts, segmentOk, inOrder, segmentsOk}
 use Rattle.coalescing.specs.Rows.{valuesAt}
 use Rattle.uses.specs.Rows.{rawRow}
 use Rattle.layout.specs.declared.Table.{Table}
@@ -84,31 +84,31 @@ module _ (W : List ℕ) (lay : Layout) (i : ℕ) (s : SegRow) (r : s ≡ segRow 
 module _ (W : List ℕ) (lay : Layout) (i j : ℕ) (s t : SegRow) (p : s ≡ segRow W (lay .segments .at + i * 5)) (q : t ≡ segRow W (lay .segments .at + j * 5)) (a b : ValueSet)
     (f : (job : Job) → job .values ≡ valuesAt W (lay .values .at) (lay .values .n) → a ≡ setOf job (s .value))
     (g : (job : Job) → job .values ≡ valuesAt W (lay .values .at) (lay .values .n) → b ≡ setOf job (t .value)) where
-  behind-is : behind (rawJob W lay) (segmentOf rawRow W lay i) (segmentOf rawRow W lay j) ≡ ltb (a .0) (b .0) || (eqb (a .0) (b .0) && leb (s .to .0) (t .«from» .0))
-  unfolding behind
-  behind-is =
+  order-is : inOrder (rawJob W lay) (segmentOf rawRow W lay i) (segmentOf rawRow W lay j) ≡ ltb (a .0) (b .0) || (eqb (a .0) (b .0) && leb (s .to .0) (t .«from» .0))
+  unfolding inOrder
+  order-is =
       rw (seg-value W lay i s p, seg-value W lay j t q, seg-to W lay i s p, seg-from W lay j t q, ← f (rawJob W lay) (raw-values W lay), ← g (rawJob W lay) (raw-values W lay))
 
-  pub behind-set : a .0 < b .0 → true ≡ behind (rawJob W lay) (segmentOf rawRow W lay i) (segmentOf rawRow W lay j)
-  behind-set h = sym (behind-is ∙ rw (lt-ltb _ _ h))
+  pub order-set : a .0 < b .0 → true ≡ inOrder (rawJob W lay) (segmentOf rawRow W lay i) (segmentOf rawRow W lay j)
+  order-set h = sym (order-is ∙ rw (lt-ltb _ _ h))
 
-  pub behind-no : b .0 ≤ a .0 → (a .0 ≡ b .0 → ⊥) → false ≡ behind (rawJob W lay) (segmentOf rawRow W lay i) (segmentOf rawRow W lay j)
-  behind-no h n = sym (behind-is ∙ rw (le-ltb _ _ h, ne-eqb _ _ n))
+  pub order-no : b .0 ≤ a .0 → (a .0 ≡ b .0 → ⊥) → false ≡ inOrder (rawJob W lay) (segmentOf rawRow W lay i) (segmentOf rawRow W lay j)
+  order-no h n = sym (order-is ∙ rw (le-ltb _ _ h, ne-eqb _ _ n))
 
-  pub behind-place : b .0 ≤ a .0 → a .0 ≡ b .0 → leb (s .to .0) (t .«from» .0) ≡ behind (rawJob W lay) (segmentOf rawRow W lay i) (segmentOf rawRow W lay j)
-  behind-place h e = sym (behind-is ∙ rw (le-ltb _ _ h, eq-eqb _ _ e))
+  pub order-place : b .0 ≤ a .0 → a .0 ≡ b .0 → leb (s .to .0) (t .«from» .0) ≡ inOrder (rawJob W lay) (segmentOf rawRow W lay i) (segmentOf rawRow W lay j)
+  order-place h e = sym (order-is ∙ rw (le-ltb _ _ h, eq-eqb _ _ e))
 
 -- ---- the whole test
 
 module _ (W : List ℕ) (lay : Layout) where
   segments-is : segmentsOk (rawJob W lay)
-      ≡ every (segmentOk (rawJob W lay)) (tab (segmentOf rawRow W lay) 0 (lay .segments .n)) && chained (behind (rawJob W lay)) (tab (segmentOf rawRow W lay) 0 (lay .segments .n))
+      ≡ every (segmentOk (rawJob W lay)) (tab (segmentOf rawRow W lay) 0 (lay .segments .n)) && chained (inOrder (rawJob W lay)) (tab (segmentOf rawRow W lay) 0 (lay .segments .n))
   unfolding segmentsOk
   segments-is = rw (raw-segments W lay)
 
   pub segments-no : (t : Bool) → t ≡ every (segmentOk (rawJob W lay)) (tab (segmentOf rawRow W lay) 0 (lay .segments .n)) → not t ≡ true → false ≡ segmentsOk (rawJob W lay)
-  segments-no t e h = and-false _ (chained (behind (rawJob W lay)) (tab (segmentOf rawRow W lay) 0 (lay .segments .n))) t e h ∙ sym segments-is
+  segments-no t e h = and-false _ (chained (inOrder (rawJob W lay)) (tab (segmentOf rawRow W lay) 0 (lay .segments .n))) t e h ∙ sym segments-is
 
   pub segments-by : (t u : Bool) → t ≡ every (segmentOk (rawJob W lay)) (tab (segmentOf rawRow W lay) 0 (lay .segments .n)) → not t ≡ false
-      → u ≡ chained (behind (rawJob W lay)) (tab (segmentOf rawRow W lay) 0 (lay .segments .n)) → u ≡ segmentsOk (rawJob W lay)
+      → u ≡ chained (inOrder (rawJob W lay)) (tab (segmentOf rawRow W lay) 0 (lay .segments .n)) → u ≡ segmentsOk (rawJob W lay)
   segments-by t u e h f = and-next _ _ t u e h f ∙ sym segments-is

@@ -5,7 +5,7 @@ ghost use mathlib.Core.Path.{_≡_};
 ghost use Prim.Native.Nat.{_+_, _*_, _≤_, _<_};
 ghost use Rattle.rows.specs.Tab.{tab};
 ghost use Rattle.words.specs.Words.{wordCount, wordsOf};
-ghost use Rattle.definition.specs.Entry.{every, chained, insts, segmentOk, behind, segmentsOk};
+ghost use Rattle.definition.specs.Entry.{every, chained, insts, segmentOk, inOrder, segmentsOk};
 ghost use Rattle.uses.specs.Rows.{rawRow};
 ghost use Rattle.layout.specs.Layout.{Fits, segmentOf};
 ghost use Rattle.job.specs.Job.{rawJob};
@@ -60,7 +60,7 @@ fn segments_within(job: &[u8], lay: Layout, count: usize) -> bool
 // Whether segment i + 1 is of a later set than segment i, or behind it in its set.
 fn next_behind(job: &[u8], lay: Layout, i: usize) -> bool
     requires { ⌜ Fits (wordCount (now job)) lay × (i + 1 < lay .segments .n) ⌝ }
-    ensures { λ r. ⌜ r ≡ behind (rawJob (wordsOf (now (job .entry))) lay) (segmentOf rawRow (wordsOf (now (job .entry))) lay i) (segmentOf rawRow (wordsOf (now (job .entry))) lay (i + 1)) ⌝ }
+    ensures { λ r. ⌜ r ≡ inOrder (rawJob (wordsOf (now (job .entry))) lay) (segmentOf rawRow (wordsOf (now (job .entry))) lay i) (segmentOf rawRow (wordsOf (now (job .entry))) lay (i + 1)) ⌝ }
 {
     let at = lay.segments.at;
     let s = layout::seg_at(job, at + i * 5);
@@ -78,7 +78,7 @@ fn next_behind(job: &[u8], lay: Layout, i: usize) -> bool
 
 fn segments_sorted(job: &[u8], lay: Layout) -> bool
     requires { ⌜ Fits (wordCount (now job)) lay ⌝ }
-    ensures { λ r. ⌜ r ≡ chained (behind (rawJob (wordsOf (now (job .entry))) lay)) (tab (segmentOf rawRow (wordsOf (now (job .entry))) lay) 0 (lay .segments .n)) ⌝ }
+    ensures { λ r. ⌜ r ≡ chained (inOrder (rawJob (wordsOf (now (job .entry))) lay)) (tab (segmentOf rawRow (wordsOf (now (job .entry))) lay) 0 (lay .segments .n)) ⌝ }
 {
     let n = lay.segments.n;
     let mut i: usize = 0;

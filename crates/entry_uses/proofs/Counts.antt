@@ -14,7 +14,7 @@ use Rattle.definition.specs.Entry.{limitTests, limitsOk}
 use Rattle.uses.specs.Rows.{rawRow}
 use Rattle.layout.specs.declared.Table.{Table}
 use Rattle.layout.specs.declared.Layout.{Layout}
-use Rattle.layout.specs.Layout.{segRow, segAt, nextUse, usesIn, segmentOf}
+use Rattle.layout.specs.Layout.{segRow, segAt, nextUse, jobUses, segmentOf}
 use Rattle.job.specs.Job.{rawJob}
 use Rattle.entry_function.proofs.Scans.{conj-at}
 use Rattle.entry_function.proofs.Tables.{raw-segments}
@@ -45,7 +45,7 @@ module _ (W : List ℕ) (lay : Layout) where
       record { first = f; rise = r; within = λ i h. below-all r i (lay .segments .n - (i + 1)) (omega arith) }
 
   one-count : (i : ℕ) → length (segmentOf rawRow W lay i .uses) ≡ nextUse W lay i - firstOf i
-  unfolding segmentOf usesIn
+  unfolding segmentOf jobUses
   one-count i = length-rows-at rawRow W (lay .uses .at + firstOf i * 6) 6 (nextUse W lay i - firstOf i)
 
   all-count : Rising W lay → (i k : ℕ) → i + suc k ≡ lay .segments .n → usesFrom i (suc k) ≡ lay .uses .n - firstOf i

@@ -20,7 +20,7 @@ use Rattle.uses.specs.Rows.{pickK, reg, rawKind, kindOf, rawRow, useRow}
 use Rattle.layout.specs.declared.Table.{Table}
 use Rattle.layout.specs.declared.Layout.{Layout}
 use Rattle.layout.specs.declared.SegRow.{SegRow}
-use Rattle.layout.specs.Layout.{segRow, segAt, nextUse, usesIn, segmentOf}
+use Rattle.layout.specs.Layout.{segRow, segAt, nextUse, jobUses, segmentOf}
 use Rattle.job.specs.Job.{rawJob}
 use Rattle.entry_function.proofs.Scans.{Chain, chain-next, chain-stop, and-false, and-next}
 use Rattle.entry_function.proofs.Tables.{raw-segments}
@@ -110,7 +110,7 @@ module _ (W : List ℕ) (lay : Layout) (k : ℕ) (s : SegRow) (r : s ≡ segRow 
   same-test u = rw r
 
   same-uses : segmentOf rawRow W lay k .uses ≡ rowsAt rawRow W (lay .uses .at + s .first * 6) 6 (next - s .first)
-  unfolding segmentOf segAt usesIn
+  unfolding segmentOf segAt jobUses
   same-uses = rw (r, e)
 
   uses-is : usesOk (rawJob W lay) (segmentOf rawRow W lay k)

@@ -15,7 +15,7 @@ use Rattle.definition.specs.declared.Value.{Value}
 use Rattle.definition.specs.declared.RegClass.{RegClass}
 use Rattle.definition.specs.declared.Use.{Use}
 use Rattle.definition.specs.Types.{Job, Segment, cls}
-use Rattle.definition.specs.Entry.{every, membersOf, functionOk, groupUseOk, kindOk, useTests, useOk, usesOk}
+use Rattle.definition.specs.Entry.{every, vgroupValues, functionOk, groupUseOk, kindOk, useTests, useOk, usesOk}
 use Rattle.operands.specs.declared.FoundOperand.{FoundOperand}
 use Rattle.operands.specs.declared.FoundOperand.the-variants.{At, Nothing}
 use Rattle.operands.specs.Rows.{opAt, lastPlace, fitsFound}
@@ -25,7 +25,7 @@ use Rattle.uses.specs.Rows.{rawKind, rawRow, useRow, fit, typedKind, typedRow}
 use Rattle.uses.proofs.Typed.{typed-row}
 use Rattle.layout.specs.declared.Table.{Table}
 use Rattle.layout.specs.declared.Layout.{Layout}
-use Rattle.layout.specs.Layout.{segAt, nextUse, usesIn, segmentOf}
+use Rattle.layout.specs.Layout.{segAt, nextUse, jobUses, segmentOf}
 use Rattle.job.specs.Job.{jobBy, rawJob, jobOf}
 use Rattle.entry_function.proofs.Scans.{and-both, each-at, conj-at}
 use Rattle.entry_function.proofs.Tables.{raw-segments}
@@ -51,9 +51,9 @@ module _ (job : Job) (p : functionOk job ≡ true) (v : Value) (q : Inst) where
           let a = found-at (job .operands) (length (job .operands)) (q .0) s k g in
           let o = opAt (job .operands) k in
           let w = operand-fits job p k (a .0) in
-          let m = and-both (ltb i (length (membersOf job (o .vgroup)))) _ (and-both (eqb (o .class .0) (c .0)) _ h .1) .0 in (
+          let m = and-both (ltb i (length (vgroupValues job (o .vgroup)))) _ (and-both (eqb (o .class .0) (c .0)) _ h .1) .0 in (
             omega (arith, w .slot, eqb-true (o .slot) s (and-both (eqb (o .inst .0) (q .0)) (eqb (o .slot) s) (a .1) .1)),
-            omega (arith, ltb-true i (length (membersOf job (o .vgroup))) m, members-few job p (o .vgroup) (w .vgroup)),
+            omega (arith, ltb-true i (length (vgroupValues job (o .vgroup))) m, members-few job p (o .vgroup) (w .vgroup)),
           )
       go Nothing g h = never (sym h)
 
@@ -125,7 +125,7 @@ module _ (W : List ℕ) (lay : Layout) (p : functionOk (rawJob W lay) ≡ true) 
       ∙ each-at (usesOk (rawJob W lay)) (segmentOf rawRow W lay) 0 (lay .segments .n) k (ap (λ (ss : List Segment). every (usesOk (rawJob W lay)) ss) (sym (raw-segments W lay)) ∙ e) h
 
   uses-same : (k : ℕ) → k < lay .segments .n → segmentOf rawRow W lay k .uses ≡ segmentOf useRow W lay k .uses
-  unfolding usesOk segmentOf usesIn rowsAt
+  unfolding usesOk segmentOf jobUses rowsAt
   uses-same k h =
       let at : ℕ = lay .uses .at + segAt W lay k .first * 6 in
       let n : ℕ = nextUse W lay k - segAt W lay k .first in

@@ -19,7 +19,7 @@ segOf s = record { value = s .value; «from» = s .«from»; to = s .to; flags =
 unfoldable pub notFalling : Use → Use → Bool
 notFalling u w = leb (u .pos .0) (w .pos .0)
 
--- "the first segment's count is 0 and the counts do not fall" nor pass the number of uses
+-- the first segment's count is 0, and the counts do not fall nor pass the number of uses
 pub record Rising (W : List ℕ) (lay : Layout) : Type 0 where
   pub first : 0 < lay .segments .n → segAt W lay 0 .first ≡ 0
   pub rise : (i : ℕ) → i < lay .segments .n → segAt W lay i .first ≤ nextUse W lay i

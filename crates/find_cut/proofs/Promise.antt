@@ -46,7 +46,7 @@ unfolding sideNamed
 early-answer s a b i e =
     subst (λ (c : ℕ). EarliestLeast (EarlyPlace (blocksIn s) a b) (freqAt (blocksIn s)) c) (sym (none-failed s a b 0 i e .1)) (early-rule (blocksIn s) a b (all-passed s a b 0 i e .blocks-ok))
 
--- side 1: "among `before` and the block ends from `after`+1 to it, the latest whose preceding instruction's block frequency is least"
+-- side 1: "among `before` and the block ends (the instruction after the last) from `after`+1 to it, the latest whose preceding instruction's block frequency is least"
 pub late-answer : (s : List ℕ) (after before i : ℕ) → cutAnswer s after before 1 ≡ answered 0 i
     → LatestLeast (LatePlace (blocksIn s) after before) (λ p. freqAt (blocksIn s) (p - 1)) i
 unfolding sideNamed

@@ -9,8 +9,8 @@ use Rattle.rows.specs.RowsAt.{rowsAt, length-rows-at, getD-rows-at}
 use Rattle.definition.specs.declared.Value.{Value}
 use Rattle.definition.specs.declared.Hint.{Hint}
 use Rattle.definition.specs.Entry.{chained, notAfter}
-use Rattle.hints.specs.Hints.{hintAt, keyBelow, firstFrom}
-use Rattle.hints.specs.Laws.{below-before, above-behind, first-from-is}
+use Rattle.hints.specs.Hints.{hintAt, keyBelow, firstHint}
+use Rattle.hints.specs.Laws.{below-before, above-behind, first-hint-is}
 
 -- row j
 abbrev hint : List ℕ → ℕ → ℕ → Hint
@@ -68,9 +68,9 @@ module _ {W : List ℕ} {at n : ℕ} {v : Value} {k low high : ℕ} (s : Searchi
       row : (j : ℕ) → j < n → getD rows j h ≡ hint W at j
       row j p = getD-rows-at hintAt W at 3 n j h p
 
-  pub search-done : high ≤ low → low ≡ firstFrom v k (rowsAt hintAt W at 3 n)
+  pub search-done : high ≤ low → low ≡ firstHint v k (rowsAt hintAt W at 3 n)
   search-done p =
-      sym (first-from-is v k rows d low (omega (arith, s .within, s .inside, long)) (λ j q. ap (keyBelow v k) (row j (omega (arith, s .within, s .inside))) ∙ s .below j q)
+      sym (first-hint-is v k rows d low (omega (arith, s .within, s .inside, long)) (λ j q. ap (keyBelow v k) (row j (omega (arith, s .within, s .inside))) ∙ s .below j q)
       (λ q. ap (keyBelow v k) (row low (omega (arith, long))) ∙ s .above low p (omega (arith, long))))
     where
       rows : List Hint

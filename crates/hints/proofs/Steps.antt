@@ -13,7 +13,7 @@ use Rattle.definition.specs.declared.Value.{Value}
 use Rattle.definition.specs.declared.Hint.{Hint}
 use Rattle.definition.specs.Hints.{asKey, hinted}
 use Rattle.definition.specs.Entry.{chained, notAfter}
-use Rattle.hints.specs.Hints.{hintAt, keyBelow, firstFrom}
+use Rattle.hints.specs.Hints.{hintAt, keyBelow, firstHint}
 use Rattle.hints.specs.Laws.{firstHits, hinted-first}
 
 -- ---- the key of a hint
@@ -44,11 +44,11 @@ module _ (v : Value) (k : ℕ) (h : Hint) where
 -- ---- the first hint that the search finds
 
 module _ (W : List ℕ) (at n : ℕ) (v : Value) (a b i k : ℕ) (sorted : chained notAfter (rowsAt hintAt W at 3 n) ≡ true) (e : k ≡ 2 * a)
-    (f : i ≡ firstFrom v (k + 1) (rowsAt hintAt W at 3 n)) where
+    (f : i ≡ firstHint v (k + 1) (rowsAt hintAt W at 3 n)) where
   found : hinted (rowsAt hintAt W at 3 n) v a b ≡ firstHits v b (drop i (rowsAt hintAt W at 3 n))
   found =
       hinted-first v a b (rowsAt hintAt W at 3 n) sorted
-      ∙ ap (λ (x : ℕ). firstHits v b (drop (firstFrom v (x + 1) (rowsAt hintAt W at 3 n)) (rowsAt hintAt W at 3 n))) (sym e)
+      ∙ ap (λ (x : ℕ). firstHits v b (drop (firstHint v (x + 1) (rowsAt hintAt W at 3 n)) (rowsAt hintAt W at 3 n))) (sym e)
       ∙ ap (λ (x : ℕ). firstHits v b (drop x (rowsAt hintAt W at 3 n))) (sym f)
 
   pub found-none : n ≤ i → false ≡ hinted (rowsAt hintAt W at 3 n) v a b

@@ -22,10 +22,10 @@ unfoldable pub keyBelow : Value → ℕ → Hint → Bool
 keyBelow v k h = ltb (h .value .0) (v .0) || (eqb (h .value .0) (v .0) && ltb (asKey h) k)
 
 -- how many of the hints are before key k of value v, where none behind the first that is not is
-unfoldable pub firstFrom : Value → ℕ → List Hint → ℕ
+unfoldable pub firstHint : Value → ℕ → List Hint → ℕ
 unfolding keyBelow
-firstFrom v k [] = 0
-firstFrom v k (h ∷ hs) = elim (keyBelow v k h) [ true ↦ suc (firstFrom v k hs) | false ↦ 0 ]
+firstHint v k [] = 0
+firstHint v k (h ∷ hs) = elim (keyBelow v k h) [ true ↦ suc (firstHint v k hs) | false ↦ 0 ]
 
 -- a row is its three words
 pub hint-reads : Reads 3 hintAt

@@ -11,7 +11,7 @@ use Rattle.definition.specs.declared.Value.{Value}
 use Rattle.definition.specs.declared.Hint.{Hint}
 use Rattle.definition.specs.Hints.{asKey, hinted}
 use Rattle.definition.specs.Entry.{chained, notAfter}
-use Rattle.hints.specs.Hints.{keyBelow, firstFrom}
+use Rattle.hints.specs.Hints.{keyBelow, firstHint}
 
 -- ---- the order: by value, then by key
 
@@ -102,14 +102,14 @@ module _ (v : Value) (k : ℕ) (hs : List Hint) (d : Hint) (sorted : chained not
       go false e = refl
 
 -- what a search has found
-pub first-from-is : (v : Value) (k : ℕ) (hs : List Hint) (d : Hint) (i : ℕ) → i ≤ length hs → ((j : ℕ) → j < i → keyBelow v k (getD hs j d) ≡ true)
-    → (i < length hs → keyBelow v k (getD hs i d) ≡ false) → firstFrom v k hs ≡ i
-unfolding firstFrom
-first-from-is v k [] d i l u o = omega arith
-first-from-is v k (h ∷ hs) d zero l u o = let e : keyBelow v k h ≡ false = o (omega arith) in rw (e, firstFrom)
-first-from-is v k (h ∷ hs) d (suc i) l u o =
+pub first-hint-is : (v : Value) (k : ℕ) (hs : List Hint) (d : Hint) (i : ℕ) → i ≤ length hs → ((j : ℕ) → j < i → keyBelow v k (getD hs j d) ≡ true)
+    → (i < length hs → keyBelow v k (getD hs i d) ≡ false) → firstHint v k hs ≡ i
+unfolding firstHint
+first-hint-is v k [] d i l u o = omega arith
+first-hint-is v k (h ∷ hs) d zero l u o = let e : keyBelow v k h ≡ false = o (omega arith) in rw (e, firstHint)
+first-hint-is v k (h ∷ hs) d (suc i) l u o =
     let e : keyBelow v k h ≡ true = u 0 (omega arith) in
-    rw (e, firstFrom) (ap suc (first-from-is v k hs d i (omega arith) (λ j p. u (suc j) (omega arith)) (λ p. o (omega arith))))
+    rw (e, firstHint) (ap suc (first-hint-is v k hs d i (omega arith) (λ j p. u (suc j) (omega arith)) (λ p. o (omega arith))))
 
 -- ---- the hints of a value between two keys
 
@@ -182,8 +182,8 @@ module _ (v : Value) (a b : ℕ) where
       go false f = rw (n, m, f) (none-behind h hs e (same q (leb-false (asKey h) (2 * b) f)))
 
   -- the whole test from the first hint that is not before the lower key
-  pub hinted-first : (hs : List Hint) → chained notAfter hs ≡ true → hinted hs v a b ≡ firstHits v b (drop (firstFrom v (2 * a + 1) hs) hs)
-  unfolding hinted firstFrom
+  pub hinted-first : (hs : List Hint) → chained notAfter hs ≡ true → hinted hs v a b ≡ firstHits v b (drop (firstHint v (2 * a + 1) hs) hs)
+  unfolding hinted firstHint
   hinted-first [] e = refl
   hinted-first (h ∷ hs) e = go (hinted-first hs (chained-rest h hs e)) (keyBelow v (2 * a + 1) h) refl
     where
@@ -191,7 +191,7 @@ module _ (v : Value) (a b : ℕ) where
       under (less l) = other-value h (λ q. omega arith)
       under (same q l) = below-key h (ltb-true (asKey h) (2 * a + 1) l)
 
-      go : hinted hs v a b ≡ firstHits v b (drop (firstFrom v (2 * a + 1) hs) hs) → (t : Bool) → keyBelow v (2 * a + 1) h ≡ t
-          → hinted (h ∷ hs) v a b ≡ firstHits v b (drop (firstFrom v (2 * a + 1) (h ∷ hs)) (h ∷ hs))
-      go r true f = rw (f, firstFrom, under (lex-true (h .value .0) (v .0) (ltb (asKey h) (2 * a + 1)) f)) r
-      go r false f = rw (f, firstFrom) (first-hit h hs e (lex-false (h .value .0) (v .0) (ltb (asKey h) (2 * a + 1)) f))
+      go : hinted hs v a b ≡ firstHits v b (drop (firstHint v (2 * a + 1) hs) hs) → (t : Bool) → keyBelow v (2 * a + 1) h ≡ t
+          → hinted (h ∷ hs) v a b ≡ firstHits v b (drop (firstHint v (2 * a + 1) (h ∷ hs)) (h ∷ hs))
+      go r true f = rw (f, firstHint, under (lex-true (h .value .0) (v .0) (ltb (asKey h) (2 * a + 1)) f)) r
+      go r false f = rw (f, firstHint) (first-hit h hs e (lex-false (h .value .0) (v .0) (ltb (asKey h) (2 * a + 1)) f))

@@ -10,7 +10,7 @@ ghost use Rattle.rows.specs.RowsAt.{rowsAt};
 ghost use Rattle.words.specs.Words.{wordCount, wordsOf};
 ghost use Rattle.definition.specs.Hints.{asKey, hinted};
 ghost use Rattle.definition.specs.Entry.{chained, notAfter};
-ghost use Rattle.hints.specs.Hints.{hintAt, keyBelow, firstFrom};
+ghost use Rattle.hints.specs.Hints.{hintAt, keyBelow, firstHint};
 
 // The hint whose row begins at word i; it is incoming exactly if its word is 1.
 pub fn hint_at(t: &[u8], i: usize) -> Hint
@@ -59,9 +59,9 @@ fn key_below(h: Hint, v: Value, k: u64) -> bool
 }
 
 // How many of n sorted hints, the first at word `at`, are before key k of value v.
-fn first_from(t: &[u8], at: usize, n: usize, v: Value, k: u64) -> usize
+fn first_hint(t: &[u8], at: usize, n: usize, v: Value, k: u64) -> usize
     requires { ⌜ (at + n * 3 ≤ wordCount (now t)) × (chained notAfter (rowsAt hintAt (wordsOf (now t)) at 3 n) ≡ true) ⌝ }
-    ensures { λ r. ⌜ (r ≡ firstFrom v k (rowsAt hintAt (wordsOf (now (t .entry))) at 3 n)) × (r ≤ n) ⌝ }
+    ensures { λ r. ⌜ (r ≡ firstHint v k (rowsAt hintAt (wordsOf (now (t .entry))) at 3 n)) × (r ≤ n) ⌝ }
 {
     let mut low: usize = 0;
     let mut high = n;
@@ -81,7 +81,7 @@ pub fn hint_between(t: &[u8], at: usize, n: usize, v: Value, a: Inst, b: Inst) -
     requires { ⌜ (at + n * 3 ≤ wordCount (now t)) × (chained notAfter (rowsAt hintAt (wordsOf (now t)) at 3 n) ≡ true) ⌝ }
     ensures { λ r. ⌜ r ≡ hinted (rowsAt hintAt (wordsOf (now (t .entry))) at 3 n) v (a .0) (b .0) ⌝ }
 {
-    let i = first_from(t, at, n, v, outgoing(a) + 1);
+    let i = first_hint(t, at, n, v, outgoing(a) + 1);
     if n <= i {
         return false;
     }

@@ -23,7 +23,7 @@ use Rattle.operands.specs.Rows.{operandRow, operandsAt}
 use Rattle.hints.specs.Hints.{hintAt}
 use Rattle.uses.specs.Rows.{useRow, rawRow}
 use Rattle.layout.specs.declared.Layout.{Layout}
-use Rattle.layout.specs.Layout.{Fits, segRow, segAt, nextUse, usesIn, segmentOf}
+use Rattle.layout.specs.Layout.{Fits, segRow, segAt, nextUse, jobUses, segmentOf}
 use Rattle.job.specs.Job.{jobBy, rawJob, jobOf}
 use Rattle.job_shape.specs.Shape.{layoutOf, endOf, useCounts, rises, choiceTests, choicesOk, countsOk, tableTests, tablesOk, shapeTests, shapeOk, Shaped}
 use Rattle.job_shape.specs.Answer.{binaryJob, answerIf, binaryAnswer}
@@ -94,7 +94,7 @@ module _ (row : List ℕ → ℕ → Use) (W : List ℕ) (lay : Layout) where
   howMany s = length (s .uses)
 
   length-uses : (i : ℕ) → length (segmentOf row W lay i .uses) ≡ nextUse W lay i - firstAt i
-  unfolding segmentOf usesIn segAt segRow
+  unfolding segmentOf jobUses segAt segRow
   length-uses i = length-rows-at row W _ 6 _
 
   next-last : (i : ℕ) → lay .segments .n ≤ i + 1 → nextUse W lay i ≡ lay .uses .n

@@ -17,23 +17,23 @@ abbrev pub table : ℕ → ℕ → Table
 table at n = record { at = at; n = n }
 
 -- a table of n rows behind table t, which has rows of `stride` words
-abbrev pub behind : Table → ℕ → ℕ → Table
-behind t stride n = table (t .at + t .n * stride) n
+abbrev pub tableBehind : Table → ℕ → ℕ → Table
+tableBehind t stride n = table (t .at + t .n * stride) n
 
 -- the header's numbers of rows are those of banks, classes, regs, blocks, values, vgroups, operands, hints, segments and uses;
 -- the tables follow each other in this order, behind its fourteen words
 unfoldable pub layoutOf : List ℕ → Layout
 layoutOf W =
     let banks = table 14 (getD W 0 0) in
-    let classes = behind banks 1 (getD W 1 0) in
-    let regs = behind classes 4 (getD W 2 0) in
-    let blocks = behind regs 1 (getD W 3 0) in
-    let values = behind blocks 2 (getD W 4 0) in
-    let vgroups = behind values 3 (getD W 5 0) in
-    let operands = behind vgroups 9 (getD W 6 0) in
-    let hints = behind operands 4 (getD W 7 0) in
-    let segments = behind hints 3 (getD W 8 0) in
-    let uses = behind segments 5 (getD W 9 0) in
+    let classes = tableBehind banks 1 (getD W 1 0) in
+    let regs = tableBehind classes 4 (getD W 2 0) in
+    let blocks = tableBehind regs 1 (getD W 3 0) in
+    let values = tableBehind blocks 2 (getD W 4 0) in
+    let vgroups = tableBehind values 3 (getD W 5 0) in
+    let operands = tableBehind vgroups 9 (getD W 6 0) in
+    let hints = tableBehind operands 4 (getD W 7 0) in
+    let segments = tableBehind hints 3 (getD W 8 0) in
+    let uses = tableBehind segments 5 (getD W 9 0) in
     record {
       opts = 10;
       banks = banks;
@@ -66,7 +66,7 @@ unfoldable pub allBelow : List ℕ → Table → ℕ → ℕ → ℕ → Bool
 unfolding every
 allBelow W t stride col bound = every (λ x. ltb x bound) (rowsAt (wordIn col) W (t .at) stride (t .n))
 
--- "a choice off its list, a kind above 9, flags above 15": spillslots, memory, remat, incoming, flags, kind
+-- no choice off its list: spillslots, memory, remat, incoming, flags, kind
 abbrev pub choiceTests : List ℕ → Layout → List Bool
 choiceTests W lay =
     allBelow W (lay .classes) 4 3 2
@@ -81,7 +81,7 @@ unfoldable pub choicesOk : List ℕ → Layout → Bool
 unfolding conj allBelow
 choicesOk W lay = conj (choiceTests W lay)
 
--- "how many uses come before it", for each segment
+-- how many uses come before it, for each segment
 unfoldable pub useCounts : List ℕ → Layout → List ℕ
 useCounts W lay = rowsAt (wordIn 4) W (lay .segments .at) 5 (lay .segments .n)
 
@@ -90,12 +90,12 @@ unfoldable pub rises : ℕ → List ℕ → ℕ → Bool
 rises a [] e = leb a e
 rises a (x ∷ xs) e = leb a x && rises x xs e
 
--- "the first segment's count is 0 and the counts do not fall", nor do they pass the number of uses; without a segment there is no use
+-- the first segment's count is 0, and the counts do not fall nor pass the number of uses; without a segment there is no use
 unfoldable pub countsOk : List ℕ → Layout → Bool
 unfolding rises useCounts
 countsOk W lay = eqb (getD (useCounts W lay) 0 (lay .uses .n)) 0 && rises 0 (useCounts W lay) (lay .uses .n)
 
--- "a job without bank, class or block", choices, use counts
+-- a bank, a class and a block are there; choices; use counts
 abbrev pub tableTests : List ℕ → Layout → List Bool
 tableTests W lay = leb 1 (lay .banks .n) ∷ leb 1 (lay .classes .n) ∷ leb 1 (lay .blocks .n) ∷ choicesOk W lay ∷ countsOk W lay ∷ []
 

@@ -7,7 +7,7 @@ ghost use lib.Dec.{eqb};
 ghost use lib.ListN.{getD};
 ghost use Rattle.words.specs.Words.{wordCount, wordsOf};
 ghost use Rattle.layout.specs.Layout.{Fits};
-ghost use Rattle.job_shape.specs.Shape.{Placed, behind, layoutOf, allBelow, choicesOk, rises, useCounts, tablesOk, Formed};
+ghost use Rattle.job_shape.specs.Shape.{Placed, tableBehind, layoutOf, allBelow, choicesOk, rises, useCounts, tablesOk, Formed};
 
 // The answer to test 1: whether it is passed, and then the layout.
 pub struct Shape {
@@ -26,7 +26,7 @@ fn count(job: &[u8], i: usize) -> usize
 // Table k + 1 of the header, behind table k, which has rows of `stride` words.
 fn table_behind(job: &[u8], k: usize, t: Table, stride: usize) -> Table
     requires { ⌜ (14 ≤ wordCount (now job)) × (k ≤ 8) × (stride ≤ 9) × Placed k t ⌝ }
-    ensures { λ r. ⌜ (r ≡ behind t stride (getD (wordsOf (now (job .entry))) (k + 1) 0)) × Placed (k + 1) r ⌝ }
+    ensures { λ r. ⌜ (r ≡ tableBehind t stride (getD (wordsOf (now (job .entry))) (k + 1) 0)) × Placed (k + 1) r ⌝ }
 {
     let at = t.at;
     let rows = t.n;

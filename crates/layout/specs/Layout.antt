@@ -46,22 +46,22 @@ abbrev pub pickN : Bool → ℕ → ℕ → ℕ
 pickN true x y = x
 pickN false x y = y
 
--- "The uses of a segment are those from its own count up to the next segment's, the last one's up to the number of uses"
+-- the uses of a segment are those from its own count up to the next segment's, the last one's up to the number of uses
 unfoldable pub nextUse : List ℕ → Layout → ℕ → ℕ
 nextUse W lay i = pickN (ltb (i + 1) (lay .segments .n)) (getD W (lay .segments .at + (i + 1) * 5 + 4) 0) (lay .uses .n)
 
 -- the uses from number a up to b, by a decoder of use rows
-unfoldable pub usesIn : (List ℕ → ℕ → Use) → List ℕ → Layout → ℕ → ℕ → List Use
-usesIn row W lay a b = rowsAt row W (lay .uses .at + a * 6) 6 (b - a)
+unfoldable pub jobUses : (List ℕ → ℕ → Use) → List ℕ → Layout → ℕ → ℕ → List Use
+jobUses row W lay a b = rowsAt row W (lay .uses .at + a * 6) 6 (b - a)
 
 unfoldable pub segmentOf : (List ℕ → ℕ → Use) → List ℕ → Layout → ℕ → Segment
-unfolding segAt nextUse usesIn
+unfolding segAt nextUse jobUses
 segmentOf row W lay i = record {
   value = segAt W lay i .value;
   «from» = segAt W lay i .«from»;
   to = segAt W lay i .to;
   flags = segAt W lay i .flags;
-  uses = usesIn row W lay (segAt W lay i .first) (nextUse W lay i);
+  uses = jobUses row W lay (segAt W lay i .first) (nextUse W lay i);
 }
 
 -- every table lies within the first N words

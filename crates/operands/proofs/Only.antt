@@ -14,7 +14,7 @@ use Rattle.definition.specs.declared.RegClass.{RegClass}
 use Rattle.definition.specs.declared.Operand.{Operand}
 use Rattle.definition.specs.Types.{Job, inst, val}
 use Rattle.definition.specs.Admit.{vgroupAt}
-use Rattle.definition.specs.Entry.{conj, every, some-is, apart, samePlace, insts, membersOf, operandOk, groupUseTests, groupUseOk}
+use Rattle.definition.specs.Entry.{conj, every, some-is, apart, samePlace, insts, vgroupValues, operandOk, groupUseTests, groupUseOk}
 use Rattle.operands.specs.declared.FoundOperand.{FoundOperand}
 use Rattle.operands.specs.declared.FoundOperand.the-variants.{At, Nothing}
 use Rattle.operands.specs.Rows.{opAt, isAt, pickF, lastPlace, isFound, fitsUse, fitsFound, vgroupFound}
@@ -189,8 +189,8 @@ group-use-found job v p s c j a = go (lastPlace os (length os) (p .0) s) refl
 
     split : (o : Operand) → conj (groupUseTests job v p s c j o) ≡ isAt (p .0) s o && fitsUse job v c j o
     split o =
-        regroup (eqb (o .inst .0) (p .0)) (eqb (o .slot) s) (eqb (o .class .0) (c .0)) (ltb j (length (membersOf job (o .vgroup))))
-        (eqb (getD (membersOf job (o .vgroup)) j (val 0) .0) (v .0))
+        regroup (eqb (o .inst .0) (p .0)) (eqb (o .slot) s) (eqb (o .class .0) (c .0)) (ltb j (length (vgroupValues job (o .vgroup))))
+        (eqb (getD (vgroupValues job (o .vgroup)) j (val 0) .0) (v .0))
 
     go : (r : FoundOperand) → lastPlace os (length os) (p .0) s ≡ r → some-is (λ o. conj (groupUseTests job v p s c j o)) os ≡ fitsFound job v c j r
     go (At k) e =

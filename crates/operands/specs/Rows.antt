@@ -9,7 +9,7 @@ use Rattle.definition.specs.declared.Value.{Value}
 use Rattle.definition.specs.declared.RegClass.{RegClass}
 use Rattle.definition.specs.declared.Operand.{Operand}
 use Rattle.definition.specs.Types.{Job, inst, cls, val}
-use Rattle.definition.specs.Entry.{membersOf}
+use Rattle.definition.specs.Entry.{vgroupValues}
 use Rattle.operands.specs.declared.FoundOperand.{FoundOperand}
 use Rattle.operands.specs.declared.FoundOperand.the-variants.{At, Nothing}
 
@@ -52,7 +52,7 @@ takenBefore os k = isFound (lastPlace os k (opAt os k .inst .0) (opAt os k .slot
 -- what is left to test of a group use when its operand is known: the operand's class is the use's, and its group has value v at place j
 abbrev pub fitsUse : Job → Value → RegClass → ℕ → Operand → Bool
 fitsUse job v c j o =
-    eqb (o .class .0) (c .0) && (ltb j (length (membersOf job (o .vgroup))) && eqb (getD (membersOf job (o .vgroup)) j (val 0) .0) (v .0))
+    eqb (o .class .0) (c .0) && (ltb j (length (vgroupValues job (o .vgroup))) && eqb (getD (vgroupValues job (o .vgroup)) j (val 0) .0) (v .0))
 
 abbrev pub fitsFound : Job → Value → RegClass → ℕ → FoundOperand → Bool
 fitsFound job v c j (At k) = fitsUse job v c j (opAt (job .operands) k)

@@ -18,7 +18,7 @@ use Rattle.definition.specs.declared.VirtRegGroup.{VirtRegGroup}
 use Rattle.definition.specs.Types.{Job, Mapped, inst, vrgroup}
 use Rattle.definition.specs.Uses.{slotOf}
 use Rattle.definition.specs.Admit.{mappedAt}
-use Rattle.definition.specs.Place.{mapOne}
+use Rattle.definition.specs.Place.{ifUnmapped, mapOne}
 use Rattle.definition.specs.Entry.{apart, samePlace}
 use Rattle.operands.specs.declared.FoundOperand.the-variants.{At}
 use Rattle.operands.specs.Rows.{opAt, isAt, lastPlace}
@@ -65,9 +65,9 @@ word-none : (o : Option VirtRegGroup) → groupWord o ≡ 0 → o ≡ none
 word-none none e = refl
 word-none (some g) e = absurd (omega arith)
 
-word-some : (o : Option VirtRegGroup) (i : Inst) (s : ℕ) (g : VirtRegGroup) (ms : List Mapped) → (groupWord o ≡ 0 → ⊥) → mapOne i (some s) g ms o ≡ none
-word-some none i s g ms e = absurd (e refl)
-word-some (some f) i s g ms e = refl
+word-some : (o : Option VirtRegGroup) (ms : List Mapped) → (groupWord o ≡ 0 → ⊥) → ifUnmapped o ms ≡ none
+word-some none ms e = absurd (e refl)
+word-some (some f) ms e = refl
 
 -- ---- operand k
 
@@ -126,14 +126,14 @@ module _ (W K : List ℕ) (lay : Layout) (wl : WorkLayout) (p : Inst) (s : ℕ) 
         behind = λ j h. getD-set-other K (wl .mapping + k) j (g + 1) 0 (λ u. omega (arith, known .0));
       }
 
-  pub maps-found : (r : Bool) (K′ : List ℕ) → wl .mapping + k < length K → PutAt K (wl .mapping + k) g r K′ → Maps W K lay wl (λ ms. mapOne p (some s) (vrgroup g) ms (mappedAt ms p s)) r K′
+  pub maps-found : (r : Bool) (K′ : List ℕ) → wl .mapping + k < length K → PutAt K (wl .mapping + k) g r K′ → Maps W K lay wl (mapOne p (some s) (vrgroup g)) r K′
   unfolding MapsTo
   maps-found false K′ l t =
       let q = t .taken refl in
       rw (q .1)
       (record {
         outside = outside-none lay wl K;
-        answers = λ ms m. rw (word-some (mappedAt ms p s) p s (vrgroup g) ms (λ z. q .0 (word-at ms m ∙ z))) refl;
+        answers = λ ms m. rw (word-some (mappedAt ms p s) (ms ++ (record { inst = p; slot = s; group = vrgroup g } ∷ [])) (λ z. q .0 (word-at ms m ∙ z))) refl;
       })
   maps-found true K′ l t =
       let q = t .free refl in
@@ -185,7 +185,7 @@ slot-is u x e n =
     given-some (slotOf (u .kind)) (ap (λ (y : GroupSlot). y .grouped) (sym e) ∙ not-false (x .grouped) n) ∙ ap (λ (y : GroupSlot). some (y .slot)) (sym e)
 
 pub maps-group : (W K : List ℕ) (lay : Layout) (wl : WorkLayout) (g : VirtRegGroup) (u : Use) (s : ℕ) (r : Bool) (K′ : List ℕ) → slotOf (u .kind) ≡ some s
-    → Maps W K lay wl (λ ms. mapOne (u .pos) (some s) g ms (mappedAt ms (u .pos) s)) r K′ → Maps W K lay wl (mapUse g u) r K′
+    → Maps W K lay wl (mapOne (u .pos) (some s) g) r K′ → Maps W K lay wl (mapUse g u) r K′
 unfolding mapUse
 maps-group W K lay wl g u s r K′ e m = record { outside = m .outside; answers = λ ms h. rw e (m .answers ms h) }
 

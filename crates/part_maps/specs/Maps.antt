@@ -10,7 +10,7 @@ use Rattle.definition.specs.declared.VirtRegGroup.{VirtRegGroup}
 use Rattle.definition.specs.Types.{Mapped}
 use Rattle.definition.specs.Uses.{slotOf}
 use Rattle.definition.specs.Admit.{mappedAt}
-use Rattle.definition.specs.Place.{mapOne, slotD}
+use Rattle.definition.specs.Place.{mapOne}
 use Rattle.layout.specs.declared.Layout.{Layout}
 use Rattle.work_layout.specs.declared.WorkLayout.{WorkLayout}
 use Rattle.constraints.specs.Ready.{operandsIn, Mapping}
@@ -55,4 +55,4 @@ pub record PutAt (K : List ℕ) (n g : ℕ) (r : Bool) (K′ : List ℕ) : Type 
 -- one use
 unfoldable pub mapUse : VirtRegGroup → Use → List Mapped → Option (List Mapped)
 unfolding mappedAt
-mapUse g u ms = mapOne (u .pos) (slotOf (u .kind)) g ms (mappedAt ms (u .pos) (slotD (slotOf (u .kind))))
+mapUse g u ms = mapOne (u .pos) (slotOf (u .kind)) g ms

@@ -13,7 +13,6 @@ ghost use Prim.Native.Nat.{_+_, _<_};
 ghost use Rattle.words.specs.Words.{wordCount, wordsOf};
 ghost use Rattle.definition.specs.Types.{vrgroup};
 ghost use Rattle.definition.specs.Uses.{slotOf};
-ghost use Rattle.definition.specs.Admit.{mappedAt};
 ghost use Rattle.definition.specs.Place.{mapOne, mapUses, usesOf};
 ghost use Rattle.job.specs.Job.{jobOf};
 ghost use Rattle.set_part.specs.Part.{PartOk, partSegs};
@@ -73,7 +72,7 @@ fn map_operand(
     g: u32,
 ) -> bool
     requires { ⌜ Ready (wordCount (now job)) (wordCount (now work)) (wordsOf (now job)) (wordsOf (now work)) lay wl × HasOperand (jobOf (wordsOf (now job)) lay) p slot × (g < 4294967295) ⌝ }
-    ensures { λ r. ⌜ Maps (wordsOf (now (job .entry))) (wordsOf (now (work .entry))) lay wl (λ ms. mapOne p (some slot) (vrgroup g) ms (mappedAt ms p slot)) r (wordsOf (now (work .exit))) ⌝ }
+    ensures { λ r. ⌜ Maps (wordsOf (now (job .entry))) (wordsOf (now (work .entry))) lay wl (mapOne p (some slot) (vrgroup g)) r (wordsOf (now (work .exit))) ⌝ }
 {
     let insts = wl.nexts - wl.heads;
     let c = Chains {

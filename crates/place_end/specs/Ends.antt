@@ -13,7 +13,7 @@ use Rattle.definition.specs.declared.Stop.{Stop}
 use Rattle.definition.specs.declared.Refusal.{Refusal}
 use Rattle.definition.specs.declared.Refusal.the-variants.{NotARecord, OverALimit, BadBook, BadFunction, BadHint, BadSegment, BadUse, Stopped, Full}
 use Rattle.definition.specs.Types.{Job, Register, State, Out, done, refused}
-use Rattle.definition.specs.Place.{gate, withWeight, update, spread}
+use Rattle.definition.specs.Place.{gate, ifRoom, withWeight, update, spread}
 use Rattle.definition.specs.Admit.{registerAt, noRegister}
 use Rattle.layout.specs.declared.Layout.{Layout}
 use Rattle.virt_regs.specs.declared.OutLayout.{OutLayout}
@@ -81,7 +81,18 @@ module _ (J : Job) (ol : OutLayout) (W : List ℕ) (lay : Layout) (wl : WorkLayo
   unfolding Answers
   ends-full e = record { outside = out; answers = e }
 
-  -- by the gate: a stop, no room, or the state
+  -- by the room: none, or the state
+  pub room-full : (m : Bool) (st : State) → m ≡ false → r .end ≡ ended.Full → Ends J ol W lay wl K₀ O K r (ifRoom m st)
+  unfolding ifRoom
+  room-full false st em e = ends-full e
+  room-full true st em e = absurd (let z : _≡_ {A = ℕ} 0 1 = cc in omega arith)
+
+  pub room-done : (m : Bool) (st : State) → m ≡ true → DoneAs J ol W lay wl O K r st → Ends J ol W lay wl K₀ O K r (ifRoom m st)
+  unfolding ifRoom
+  room-done true st em d = ends-done st d
+  room-done false st em d = absurd (let z : _≡_ {A = ℕ} 0 1 = cc in omega arith)
+
+  -- by the gate: a stop, or by the room
   pub gate-stopped : (b : Bool) (s : Stop) (m : Bool) (st : State) → b ≡ true → r .end ≡ ended.Stopped s → Ends J ol W lay wl K₀ O K r (gate b s m st)
   unfolding gate
   gate-stopped true s m st eb e = ends-stopped s e
@@ -89,15 +100,13 @@ module _ (J : Job) (ol : OutLayout) (W : List ℕ) (lay : Layout) (wl : WorkLayo
 
   pub gate-full : (b : Bool) (s : Stop) (m : Bool) (st : State) → b ≡ false → m ≡ false → r .end ≡ ended.Full → Ends J ol W lay wl K₀ O K r (gate b s m st)
   unfolding gate
-  gate-full false s false st eb em e = ends-full e
+  gate-full false s m st eb em e = room-full m st em e
   gate-full true s m st eb em e = absurd (let z : _≡_ {A = ℕ} 0 1 = cc in omega arith)
-  gate-full false s true st eb em e = absurd (let z : _≡_ {A = ℕ} 0 1 = cc in omega arith)
 
   pub gate-done : (b : Bool) (s : Stop) (m : Bool) (st : State) → b ≡ false → m ≡ true → DoneAs J ol W lay wl O K r st → Ends J ol W lay wl K₀ O K r (gate b s m st)
   unfolding gate
-  gate-done false s true st eb em d = ends-done st d
+  gate-done false s m st eb em d = room-done m st em d
   gate-done true s m st eb em d = absurd (let z : _≡_ {A = ℕ} 0 1 = cc in omega arith)
-  gate-done false s false st eb em d = absurd (let z : _≡_ {A = ℕ} 0 1 = cc in omega arith)
 
 -- ---- registers whose pieces can be weighed
 

@@ -35,7 +35,7 @@ use Rattle.vreg_weight.specs.Fair.{Fair, fair-insts, fair-typed, fair-inside, f
 use Rattle.place.specs.Ready.{Weighed, Ready, Left, allOf}
 use Rattle.place_end.specs.declared.PlaceEnd.{PlaceEnd}
 use Rattle.place_end.specs.declared.Ended.the-variants as ended
-use Rattle.place_end.specs.Ends.{Sane, Ends, gate-stopped, gate-full, gate-done, sane-at, sane-added, sane-update, sane-spread}
+use Rattle.place_end.specs.Ends.{Sane, Ends, gate-stopped, gate-full, gate-done, room-full, room-done, sane-at, sane-added, sane-update, sane-spread}
 
 -- ---- pieces that can be weighed
 
@@ -97,26 +97,26 @@ module _ (J : Job) (ol : OutLayout) (W : List ℕ) (lay : Layout) (wl : WorkLayo
   -- in no group
   pub alone-full : (vs : ValueSet) → hasRoom (roomOf ol) st 1 0 ps ≡ false → r .end ≡ ended.Full → Ends J ol W lay wl K O₂ K r (alone J (roomOf ol) vs h ps st)
   unfolding alone
-  alone-full vs e q = gate-full J ol W lay wl K O₂ K r (outside-none lay wl K) false Overlap (hasRoom (roomOf ol) st 1 0 ps) (aloneState J vs h ps st) refl e q
+  alone-full vs e q = room-full J ol W lay wl K O₂ K r (outside-none lay wl K) (hasRoom (roomOf ol) st 1 0 ps) (aloneState J vs h ps st) e q
 
   pub alone-done : (vs : ValueSet) (O : List ℕ) → Stands ol O W K lay wl st → Sane J st → Fair J 4096 ps → hasRoom (roomOf ol) st 1 0 ps ≡ true → Left ol O₂ (r .counts) (aloneState J vs h ps st)
       → r .end ≡ ended.Done → Ends J ol W lay wl K O₂ K r (alone J (roomOf ol) vs h ps st)
   unfolding alone aloneState Sane
   alone-done vs O s n f e l q =
-      gate-done J ol W lay wl K O₂ K r (outside-none lay wl K) false Overlap (hasRoom (roomOf ol) st 1 0 ps) (aloneState J vs h ps st) refl e
+      room-done J ol W lay wl K O₂ K r (outside-none lay wl K) (hasRoom (roomOf ol) st 1 0 ps) (aloneState J vs h ps st) e
       (record { end = q; counts = l .counts; stands = record { tables = l .holds; mapped = s .mapped }; sane = sane-added J (st .registers) _ n f })
 
   -- in a group's empty place
   module _ (vs : ValueSet) (hg : HeldGroup) (g : VirtRegGroup) where
     pub join-full : hasRoom (roomOf ol) st 1 0 ps ≡ false → r .end ≡ ended.Full → Ends J ol W lay wl K O₂ K r (join J (roomOf ol) vs h hg g ps st)
     unfolding join
-    join-full e q = gate-full J ol W lay wl K O₂ K r (outside-none lay wl K) false Overlap (hasRoom (roomOf ol) st 1 0 ps) (joinState J vs h hg g ps st) refl e q
+    join-full e q = room-full J ol W lay wl K O₂ K r (outside-none lay wl K) (hasRoom (roomOf ol) st 1 0 ps) (joinState J vs h hg g ps st) e q
 
     pub join-done : (O : List ℕ) → Stands ol O W K lay wl st → Sane J st → Fair J 4096 ps → hasRoom (roomOf ol) st 1 0 ps ≡ true → Left ol O₂ (r .counts) (joinState J vs h hg g ps st)
         → r .end ≡ ended.Done → Ends J ol W lay wl K O₂ K r (join J (roomOf ol) vs h hg g ps st)
     unfolding join joinState Sane
     join-done O s n f e l q =
-        gate-done J ol W lay wl K O₂ K r (outside-none lay wl K) false Overlap (hasRoom (roomOf ol) st 1 0 ps) (joinState J vs h hg g ps st) refl e
+        room-done J ol W lay wl K O₂ K r (outside-none lay wl K) (hasRoom (roomOf ol) st 1 0 ps) (joinState J vs h hg g ps st) e
         (record {
           end = q;
           counts = l .counts;

@@ -11,7 +11,7 @@ use Rattle.words.specs.Laws.{length-words}
 use Rattle.rows.specs.Tab.{tab}
 use Rattle.definition.specs.declared.ValueSet.{ValueSet}
 use Rattle.definition.specs.declared.VirtRegGroup.{VirtRegGroup}
-use Rattle.definition.specs.declared.Stop.the-variants.{MappedTwice, Overlap}
+use Rattle.definition.specs.declared.Stop.the-variants.{MappedTwice}
 use Rattle.definition.specs.declared.Use.{Use}
 use Rattle.definition.specs.Types.{Job, HeldGroup, Segment, Piece, Mapped, State, vrgroup}
 use Rattle.definition.specs.Types as types
@@ -38,17 +38,17 @@ use Rattle.part_maps.proofs.Kept.{outside-none, marked-kept, ready-kept}
 use Rattle.place.specs.Ready.{Left}
 use Rattle.place_end.specs.declared.Ended.the-variants as ended
 use Rattle.place_end.specs.declared.PlaceEnd.{PlaceEnd}
-use Rattle.place_end.specs.Ends.{Sane, Ends, gate-stopped, gate-full, gate-done, sane-added, sane-spread}
+use Rattle.place_end.specs.Ends.{Sane, Ends, gate-stopped, gate-full, gate-done, room-full, room-done, sane-added, sane-spread}
 use Rattle.place_laws.specs.Held.{HeldFits, groupHeld}
 use Rattle.place_part.specs.Asked.{newPieces, Standing, Asked, RoomEnds, LeadPut}
 
 -- ---- by the answer b to whether there is room
 
-pub room-full : (ol : OutLayout) (O : List ℕ) (r : PlaceEnd) (b x : Bool) (st : State) → b ≡ x → b ≡ false → r .end ≡ ended.Full → RoomEnds ol O r x st
-room-full ol O r b x st ex eb e = record { full = λ _. e; done = λ t. absurd (let z : _≡_ {A = ℕ} 0 1 = cc in omega arith) }
+pub room-ends-full : (ol : OutLayout) (O : List ℕ) (r : PlaceEnd) (b x : Bool) (st : State) → b ≡ x → b ≡ false → r .end ≡ ended.Full → RoomEnds ol O r x st
+room-ends-full ol O r b x st ex eb e = record { full = λ _. e; done = λ t. absurd (let z : _≡_ {A = ℕ} 0 1 = cc in omega arith) }
 
-pub room-done : (ol : OutLayout) (O : List ℕ) (r : PlaceEnd) (b x : Bool) (st : State) → b ≡ x → b ≡ true → r .end ≡ ended.Done → Left ol O (r .counts) st → RoomEnds ol O r x st
-room-done ol O r b x st ex eb e l = record { full = λ t. absurd (let z : _≡_ {A = ℕ} 0 1 = cc in omega arith); done = λ _. (e, l) }
+pub room-ends-done : (ol : OutLayout) (O : List ℕ) (r : PlaceEnd) (b x : Bool) (st : State) → b ≡ x → b ≡ true → r .end ≡ ended.Done → Left ol O (r .counts) st → RoomEnds ol O r x st
+room-ends-done ol O r b x st ex eb e l = record { full = λ t. absurd (let z : _≡_ {A = ℕ} 0 1 = cc in omega arith); done = λ _. (e, l) }
 
 -- ---- what is asked
 
@@ -96,14 +96,14 @@ asked-kept t o W O work work′ lay ol wl sp h c x a =
 module _ (J : Job) (ol : OutLayout) (W : List ℕ) (lay : Layout) (wl : WorkLayout) (K O O₂ : List ℕ) (c : Counts) (st : State) (vs : ValueSet) (h : types.Held) (hg : HeldGroup) (g : VirtRegGroup) (ps : List Piece) (r : PlaceEnd) (s : Standing J ol O W K lay wl c st) where
   pub join-full : hasRoom (roomOf ol) st 1 0 ps ≡ false → r .end ≡ ended.Full → Ends J ol W lay wl K O₂ K r (join J (roomOf ol) vs h hg g ps st)
   unfolding join
-  join-full eb e = gate-full J ol W lay wl K O₂ K r (outside-none lay wl K) false Overlap (hasRoom (roomOf ol) st 1 0 ps) (joinState J vs h hg g ps st) refl eb e
+  join-full eb e = room-full J ol W lay wl K O₂ K r (outside-none lay wl K) (hasRoom (roomOf ol) st 1 0 ps) (joinState J vs h hg g ps st) eb e
 
   pub join-done : hasRoom (roomOf ol) st 1 0 ps ≡ true → r .end ≡ ended.Done → Fair J 4096 ps → Left ol O₂ (r .counts) (joinState J vs h hg g ps st)
       → Ends J ol W lay wl K O₂ K r (join J (roomOf ol) vs h hg g ps st)
   unfolding join joinState Sane
   join-done eb e f l =
       let w = groupWeight J h hg (membersAt st g) ps st in
-      gate-done J ol W lay wl K O₂ K r (outside-none lay wl K) false Overlap (hasRoom (roomOf ol) st 1 0 ps) (joinState J vs h hg g ps st) refl eb
+      room-done J ol W lay wl K O₂ K r (outside-none lay wl K) (hasRoom (roomOf ol) st 1 0 ps) (joinState J vs h hg g ps st) eb
       (record {
         end = e;
         counts = l .counts;

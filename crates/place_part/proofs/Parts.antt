@@ -10,7 +10,6 @@ use Rattle.words.specs.Words.{wordCount, wordsOf}
 use Rattle.rows.specs.Tab.{tab}
 use Rattle.definition.specs.declared.Inst.{Inst}
 use Rattle.definition.specs.declared.ValueSet.{ValueSet}
-use Rattle.definition.specs.declared.Stop.the-variants.{Overlap}
 use Rattle.definition.specs.declared.Use.{Use}
 use Rattle.definition.specs.declared.UseKind.{UseKind}
 use Rattle.definition.specs.declared.UseKind.the-variants.{FixedDef, FixedUse, TiedUse, ConstraintConflict, ClassUse, ClassDef, GroupClassUse, GroupClassDef, BlockparamIn, BlockparamOut}
@@ -19,7 +18,7 @@ use Rattle.definition.specs.Types as types
 use Rattle.definition.specs.Lines.{hintIn}
 use Rattle.definition.specs.Build.{asOwn}
 use Rattle.definition.specs.Weights.{weightOf}
-use Rattle.definition.specs.Place.{usesOf, segsOf, usesOfPieces, hasRoom, gate, made, alone, aloneState}
+use Rattle.definition.specs.Place.{usesOf, segsOf, usesOfPieces, hasRoom, made, alone, aloneState}
 use Rattle.layout.specs.declared.Layout.{Layout}
 use Rattle.job.specs.Job.{jobOf}
 use Rattle.set_part.specs.declared.SetPart.{SetPart}
@@ -41,7 +40,7 @@ use Rattle.place.specs.Ready.{Space, Weighed, Ready, Left}
 use Rattle.place.specs.Room.{room-counts, space}
 use Rattle.place_end.specs.declared.Ended.the-variants as ended
 use Rattle.place_end.specs.declared.PlaceEnd.{PlaceEnd}
-use Rattle.place_end.specs.Ends.{Sane, Ends, gate-full, gate-done, sane-added}
+use Rattle.place_end.specs.Ends.{Sane, Ends, room-full, room-done, sane-added}
 use Rattle.place_laws.specs.Held.{HeldFits}
 use Rattle.place_part.specs.Asked.{newPieces, Standing, Asked}
 
@@ -131,13 +130,13 @@ held-class h = refl
 module _ (J : Job) (ol : OutLayout) (W : List ℕ) (lay : Layout) (wl : WorkLayout) (K O O₂ : List ℕ) (c : Counts) (st : State) (vs : ValueSet) (h : types.Held) (ps : List Piece) (r : PlaceEnd) (s : Standing J ol O W K lay wl c st) where
   pub alone-full : hasRoom (roomOf ol) st 1 0 ps ≡ false → r .end ≡ ended.Full → Ends J ol W lay wl K O₂ K r (alone J (roomOf ol) vs h ps st)
   unfolding alone
-  alone-full eb e = gate-full J ol W lay wl K O₂ K r (outside-none lay wl K) false Overlap (hasRoom (roomOf ol) st 1 0 ps) (aloneState J vs h ps st) refl eb e
+  alone-full eb e = room-full J ol W lay wl K O₂ K r (outside-none lay wl K) (hasRoom (roomOf ol) st 1 0 ps) (aloneState J vs h ps st) eb e
 
   pub alone-done : hasRoom (roomOf ol) st 1 0 ps ≡ true → r .end ≡ ended.Done → Fair J 4096 ps → Left ol O₂ (r .counts) (aloneState J vs h ps st)
       → Ends J ol W lay wl K O₂ K r (alone J (roomOf ol) vs h ps st)
   unfolding alone aloneState Sane
   alone-done eb e f l =
-      gate-done J ol W lay wl K O₂ K r (outside-none lay wl K) false Overlap (hasRoom (roomOf ol) st 1 0 ps) (aloneState J vs h ps st) refl eb
+      room-done J ol W lay wl K O₂ K r (outside-none lay wl K) (hasRoom (roomOf ol) st 1 0 ps) (aloneState J vs h ps st) eb
       (record {
         end = e;
         counts = l .counts;

@@ -12,7 +12,7 @@ use Rattle.rows.specs.RowsAt.{rowsAt}
 use Rattle.definition.specs.declared.Use.{Use}
 use Rattle.uses.specs.Rows.{useRow}
 use Rattle.layout.specs.declared.Layout.{Layout}
-use Rattle.layout.specs.Layout.{segRow, segAt, nextUse, usesIn, segmentOf}
+use Rattle.layout.specs.Layout.{segRow, segAt, nextUse, jobUses, segmentOf}
 use Rattle.set_part.specs.declared.PartSeg.{PartSeg}
 use Rattle.set_part.specs.Part.{useBound, partRow, segBy, markedUse, partSegs, PartOk, CountsRise, wholePart}
 use Rattle.set_part.proofs.Bounds.{bound-first, bound-inner, bound-end, bound-le-end, first-le-bound}
@@ -41,7 +41,7 @@ module _ (W : List ℕ) (lay : Layout) where
   -- a segment whose uses are not marked
   own-uses : (K : List ℕ) (marks i : ℕ) → ((j : ℕ) → segAt W lay i .first ≤ j → j < nextUse W lay i → getD K (marks + j) 0 ≡ 0)
       → segBy (markedUse K marks W lay) (ownRow i) ≡ segmentOf useRow W lay i
-  unfolding segBy segmentOf usesIn rowsAt markedUse
+  unfolding segBy segmentOf jobUses rowsAt markedUse
   own-uses K marks i clear =
       ap (λ (us : List Use). record { value = segAt W lay i .value; «from» = segAt W lay i .«from»; to = segAt W lay i .to; flags = segAt W lay i .flags; uses = us })
       (tab-ext (λ j. markedUse K marks W lay j) (λ k. useRow W (lay .uses .at + segAt W lay i .first * 6 + k * 6)) (segAt W lay i .first) 0 (nextUse W lay i - segAt W lay i .first)

@@ -38,7 +38,7 @@ pub record PartOk (W : List ℕ) (lay : Layout) (sp : SetPart) : Type 0 where
   pub rise : (i : ℕ) → sp .seg ≤ i → i ≤ sp .last → useBound W lay sp i ≤ useBound W lay sp (i + 1)
   pub fits : sp .end ≤ lay .uses .n
 
--- "the counts do not fall", and none passes the number of uses
+-- the counts do not fall, and none passes the number of uses
 pub record CountsRise (W : List ℕ) (lay : Layout) : Type 0 where
   pub rise : (i : ℕ) → i < lay .segments .n → segAt W lay i .first ≤ nextUse W lay i
   pub within : (i : ℕ) → i < lay .segments .n → nextUse W lay i ≤ lay .uses .n

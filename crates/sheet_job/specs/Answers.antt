@@ -16,7 +16,7 @@ use Rattle.definition.specs.Place.{total}
 use Rattle.definition.specs.Build.{Result}
 use Rattle.definition.specs.Entry.{conj, every, limitTests, limitsOk, bookOk, vgroupTests, vgroupOk, functionTests, functionOk, lowestOf, entry, answerTo, answer, hintsOk, segmentsOk, usesOk}
 use Rattle.definition.specs.Text.{_>>=_}
-use Rattle.definition.specs.JobSheet.{Word as Named, opt, bank, class, reg, block, value, vgroup, operand, hint, seg, use′, end, wordNumber, Record, only, bankOf, classDataOf, memoryOf, blockDataOf, valueDataOf, vgroupOf, operandOf, hintOf, segmentsOf, next, among, ordered, jobOf, sheetOf, answerOrOne, sheetAnswer}
+use Rattle.definition.specs.JobSheet.{Word as Named, opt, bank, class, reg, block, value, vgroup, operand, hint, seg, use′, end, wordNumber, Record, only, bankOf, classDataOf, memoryOf, blockDataOf, valueDataOf, vgroupOf, operandOf, hintOf, segmentsOf, next, among, ordered, jobOfRecords, sheetOf, answerOrOne, sheetAnswer}
 use Rattle.job.specs.Job.{rawJob}
 use Rattle.sheet_places.specs.Places.{limits, limitOf, tableWords}
 use Rattle.sheet.specs.declared.Answer.{Answer}
@@ -252,22 +252,22 @@ none-waits (r ∷ rs) ws f e = by (r .word) (ordered-first ws r rs e .0) (ordere
     by end a o ih = ih (next end) refl o
 
 -- the test of a kind's limit fails
-over-limits : (rs : List Record) → ordered (opt ∷ []) rs ≡ true → (w : Named) → 1 ≤ wordNumber w → wordNumber w ≤ 10 → limitOf (wordNumber w) < length (only w rs) → limitsOk (jobOf rs) ≡ false
-unfolding limitsOk jobOf limitOf limits
+over-limits : (rs : List Record) → ordered (opt ∷ []) rs ≡ true → (w : Named) → 1 ≤ wordNumber w → wordNumber w ≤ 10 → limitOf (wordNumber w) < length (only w rs) → limitsOk (jobOfRecords rs) ≡ false
+unfolding limitsOk jobOfRecords limitOf limits
 over-limits rs o opt a b h = absurd (omega (arith, a))
-over-limits rs o bank a b h = conj-at (limitTests (jobOf rs)) 9 (lt-leb (length (map bankOf (only bank rs))) 8 (omega (arith, h, length-map bankOf (only bank rs))))
-over-limits rs o class a b h = conj-at (limitTests (jobOf rs)) 8 (lt-leb (length (map classDataOf (only class rs))) 32 (omega (arith, h, length-map classDataOf (only class rs))))
-over-limits rs o reg a b h = conj-at (limitTests (jobOf rs)) 10 (lt-leb (length (map memoryOf (only reg rs))) 256 (omega (arith, h, length-map memoryOf (only reg rs))))
-over-limits rs o block a b h = conj-at (limitTests (jobOf rs)) 1 (lt-leb (length (map blockDataOf (only block rs))) 512 (omega (arith, h, length-map blockDataOf (only block rs))))
-over-limits rs o value a b h = conj-at (limitTests (jobOf rs)) 2 (lt-leb (length (map valueDataOf (only value rs))) 1024 (omega (arith, h, length-map valueDataOf (only value rs))))
-over-limits rs o vgroup a b h = conj-at (limitTests (jobOf rs)) 3 (lt-leb (length (map vgroupOf (only vgroup rs))) 256 (omega (arith, h, length-map vgroupOf (only vgroup rs))))
-over-limits rs o operand a b h = conj-at (limitTests (jobOf rs)) 4 (lt-leb (length (map operandOf (only operand rs))) 1024 (omega (arith, h, length-map operandOf (only operand rs))))
-over-limits rs o hint a b h = conj-at (limitTests (jobOf rs)) 5 (lt-leb (length (map hintOf (only hint rs))) 1024 (omega (arith, h, length-map hintOf (only hint rs))))
-over-limits rs o seg a b h = conj-at (limitTests (jobOf rs)) 6 (lt-leb (length (segmentsOf rs .made)) 1024 (omega (arith, h, seg-count rs)))
+over-limits rs o bank a b h = conj-at (limitTests (jobOfRecords rs)) 9 (lt-leb (length (map bankOf (only bank rs))) 8 (omega (arith, h, length-map bankOf (only bank rs))))
+over-limits rs o class a b h = conj-at (limitTests (jobOfRecords rs)) 8 (lt-leb (length (map classDataOf (only class rs))) 32 (omega (arith, h, length-map classDataOf (only class rs))))
+over-limits rs o reg a b h = conj-at (limitTests (jobOfRecords rs)) 10 (lt-leb (length (map memoryOf (only reg rs))) 256 (omega (arith, h, length-map memoryOf (only reg rs))))
+over-limits rs o block a b h = conj-at (limitTests (jobOfRecords rs)) 1 (lt-leb (length (map blockDataOf (only block rs))) 512 (omega (arith, h, length-map blockDataOf (only block rs))))
+over-limits rs o value a b h = conj-at (limitTests (jobOfRecords rs)) 2 (lt-leb (length (map valueDataOf (only value rs))) 1024 (omega (arith, h, length-map valueDataOf (only value rs))))
+over-limits rs o vgroup a b h = conj-at (limitTests (jobOfRecords rs)) 3 (lt-leb (length (map vgroupOf (only vgroup rs))) 256 (omega (arith, h, length-map vgroupOf (only vgroup rs))))
+over-limits rs o operand a b h = conj-at (limitTests (jobOfRecords rs)) 4 (lt-leb (length (map operandOf (only operand rs))) 1024 (omega (arith, h, length-map operandOf (only operand rs))))
+over-limits rs o hint a b h = conj-at (limitTests (jobOfRecords rs)) 5 (lt-leb (length (map hintOf (only hint rs))) 1024 (omega (arith, h, length-map hintOf (only hint rs))))
+over-limits rs o seg a b h = conj-at (limitTests (jobOfRecords rs)) 6 (lt-leb (length (segmentsOf rs .made)) 1024 (omega (arith, h, seg-count rs)))
 over-limits rs o use′ a b h =
     let z : length (segmentsOf rs .waiting) ≡ 0 = ap length (none-waits rs (opt ∷ []) refl o) in
     let u : total (λ (s : Segment). length (s .uses)) (segmentsOf rs .made) + length (segmentsOf rs .waiting) ≡ length (only use′ rs) = use-count rs in
-    conj-at (limitTests (jobOf rs)) 7 (lt-leb (total (λ (s : Segment). length (s .uses)) (segmentsOf rs .made)) 4096 (omega (arith, h, u, z)))
+    conj-at (limitTests (jobOfRecords rs)) 7 (lt-leb (total (λ (s : Segment). length (s .uses)) (segmentsOf rs .made)) 4096 (omega (arith, h, u, z)))
 over-limits rs o end a b h = absurd (omega (arith, b))
 
 over-answer : (job : Job) (room : Room) → limitsOk job ≡ false → answer job room ≡ refused OverALimit
@@ -291,7 +291,7 @@ abbrev the : Option Filled → Filled
 the none = blank 0
 the (some f) = f
 
-full : (n : ℕ) → n ≡ tableWords → (rs : List Record) → Sound rs → fill (blank n) rs .over ≡ true → limitsOk (jobOf rs) ≡ false
+full : (n : ℕ) → n ≡ tableWords → (rs : List Record) → Sound rs → fill (blank n) rs .over ≡ true → limitsOk (jobOfRecords rs) ≡ false
 full n e rs s v =
     let l : length {A = ℕ} (replicate n 0) ≡ tableWords = length-replicate n 0 ∙ e in
     let c : Crowded (replicate n 0) rs = fill-over rs (blank n) l refl v in
@@ -299,7 +299,7 @@ full n e rs s v =
 
 -- by what the reader says and the records of the sheet, if it is one
 pub said : (n : ℕ) → n ≡ tableWords → (room : Room) (a : Answer) (o : List ℕ) (m : Option (List Record)) → On Sound m → outcome a o ≡ (m >>= λ rs. some (fill (blank n) rs))
-    → answered a o room ≡ answerOrOne (m >>= λ rs. some (jobOf rs)) room
+    → answered a o room ≡ answerOrOne (m >>= λ rs. some (jobOfRecords rs)) room
 said n e room Malformed o none s q = refl
 said n e room Malformed o (some rs) s q = absurd (none-some q)
 said n e room Read o none s q = absurd (none-some (sym q))
@@ -307,10 +307,10 @@ said n e room TooMany o none s q = absurd (none-some (sym q))
 said n e room Read o (some rs) s q =
     let i : filled false o ≡ fill (blank n) rs = ap the q in
     ap (λ (f : Filled). answer (rawJob (f .out) (fixedLayout (f .out))) room) i
-    ∙ alike-answer (rawJob (fill (blank n) rs .out) (fixedLayout (fill (blank n) rs .out))) (jobOf rs) room (table-job n e rs s (sym (ap (λ (f : Filled). f .over) i)))
+    ∙ alike-answer (rawJob (fill (blank n) rs .out) (fixedLayout (fill (blank n) rs .out))) (jobOfRecords rs) room (table-job n e rs s (sym (ap (λ (f : Filled). f .over) i)))
 said n e room TooMany o (some rs) s q =
     let i : filled true o ≡ fill (blank n) rs = ap the q in
-    sym (over-answer (jobOf rs) room (full n e rs s (sym (ap (λ (f : Filled). f .over) i))))
+    sym (over-answer (jobOfRecords rs) room (full n e rs s (sym (ap (λ (f : Filled). f .over) i))))
 
 -- THE LAW: for every list of bytes the reader's answer and table give the answer to the sheet
 pub sheet-answer : (n : ℕ) → n ≡ tableWords → (bs : List ℕ) → Bytes bs → (room : Room)

@@ -8,7 +8,7 @@ use lib.ListN.{length, getD, replicate, length-replicate, getD-replicate}
 use Rattle.rows.specs.RowsAt.{rowsAt}
 use Rattle.definition.specs.declared.Value.{Value}
 use Rattle.definition.specs.Types.{Job}
-use Rattle.definition.specs.JobSheet.{Word as Named, opt, bank, class, reg, block, value, vgroup, operand, hint, seg, use′, wordNumber, Record, only, float, optionsOf, bankOf, classDataOf, memoryOf, blockDataOf, valueDataOf, vgroupOf, operandOf, hintOf, jobOf}
+use Rattle.definition.specs.JobSheet.{Word as Named, opt, bank, class, reg, block, value, vgroup, operand, hint, seg, use′, wordNumber, Record, only, float, optionsOf, bankOf, classDataOf, memoryOf, blockDataOf, valueDataOf, vgroupOf, operandOf, hintOf, jobOfRecords}
 use Rattle.reginfo.specs.Rows.{bankRow, memoryRow, classRow, classesAt}
 use Rattle.function.specs.Blocks.{blockRow}
 use Rattle.coalescing.specs.Rows.{valueRow, valuesAt, vgroupRow, vgroupsAt}
@@ -51,8 +51,8 @@ unfolding optionsRow optionsOf float
 options-read T ns h = rw (h 0 (omega arith), h 1 (omega arith), h 2 (omega arith), h 3 (omega arith))
 
 module _ (T : List ℕ) (rs : List Record) (s : Stands T (λ k. 0) rs) (n : Counted T rs) (o : optionsRow T 10 ≡ optionsOf (getD (only opt rs) 0 [])) where
-  pub job-read : Alike (rawJob T (fixedLayout T)) (jobOf rs)
-  unfolding rawJob jobBy jobOf fixedLayout tableAt classesAt valuesAt vgroupsAt operandsAt countAt bases baseOf widths widthOf
+  pub job-read : Alike (rawJob T (fixedLayout T)) (jobOfRecords rs)
+  unfolding rawJob jobBy jobOfRecords fixedLayout tableAt classesAt valuesAt vgroupsAt operandsAt countAt bases baseOf widths widthOf
   job-read = record {
     options = o;
     banks =
@@ -118,7 +118,7 @@ opt-options n e w i ns rest =
     (λ v p s. options-read (fill (blank n) (rec opt ns ∷ rest) .out) ns (λ j h. opt-stands n e ns rest v p s j h))
 
 -- THE LAW: the table that a sheet's records fill stands for their job, where no kind was over its limit
-pub table-job : (n : ℕ) → n ≡ tableWords → (rs : List Record) → Sound rs → fill (blank n) rs .over ≡ false → Alike (rawJob (fill (blank n) rs .out) (fixedLayout (fill (blank n) rs .out))) (jobOf rs)
+pub table-job : (n : ℕ) → n ≡ tableWords → (rs : List Record) → Sound rs → fill (blank n) rs .over ≡ false → Alike (rawJob (fill (blank n) rs .out) (fixedLayout (fill (blank n) rs .out))) (jobOfRecords rs)
 table-job n e rs k v =
     job-read T rs
     (stands rs (blank n) (λ i. 0) (good-zeros n e) v (k .small) (λ i a b. sym (zero-count n e i)))

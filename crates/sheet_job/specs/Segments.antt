@@ -12,7 +12,7 @@ use Rattle.definition.specs.declared.Use.{Use}
 use Rattle.definition.specs.Types.{Segment}
 use Rattle.definition.specs.JobSheet.{Word as Named, opt, bank, class, reg, block, value, vgroup, operand, hint, seg, use′, end, Record, only, useOf, flagsOf as flagsIn, segmentOf as segmentIn, segmentsOf}
 use Rattle.uses.specs.Rows.{rawRow}
-use Rattle.layout.specs.Layout.{flagsOf, segRow, segAt, pickN, nextUse, usesIn, segmentOf}
+use Rattle.layout.specs.Layout.{flagsOf, segRow, segAt, pickN, nextUse, jobUses, segmentOf}
 use Rattle.sheet_places.specs.Places.{bases, baseOf, widths, widthOf, storedOf, storedFields}
 use Rattle.agree.specs.Records.{rec}
 use Rattle.sheet_rows.specs.Stands.{Row, Stands, bump}
@@ -32,7 +32,7 @@ Claim T c rs =
 
 segment-read : (T : List ℕ) (i u : ℕ) (ns : List ℕ) (us : List Use) → Row T 9 i ns u → rowsAt rawRow T (19094 + u * 6) 6 (nextFirst T (i + 1) - u) ≡ us
     → segmentOf rawRow T (fixedLayout T) i ≡ segmentIn ns us
-unfolding segmentOf segAt segRow flagsOf nextUse usesIn segmentIn flagsIn fixedLayout tableAt nextFirst bases baseOf widths widthOf storedOf storedFields
+unfolding segmentOf segAt segRow flagsOf nextUse jobUses segmentIn flagsIn fixedLayout tableAt nextFirst bases baseOf widths widthOf storedOf storedFields
 segment-read T i u ns us r e =
     let z : 13974 + i * 5 ≡ 13974 + i * 5 + (0 + 0) = omega arith in
     let f₀ : getD T (13974 + i * 5) 0 ≡ getD ns 0 0 = ap (λ (a : ℕ). getD T a 0) z ∙ r .fields 0 (omega arith) in

@@ -12,7 +12,7 @@ use Rattle.definition.specs.Types.{Room, Out, refused}
 use Rattle.definition.specs.Build.{Result}
 use Rattle.definition.specs.Entry.{answer}
 use Rattle.definition.specs.Text.{_>>=_}
-use Rattle.definition.specs.JobSheet.{Record, sheetOf, jobOf, jobOfSheet, answerOrOne, sheetAnswer}
+use Rattle.definition.specs.JobSheet.{Record, sheetOf, jobOfRecords, jobOfSheet, answerOrOne, sheetAnswer}
 use Rattle.job.specs.Job.{rawJob}
 use Rattle.sheet_places.specs.Places.{tableWords}
 use Rattle.sheet.specs.declared.Answer.the-variants.{Read, TooMany}
@@ -29,14 +29,14 @@ answerBy zero T room = answer (rawJob T (fixedLayout T)) room
 answerBy (suc zero) T room = refused NotARecord
 answerBy (suc (suc k)) T room = refused OverALimit
 
-answer-of : (n : ℕ) → n ≡ tableWords → (m : Option (List Record)) → On Sound m → (room : Room) → answerBy (recordsNumber m) (recordsTable n m) room ≡ answerOrOne (m >>= λ rs. some (jobOf rs)) room
+answer-of : (n : ℕ) → n ≡ tableWords → (m : Option (List Record)) → On Sound m → (room : Room) → answerBy (recordsNumber m) (recordsTable n m) room ≡ answerOrOne (m >>= λ rs. some (jobOfRecords rs)) room
 answer-of n e none s room = refl
 answer-of n e (some rs) s room = go (recordsFit rs) refl
   where
     filling : (v : Bool) → fill (blank n) rs .over ≡ v → some (filled v (fill (blank n) rs .out)) ≡ some (fill (blank n) rs)
     filling v q = ap (λ (t : Bool). some (filled t (fill (blank n) rs .out))) (sym q)
 
-    go : (t : Bool) → recordsFit rs ≡ t → answerBy (cond t 0 2) (cond t (fill (blank n) rs .out) (replicate n 0)) room ≡ answer (jobOf rs) room
+    go : (t : Bool) → recordsFit rs ≡ t → answerBy (cond t 0 2) (cond t (fill (blank n) rs .out) (replicate n 0)) room ≡ answer (jobOfRecords rs) room
     go true q = said n e room Read (fill (blank n) rs .out) (some rs) s (filling false (fill-fits n e rs true q))
     go false q = said n e room TooMany (fill (blank n) rs .out) (some rs) s (filling true (fill-fits n e rs false q))
 

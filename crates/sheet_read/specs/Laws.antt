@@ -11,7 +11,7 @@ use borrow.Author.Tests.{le-leb, lt-leb}
 use Rattle.words.specs.Words.{wordCount, wordsOf}
 use Rattle.definition.specs.Entry.{conj}
 use Rattle.definition.specs.Text.{_>>=_}
-use Rattle.definition.specs.JobSheet.{Word as Named, opt, bank, class, reg, block, value, vgroup, operand, hint, seg, use′, end, wordNumber, Record, only, sheetOf, jobOf, jobOfSheet}
+use Rattle.definition.specs.JobSheet.{Word as Named, opt, bank, class, reg, block, value, vgroup, operand, hint, seg, use′, end, wordNumber, Record, only, sheetOf, jobOfRecords, jobOfSheet}
 use Rattle.job.specs.Job.{rawJob}
 use Rattle.sheet_places.specs.Places.{limits, limitOf, tableWords}
 use Rattle.sheet_fields.specs.declared.Next.{Next}
@@ -121,10 +121,10 @@ module _ (n : ℕ) (e : n ≡ tableWords) where
   unfolding jobOfSheet
   by-job sheet o none i s q = absurd (none-some (sym q))
   by-job sheet o (some rs) i s q = record {
-    job = jobOf rs;
-    is = ap (λ (k : Option (List Record)). k >>= λ xs. some (jobOf xs)) i;
+    job = jobOfRecords rs;
+    is = ap (λ (k : Option (List Record)). k >>= λ xs. some (jobOfRecords xs)) i;
     alike =
-        subst (λ (T : List ℕ). Alike (rawJob T (fixedLayout T)) (jobOf rs)) (sym (ap (λ (f : Option Filled). the f .out) q))
+        subst (λ (T : List ℕ). Alike (rawJob T (fixedLayout T)) (jobOfRecords rs)) (sym (ap (λ (f : Option Filled). the f .out) q))
         (table-job n e rs s (sym (ap (λ (f : Option Filled). the f .over) q)));
   }
 

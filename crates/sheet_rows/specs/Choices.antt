@@ -35,7 +35,7 @@ fields-within (bits ∷ ms) (f ∷ fs) = go (readField bits f) (readFields ms fs
     go (some n) none g = tt
     go (some n) (some ns) g = (tt, g)
 
--- "spillslots, memory and incoming are 0 or 1; remat 0 to 3; flags 0 to 15; kinds 0 to 9"
+-- spillslots, memory and incoming are 0 or 1; remat 0 to 3; flags 0 to 15; kinds 0 to 9
 abbrev pub Chosen : Named → List ℕ → Type 0
 Chosen opt ns = Unit {0}
 Chosen bank ns = Unit {0}

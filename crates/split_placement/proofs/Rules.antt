@@ -251,7 +251,7 @@ module _ (bs : List BlockData) (after before : ℕ) where
   unfolding late-list
   late-rises = rises-to late-list before (keep-rises (late-open after before) (ends 0 bs) (ends-rise 0 bs)) late-upto
 
-  -- "Late: among `before` and the block ends from `after`+1 to it, the latest whose preceding instruction's block frequency is least."
+  -- "Late: among `before` and the block ends (the instruction after the last) from `after`+1 to it, the latest whose preceding instruction's block frequency is least."
   pub late-rule : every blockOk bs ≡ true → LatestLeast (LatePlace bs after before) (λ p. freqAt bs (p - 1)) (lateCut bs after before)
   unfolding late-list lateCut
   late-rule ok =

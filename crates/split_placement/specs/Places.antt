@@ -28,14 +28,14 @@ pub data EarlyPlace (bs : List BlockData) (after before p : ℕ) : Type 0 where
   next : p ≡ suc after → EarlyPlace bs after before p
   start : IsStart bs p → suc after < p → p ≤ before → EarlyPlace bs after before p
 
--- "`before` and the block ends from `after`+1 to it"
+-- "`before` and the block ends (the instruction after the last) from `after`+1 to it"
 pub data LatePlace (bs : List BlockData) (after before p : ℕ) : Type 0 where
   last : p ≡ before → LatePlace bs after before p
   end : IsEnd bs p → suc after ≤ p → p ≤ before → LatePlace bs after before p
 
 -- ---- the place wanted
 
--- "the earliest whose .. frequency is least": no place has a lower one, and every earlier place has a higher one
+-- "the earliest whose block frequency is least": no place has a lower one, and every earlier place has a higher one
 pub record EarliestLeast (Place : ℕ → Type 0) (price : ℕ → Float) (c : ℕ) : Type 0 where
   pub place : Place c
   pub least : (p : ℕ) → Place p → lt (price p) (price c) ≡ false

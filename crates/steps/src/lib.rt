@@ -58,8 +58,8 @@ fn put_turned(work: &mut [u8], turned: usize, n: usize, row: TurnedRow)
     words::put_4(work, turned + n * 4, value.0, number as u32, has, row.param);
 }
 
-// How far c is behind a; 0 where it is not.
-pub fn behind(c: usize, a: usize) -> usize
+// c - a; 0 where a is greater.
+pub fn saturating_sub(c: usize, a: usize) -> usize
     ensures { λ r. ⌜ r ≡ c - a ⌝ }
 {
     if c < a {

@@ -24,7 +24,7 @@ abbrev pub paramD : Option ℕ → ℕ
 paramD none = 0
 paramD (some q) = q
 
--- "if the list .. began with a BlockparamIn at p": the block parameter of u, if u stands at p
+-- the block parameter where a list begins with u, if u is a BlockparamIn at p
 unfoldable pub paramHere : Inst → Use → Option ℕ
 paramHere p u = cond (eqb (u .pos .0) (p .0)) (paramOf (u .kind)) none
 

@@ -11,7 +11,7 @@ use Rattle.definition.specs.declared.VirtReg.{VirtReg}
 use Rattle.definition.specs.declared.Use.{Use}
 use Rattle.definition.specs.Types.{Piece, Register, State}
 use Rattle.definition.specs.Place.{total, piecesIn, usesOfPieces, usesIn, usesOf, segsOf}
-use Rattle.virt_regs.specs.Encoding.{allPieces, behind, usedBy, still, eachRegister, eachPiece, eachUse, eachGroup, registerRows, pieceRows, useRows, groupRows, Placed}
+use Rattle.virt_regs.specs.Encoding.{allPieces, pastPieces, usedBy, still, eachRegister, eachPiece, eachUse, eachGroup, registerRows, pieceRows, useRows, groupRows, Placed}
 
 pub all-append : (rs ss : List Register) → allPieces (rs ++ ss) ≡ allPieces rs ++ allPieces ss
 unfolding allPieces
@@ -50,7 +50,7 @@ count-uses st = go (st .registers)
 
 -- ---- the running values, and how long the rows are
 
-pub after-registers : (f : ℕ) (rs : List Register) → after eachRegister behind f rs ≡ f + length (allPieces rs)
+pub after-registers : (f : ℕ) (rs : List Register) → after eachRegister pastPieces f rs ≡ f + length (allPieces rs)
 unfolding after allPieces
 after-registers f [] = sym (add-zero f)
 after-registers f (r ∷ rs) = simp length-append (omega (arith, after-registers (f + length (r .pieces)) rs))
@@ -61,7 +61,7 @@ after-pieces f [] = sym (add-zero f)
 after-pieces f (p ∷ ps) = simp length-append (omega (arith, after-pieces (f + length (p .seg .uses)) ps))
 
 pub length-registers : (f : ℕ) (rs : List Register) → length (registerRows f rs) ≡ length rs * 8
-length-registers f rs = length-rows eachRegister behind 8 (λ σ a. refl) f rs
+length-registers f rs = length-rows eachRegister pastPieces 8 (λ σ a. refl) f rs
 
 pub length-pieces : (f : ℕ) (ps : List Piece) → length (pieceRows f ps) ≡ length ps * 7
 length-pieces f ps = length-rows eachPiece usedBy 7 (λ σ a. refl) f ps

@@ -108,8 +108,8 @@ allPieces [] = []
 allPieces (r ∷ rs) = r .pieces ++ allPieces rs
 
 -- the running values: the piece behind a register's, the use behind a piece's
-abbrev pub behind : ℕ → Register → ℕ
-behind f r = f + length (r .pieces)
+abbrev pub pastPieces : ℕ → Register → ℕ
+pastPieces f r = f + length (r .pieces)
 
 abbrev pub usedBy : ℕ → Piece → ℕ
 usedBy f p = f + length (p .seg .uses)
@@ -131,7 +131,7 @@ eachGroup _ ms = groupWords ms
 
 -- the rows of registers whose pieces begin at piece f, of pieces whose uses begin at use f, of uses and of groups
 abbrev pub registerRows : ℕ → List Register → List ℕ
-registerRows f rs = rowsOf eachRegister behind f rs
+registerRows f rs = rowsOf eachRegister pastPieces f rs
 
 abbrev pub pieceRows : ℕ → List Piece → List ℕ
 pieceRows f ps = rowsOf eachPiece usedBy f ps

@@ -23,7 +23,7 @@ use Rattle.virt_regs.specs.declared.OutLayout.{OutLayout}
 use Rattle.virt_regs.specs.declared.PieceRow.{PieceRow}
 use Rattle.virt_regs.specs.Part.{part, part-get, part-cut, part-middle, part-zeros}
 use Rattle.virt_regs.specs.Each.{each-none, each-get}
-use Rattle.virt_regs.specs.Encoding.{Weighs, Placed, segBase, useBase, groupBase, tablesEnd, groupWord, placeWord, hintWord, pieceRow, useWords, groupWords, allPieces, behind, usedBy, still, eachRegister, eachPiece, eachUse, eachGroup, registerRows, pieceRows, useRows, groupRows, Holds}
+use Rattle.virt_regs.specs.Encoding.{Weighs, Placed, segBase, useBase, groupBase, tablesEnd, groupWord, placeWord, hintWord, pieceRow, useWords, groupWords, allPieces, pastPieces, usedBy, still, eachRegister, eachPiece, eachUse, eachGroup, registerRows, pieceRows, useRows, groupRows, Holds}
 use Rattle.virt_regs.specs.Counting.{all-append, count-pieces, count-uses, after-registers, after-pieces, length-registers, length-pieces, length-uses, length-groups}
 
 abbrev pub noPiece : Piece
@@ -68,10 +68,10 @@ module _ (ol : OutLayout) (O : List ℕ) (st : State) (h : Holds ol O st) where
   unfolding registerAt firstPiece
   register-word v k l s =
       let z : 0 + (v .0 * 8 + k) ≡ v .0 * 8 + k = zero-add _ in
-      let f : after eachRegister behind 0 (take (v .0) (st .registers)) ≡ length (allPieces (take (v .0) (st .registers))) = after-registers 0 (take (v .0) (st .registers)) ∙ zero-add _ in
+      let f : after eachRegister pastPieces 0 (take (v .0) (st .registers)) ≡ length (allPieces (take (v .0) (st .registers))) = after-registers 0 (take (v .0) (st .registers)) ∙ zero-add _ in
       ap (λ (i : ℕ). getD O i 0) (sym z)
       ∙ word-in 0 (segBase ol) (v .0 * 8 + k) (ol .regs * 8) O (registerRows 0 (st .registers)) (h .registers) (omega (arith, h .fit-registers)) (omega (arith, length-registers 0 (st .registers)))
-      ∙ row-get eachRegister behind 8 (λ σ a. refl) 0 (st .registers) noRegister (v .0) k l s
+      ∙ row-get eachRegister pastPieces 8 (λ σ a. refl) 0 (st .registers) noRegister (v .0) k l s
       ∙ ap (λ (σ : ℕ). getD (eachRegister σ (getD (st .registers) (v .0) noRegister)) k 0) f
 
   pub piece-word : (i k : ℕ) → i < piecesIn st → k < 7 → getD O (segBase ol + (i * 7 + k)) 0 ≡ getD (eachPiece (firstUse st i) (pieceAt st i)) k 0

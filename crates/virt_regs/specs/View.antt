@@ -74,16 +74,16 @@ registerOf ol O i = record {
   pieces = rowsAt (pieceOf ol) O (segBase ol + getD O (i + 6) 0 * 7) 7 (getD O (i + 7) 0);
 }
 
-unfoldable pub membersOf : List ℕ → ℕ → List (Option VirtReg)
-membersOf O i = tab (λ j. memberOf (getD O (i + (j + 1)) 0)) 0 (getD O i 0)
+unfoldable pub groupPlaces : List ℕ → ℕ → List (Option VirtReg)
+groupPlaces O i = tab (λ j. memberOf (getD O (i + (j + 1)) 0)) 0 (getD O i 0)
 
 unfoldable pub registersIn : OutLayout → List ℕ → ℕ → List Register
 unfolding registerOf
 registersIn ol O n = rowsAt (registerOf ol) O 0 8 n
 
 unfoldable pub groupsIn : OutLayout → List ℕ → ℕ → List (List (Option VirtReg))
-unfolding membersOf
-groupsIn ol O n = rowsAt membersOf O (groupBase ol) 9 n
+unfolding groupPlaces
+groupsIn ol O n = rowsAt groupPlaces O (groupBase ol) 9 n
 
 -- ---- read back
 
@@ -214,8 +214,8 @@ module _ (ol : OutLayout) (O : List ℕ) (st : State) (h : Holds ol O st) where
       let q : j < length rs = omega (arith, length-rows-at (registerOf ol) O 0 8 (length rs)) in
       getD-rows-at (registerOf ol) O 0 8 (length rs) j noRegister q ∙ ap (λ (x : ℕ). registerOf ol O x) (zero-add (j * 8)) ∙ register-back (vreg j) q)
 
-  group-read : (g : VirtRegGroup) → g .0 < length (st .groups) → membersOf O (groupBase ol + g .0 * 9) ≡ membersAt st g
-  unfolding membersOf
+  group-read : (g : VirtRegGroup) → g .0 < length (st .groups) → groupPlaces O (groupBase ol + g .0 * 9) ≡ membersAt st g
+  unfolding groupPlaces
   group-read g l =
       let ms : List (Option VirtReg) = membersAt st g in
       let f : ℕ → Option VirtReg = λ j. memberOf (getD O (groupBase ol + g .0 * 9 + (j + 1)) 0) in
@@ -231,10 +231,10 @@ module _ (ol : OutLayout) (O : List ℕ) (st : State) (h : Holds ol O st) where
   unfolding groupsIn membersAt
   groups-held =
       let gs : List (List (Option VirtReg)) = st .groups in
-      ext-getD [] (rowsAt membersOf O (groupBase ol) 9 (length gs)) gs (length-rows-at membersOf O (groupBase ol) 9 (length gs))
+      ext-getD [] (rowsAt groupPlaces O (groupBase ol) 9 (length gs)) gs (length-rows-at groupPlaces O (groupBase ol) 9 (length gs))
       (λ j s.
-      let q : j < length gs = omega (arith, length-rows-at membersOf O (groupBase ol) 9 (length gs)) in
-      getD-rows-at membersOf O (groupBase ol) 9 (length gs) j [] q ∙ group-read (vrgroup j) q)
+      let q : j < length gs = omega (arith, length-rows-at groupPlaces O (groupBase ol) 9 (length gs)) in
+      getD-rows-at groupPlaces O (groupBase ol) 9 (length gs) j [] q ∙ group-read (vrgroup j) q)
 
 -- the words and the counts say which registers and groups they hold
 pub loses-nothing : (ol : OutLayout) (O : List ℕ) (st st′ : State) → Holds ol O st → Holds ol O st′ → countsOf st ≡ countsOf st′ → (st .registers ≡ st′ .registers) × (st .groups ≡ st′ .groups)

@@ -24,7 +24,7 @@ use Rattle.virt_regs.specs.declared.OutLayout.{OutLayout}
 use Rattle.virt_regs.specs.declared.Counts.{Counts}
 use Rattle.virt_regs.specs.Part.{part, part-set-ahead, part-set-behind, part-set-in}
 use Rattle.virt_regs.specs.Each.{Each, each-append, each-one, each-get, each-set, each-weaker}
-use Rattle.virt_regs.specs.Encoding.{segBase, useBase, groupBase, tablesEnd, placeWord, groupWords, allPieces, behind, still, eachRegister, eachGroup, registerRows, pieceRows, useRows, groupRows, countsOf, Weighs, Placed, Typed, Holds}
+use Rattle.virt_regs.specs.Encoding.{segBase, useBase, groupBase, tablesEnd, placeWord, groupWords, allPieces, pastPieces, still, eachRegister, eachGroup, registerRows, pieceRows, useRows, groupRows, countsOf, Weighs, Placed, Typed, Holds}
 use Rattle.virt_regs.specs.Update.{update-split, length-update, each-update}
 use Rattle.virt_regs.specs.Counting.{count-pieces, count-uses, length-registers, length-groups, placed-more}
 use Rattle.virt_regs.specs.Reads.{size-held, member-held, size-le, member-lt}
@@ -47,8 +47,8 @@ rows-weight c w v rs h =
     let l : length xs ≡ v = length-take-le v rs (omega arith) in
     ap (λ (t : List Register). set (set (registerRows 0 t) (v * 8 + 1) (c .0)) (v * 8 + 2) (toBits binary32 w)) (split-at rs v noRegister h)
     ∙ ap (λ (t : List ℕ). set t (v * 8 + 2) (toBits binary32 w))
-    (row-put eachRegister behind 8 (λ σ a. refl) 0 xs r (withWeight c (r .weight) r) ys v 1 (c .0) l (omega arith) refl refl)
-    ∙ row-put eachRegister behind 8 (λ σ a. refl) 0 xs (withWeight c (r .weight) r) (withWeight c w r) ys v 2 (toBits binary32 w) l (omega arith) refl refl
+    (row-put eachRegister pastPieces 8 (λ σ a. refl) 0 xs r (withWeight c (r .weight) r) ys v 1 (c .0) l (omega arith) refl refl)
+    ∙ row-put eachRegister pastPieces 8 (λ σ a. refl) 0 xs (withWeight c (r .weight) r) (withWeight c w r) ys v 2 (toBits binary32 w) l (omega arith) refl refl
     ∙ ap (λ (t : List Register). registerRows 0 t) (sym (update-split (withWeight c w) v rs noRegister h))
 
 -- class and weight of register v

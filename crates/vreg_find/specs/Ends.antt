@@ -56,7 +56,7 @@ ends-le a (p ∷ ps) = go (leb (p .seg .to .0) (a .0)) (ends-le a ps)
     go true h = omega arith
     go false h = omega arith
 
--- "the new pieces behind the old ones that end by a"
+-- the new pieces stand behind the old ones that end by a
 pub inserted-at : (a : LiveRangePoint) (new ps : List Piece) → inserted a new ps ≡ insertedAt (endsBy a ps) new ps
 unfolding inserted endsBy
 inserted-at a new [] = sym (append-nil new)

@@ -18,7 +18,7 @@ use Rattle.definition.specs.Admit.{registerAt, noRegister}
 use Rattle.virt_regs.specs.declared.OutLayout.{OutLayout}
 use Rattle.virt_regs.specs.declared.Counts.{Counts}
 use Rattle.virt_regs.specs.Part.{part, part-get, part-set-in, part-set-ahead}
-use Rattle.virt_regs.specs.Encoding.{segBase, useBase, groupBase, tablesEnd, hintWord, allPieces, behind, usedBy, eachRegister, eachPiece, registerRows, pieceRows, useRows, groupRows, countsOf, Holds}
+use Rattle.virt_regs.specs.Encoding.{segBase, useBase, groupBase, tablesEnd, hintWord, allPieces, pastPieces, usedBy, eachRegister, eachPiece, registerRows, pieceRows, useRows, groupRows, countsOf, Holds}
 use Rattle.virt_regs.specs.Update.{update-split}
 use Rattle.virt_regs.specs.Counting.{all-append, count-pieces, count-uses, after-registers, after-pieces, length-registers}
 use Rattle.virt_regs.specs.Reads.{firstPiece, firstUse}
@@ -134,22 +134,22 @@ module _ (ol : OutLayout) (O : List ℕ) (st : State) (h : Holds ol O st) (c : C
       let whole : rs ≡ (xs ++ (r ∷ [])) ++ ys = split-at rs (v .0) noRegister here ∙ sym (append-assoc xs (r ∷ []) ys) in
       let X : List ℕ = registerRows 0 xs in
       let lX : length X ≡ v .0 * 8 = length-registers 0 xs ∙ ap (λ (x : ℕ). x * 8) lx in
-      let σ : after eachRegister behind 0 xs ≡ f = after-registers 0 xs ∙ zero-add f in
-      let τ : after eachRegister behind 0 (xs ++ (r ∷ [])) + np ≡ f + length qs =
+      let σ : after eachRegister pastPieces 0 xs ≡ f = after-registers 0 xs ∙ zero-add f in
+      let τ : after eachRegister pastPieces 0 (xs ++ (r ∷ [])) + np ≡ f + length qs =
       ap (λ (x : ℕ). x + np) (after-registers 0 (xs ++ (r ∷ [])) ∙ ap (λ (t : List Piece). 0 + length t) (all-append xs (r ∷ []) ∙ ap (λ (t : List Piece). allPieces xs ++ t) (append-nil (r .pieces))))
       ∙ (let q = length-append (allPieces xs) (r .pieces) in omega arith) in
       let R : List ℕ = registerRows (f + length qs) ys in
       let front : registerRows 0 (xs ++ (r ∷ [])) ≡ X ++ eachRegister f r =
-      rows-append eachRegister behind 0 xs (r ∷ []) ∙ ap (λ (x : ℕ). X ++ (eachRegister x r ++ [])) σ ∙ ap (λ (t : List ℕ). X ++ t) (append-nil (eachRegister f r)) in
+      rows-append eachRegister pastPieces 0 xs (r ∷ []) ∙ ap (λ (x : ℕ). X ++ (eachRegister x r ++ [])) σ ∙ ap (λ (t : List ℕ). X ++ t) (append-nil (eachRegister f r)) in
       let up : raised np 8 (pad (ol .regs * 8) (registerRows 0 rs)) i n ≡ pad (ol .regs * 8) (X ++ (eachRegister f r ++ R)) =
       ap (λ (t : List Register). raised np 8 (pad (ol .regs * 8) (registerRows 0 t)) i n) whole
-      ∙ raised-table eachRegister behind 8 (λ s a. refl) 6 np (omega arith) (λ s a. refl) (λ s a. omega arith) (ol .regs * 8) 0 (xs ++ (r ∷ [])) ys i n (omega arith) (omega arith)
+      ∙ raised-table eachRegister pastPieces 8 (λ s a. refl) 6 np (omega arith) (λ s a. refl) (λ s a. omega arith) (ol .regs * 8) 0 (xs ++ (r ∷ [])) ys i n (omega arith) (omega arith)
       ∙ ap (λ (x : ℕ). pad (ol .regs * 8) (registerRows 0 (xs ++ (r ∷ [])) ++ registerRows x ys)) τ
       ∙ ap (λ (t : List ℕ). pad (ol .regs * 8) (t ++ R)) front
       ∙ ap (λ (t : List ℕ). pad (ol .regs * 8) t) (append-assoc X (eachRegister f r) R) in
       let done : registerRows 0 (update (withPieces qs) (v .0) rs) ≡ X ++ (eachRegister f (withPieces qs r) ++ R) =
       ap (λ (t : List Register). registerRows 0 t) (update-split (withPieces qs) (v .0) rs noRegister here)
-      ∙ rows-append eachRegister behind 0 xs (withPieces qs r ∷ ys)
+      ∙ rows-append eachRegister pastPieces 0 xs (withPieces qs r ∷ ys)
       ∙ ap (λ (x : ℕ). X ++ (eachRegister x (withPieces qs r) ++ registerRows (x + length qs) ys)) σ in
       part-grown B (v .0) np hint W₂ (omega arith) (omega arith)
       ∙ ap (λ (t : List ℕ). grown (v .0) np hint t)

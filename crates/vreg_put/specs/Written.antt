@@ -14,7 +14,7 @@ use Rattle.virt_regs.specs.declared.OutLayout.{OutLayout}
 use Rattle.virt_regs.specs.declared.Counts.{Counts}
 use Rattle.virt_regs.specs.Part.{part, length-part, part-ahead, part-behind, part-in}
 use Rattle.virt_regs.specs.Each.{Each, each-append, each-one, each-weaker}
-use Rattle.virt_regs.specs.Encoding.{segBase, useBase, groupBase, tablesEnd, registerRow, registerWords, useWords, allPieces, behind, usedBy, still, eachRegister, eachPiece, eachUse, registerRows, pieceRows, useRows, countsOf, Weighs, Typed, Holds}
+use Rattle.virt_regs.specs.Encoding.{segBase, useBase, groupBase, tablesEnd, registerRow, registerWords, useWords, allPieces, pastPieces, usedBy, still, eachRegister, eachPiece, eachUse, registerRows, pieceRows, useRows, countsOf, Weighs, Typed, Holds}
 use Rattle.virt_regs.specs.Counting.{all-append, uses-append, count-pieces, count-uses, count-uses-of, after-registers, after-pieces, length-registers, length-pieces, length-uses, placed-more}
 
 -- O′ is O with the rows of the pieces ps from piece p on, whose uses begin at use u, and the rows of the uses us from use u on
@@ -116,7 +116,7 @@ holds-added ol O O₁ O₂ st c r h ec w e fr fp fu ww ty =
     let np : piecesIn st′ ≡ length (allPieces rs) + length (r .pieces) = count-pieces st′ ∙ ap length all ∙ length-append (allPieces rs) (r .pieces) in
     let nu : usesIn st′ ≡ length (usesOf (segsOf (allPieces rs))) + length (usesOf (segsOf (r .pieces))) = count-uses st′ ∙ ap length each ∙ length-append (usesOf (segsOf (allPieces rs))) (usesOf (segsOf (r .pieces))) in
     let rows : registerRows 0 (rs ++ (r ∷ [])) ≡ registerRows 0 rs ++ row =
-    rows-append eachRegister behind 0 rs (r ∷ [])
+    rows-append eachRegister pastPieces 0 rs (r ∷ [])
     ∙ ap (λ (n : ℕ). registerRows 0 rs ++ (registerWords (registerRow n r) ++ [])) (after-registers 0 rs ∙ zero-add _ ∙ sym ep)
     ∙ ap (λ (t : List ℕ). registerRows 0 rs ++ t) (append-nil row) in
     let pieces : pieceRows 0 (allPieces (rs ++ (r ∷ []))) ≡ pieceRows 0 (allPieces rs) ++ pieceRows (c .uses) (r .pieces) =

@@ -49,7 +49,7 @@ shown-uses W lay O ol l =
     (λ j k.
     ap (λ (n : ℕ). getD (part at (at + l .count * 6) T) n 0) (zero-add j) ∙ part-get at (at + l .count * 6) j T (omega arith))
 
--- ---- a part: "the uses of a part are a part of the job's"
+-- ---- the uses of a part are a part of the job's
 
 -- the rows of uses `first` to `end` - 1 of the job
 pub part-shown : (W : List ℕ) (lay : Layout) (O : List ℕ) (ol : OutLayout) (sp : SetPart) → sp .first ≤ sp .end
@@ -60,8 +60,8 @@ part-shown W lay O ol sp h =
     ap (λ (n : ℕ). part (lay .uses .at + sp .first * 6) n W) e
 
 pub part-uses : (W : List ℕ) (lay : Layout) (O : List ℕ) (ol : OutLayout) (sp : SetPart)
-    → usesAt (shownWords W lay O ol (partList sp)) 0 (sp .end - sp .first) ≡ layout.usesIn useRow W lay (sp .first) (sp .end)
-unfolding partList usesAt layout.usesIn
+    → usesAt (shownWords W lay O ol (partList sp)) 0 (sp .end - sp .first) ≡ layout.jobUses useRow W lay (sp .first) (sp .end)
+unfolding partList usesAt layout.jobUses
 part-uses W lay O ol sp = shown-uses W lay O ol (partList sp)
 
 pub part-listed : (lay : Layout) (ol : OutLayout) (sp : SetPart) → sp .first ≤ sp .end → sp .end ≤ lay .uses .n → Listed lay ol (partList sp)

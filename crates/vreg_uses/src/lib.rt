@@ -1,4 +1,4 @@
-// Use lists over a job and a result: "a use list shows its part of the job's uses or of the added ones".
+// Use lists over a job and a result. "A use list shows its part of the job's uses or of the added ones".
 use layout::Layout;
 use set_part::SetPart;
 use use_lists::Source;

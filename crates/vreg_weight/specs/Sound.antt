@@ -22,7 +22,7 @@ use Rattle.definition.proofs.Entries.{and-both, conj-all, every-all, lowest-non
 use Rattle.definition.proofs.Places.{All}
 use Rattle.uses.specs.Rows.{useRow, usesAt}
 use Rattle.layout.specs.declared.Layout.{Layout}
-use Rattle.layout.specs.Layout.{segmentOf, usesIn}
+use Rattle.layout.specs.Layout.{segmentOf, jobUses}
 use Rattle.job.specs.Job.{jobBy, jobOf}
 use Rattle.virt_regs.specs.Each.{Each, each-append, each-weaker}
 use Rattle.vreg_weight.specs.Typed.{TypedUse, row-typed, turned-typed, param-typed}
@@ -135,7 +135,7 @@ segments-both J [] t i = tt
 segments-both J (s ∷ ss) t i = (both J (s .uses) (t .0) (i .0), segments-both J ss (t .1) (i .1))
 
 segments-typed : (W : List ℕ) (lay : Layout) (i k : ℕ) → Each (λ s. Each TypedUse (s .uses)) (tab (segmentOf useRow W lay) i k)
-unfolding Each segmentOf usesIn usesAt
+unfolding Each segmentOf jobUses usesAt
 segments-typed W lay i zero = tt
 segments-typed W lay i (suc k) = (rows-typed W _ _, segments-typed W lay (i + 1) k)
 

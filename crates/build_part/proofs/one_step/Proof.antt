@@ -31,7 +31,7 @@ turn-one-requires : tie.Need-turn-one-requires
 turn-one-requires c κs =
     let g = c .before .before .before .before .before .before .before .before .before .before .before .pre in
     let m = moves-turn _ _ _ _ _ (g .laid .ok) (g .state) _ _ (c .before .before .before .before .before .next-move .ensures (g .state) (g .stands .stands)) _ (c .before .before .before .kind .given .1) in
-    turn-asked (g .laid) (sym (length-words _)) (g .state) _ _ (m ∙ ap turn (sym (c .before .behind .ensures)))
+    turn-asked (g .laid) (sym (length-words _)) (g .state) _ _ (m ∙ ap turn (sym (c .before .saturating-sub .ensures)))
 
 add-go-on : tie.Need-add-go-on
 add-go-on c = let g = c .before .before .before .before .before .before .before .before .before .before .before .before .before .before .pre in omega (arith, g .laid .left, g .laid .turns .few)
@@ -39,7 +39,7 @@ add-go-on c = let g = c .before .before .before .before .before .before .before 
 returns-2 : tie.Need-returns-2
 returns-2 c =
     let g = c .before .before .before .before .before .before .before .before .before .before .before .before .before .before .before .pre in
-    step-turn g _ _ _ (λ st h. moves-turn _ _ _ _ _ (g .laid .ok) st _ _ (c .before .before .before .before .before .before .before .before .before .next-move .ensures st h) _ (c .before .before .before .before .before .before .before .kind .given .1) ∙ ap turn (sym (c .before .before .before .before .before .behind .ensures)))
+    step-turn g _ _ _ (λ st h. moves-turn _ _ _ _ _ (g .laid .ok) st _ _ (c .before .before .before .before .before .before .before .before .before .next-move .ensures st h) _ (c .before .before .before .before .before .before .before .kind .given .1) ∙ ap turn (sym (c .before .before .before .before .before .saturating-sub .ensures)))
     (sym (length-words _)) _ (c .before .before .before .turn-one .ensures) _ (c .go-on .ensures)
 
 step-cut-requires : tie.Need-step-cut-requires

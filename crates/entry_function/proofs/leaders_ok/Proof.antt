@@ -3,7 +3,7 @@ use Prim.Native.Nat.{_+_, _-_, _*_}
 use Rattle.entry_function.proofs.Scans.{Each, each-start, each-next, each-stop, each-done}
 use Rattle.job.specs.Job.{rawJob}
 use Rattle.rows.specs.RowsAt.{rowsAt}
-use Rattle.definition.specs.Entry.{leads}
+use Rattle.definition.specs.Entry.{leaderOk}
 use Rattle.coalescing.specs.Rows.{valueRow, valuesAt}
 use Rattle.words.specs.Words.{wordsOf}
 use borrow.Author.Needs.{needs}
@@ -11,7 +11,7 @@ use Rattle.entry_function.proofs.leaders_ok.Statement.{statement}
 use Rattle.entry_function.proofs.leaders_ok.Tie as tie
 
 abbrev Inv-loop : tie.InvT-loop
-Inv-loop job lay n i₀ i = Each (leads (rawJob (wordsOf job) lay)) (λ k. valueRow (wordsOf job) (lay .values .at + k * 3)) (lay .values .n) i
+Inv-loop job lay n i₀ i = Each (leaderOk (rawJob (wordsOf job) lay)) (λ k. valueRow (wordsOf job) (lay .values .at + k * 3)) (lay .values .n) i
 
 abbrev μ-loop : tie.MeasureT-loop
 μ-loop job lay n i₀ i = n - i

@@ -2,7 +2,7 @@ use native.Mathlib.Omega.{arith}
 use Prim.Native.Nat.{_-_}
 use Rattle.entry_function.proofs.Scans.{Chain, chain-start, chain-next, chain-stop, chain-done}
 use Rattle.job.specs.Job.{rawJob}
-use Rattle.definition.specs.Entry.{behind}
+use Rattle.definition.specs.Entry.{inOrder}
 use Rattle.uses.specs.Rows.{rawRow}
 use Rattle.layout.specs.Layout.{segmentOf}
 use Rattle.words.specs.Words.{wordsOf}
@@ -11,7 +11,7 @@ use Rattle.entry_segments.proofs.segments_sorted.Statement.{statement}
 use Rattle.entry_segments.proofs.segments_sorted.Tie as tie
 
 abbrev Inv-loop : tie.InvT-loop
-Inv-loop job lay n i₀ i = Chain (behind (rawJob (wordsOf job) lay)) (segmentOf rawRow (wordsOf job) lay) (lay .segments .n) i
+Inv-loop job lay n i₀ i = Chain (inOrder (rawJob (wordsOf job) lay)) (segmentOf rawRow (wordsOf job) lay) (lay .segments .n) i
 
 abbrev μ-loop : tie.MeasureT-loop
 μ-loop job lay n i₀ i = n - i

@@ -1,6 +1,6 @@
 use mathlib.Core.Path.{ap}
 use Prim.Native.Nat.{ℕ}
-use Rattle.job_shape.specs.Shape.{behind}
+use Rattle.job_shape.specs.Shape.{tableBehind}
 use Rattle.job_shape.proofs.Header.{nine, placed-behind}
 use borrow.Author.Needs.{needs}
 use Rattle.job_shape.proofs.table_behind.Statement.{statement}
@@ -21,7 +21,7 @@ add-t9 c = let a = c .before .before in let r = nine (a .args .t .n) (a .args .s
 returns : tie.Need-returns
 returns c =
     let a = c .before .before in
-    (ap (λ (n : ℕ). behind (a .args .t) (a .args .stride) n) (c .count .ensures .0), placed-behind _ _ (a .pre .3) (a .pre .2) (c .count .ensures .1))
+    (ap (λ (n : ℕ). tableBehind (a .args .t) (a .args .stride) n) (c .count .ensures .0), placed-behind _ _ (a .pre .3) (a .pre .2) (c .count .ensures .1))
 
 pub table-behind-spec : {M : Type 1} → statement M
 table-behind-spec = tie.close (tie.spec add-count count-requires mul-t8 add-t9 returns)

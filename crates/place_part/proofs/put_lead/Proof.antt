@@ -3,7 +3,7 @@ use native.Mathlib.Omega.{arith}
 use Rattle.set_part.proofs.Bounds.{first-le-end}
 use Rattle.place_laws.specs.Kept.{weighable}
 use Rattle.place_part.proofs.Parts.{not-true, not-false, part-ready, said-at, asked-write, asked-space, asked-room, held-class}
-use Rattle.place_part.proofs.Groups.{asked-index, asked-groups, room-full, room-done}
+use Rattle.place_part.proofs.Groups.{asked-index, asked-groups, room-ends-full, room-ends-done}
 use borrow.Author.Needs.{needs}
 use Rattle.place_part.proofs.put_lead.Statement.{statement}
 use Rattle.place_part.proofs.put_lead.Tie as tie
@@ -14,7 +14,7 @@ sub-nu c = first-le-end _ _ _ (c .before .before .before .before .before .before
 returns : tie.Need-returns
 returns c =
     let a = c .before .before .before .before .before .before .before .before .pre .0 in
-    λ st ms hs ec hf f. room-full _ _ _ _ _ _ (said-at _ _ _ _ _ st _ _ _ _ _ (a .part) ec (c .before .has-room .ensures)) (not-true (c .before .has-room .result) (c .if1 .taken)) refl
+    λ st ms hs ec hf f. room-ends-full _ _ _ _ _ _ (said-at _ _ _ _ _ st _ _ _ _ _ (a .part) ec (c .before .has-room .ensures)) (not-true (c .before .has-room .result) (c .if1 .taken)) refl
 
 write-part-requires : tie.Need-write-part-requires
 write-part-requires c κs =
@@ -40,7 +40,7 @@ returns-2 c =
     let a = p .0 in
     let yes = not-false (c .before .before .before .before .before .before .before .before .before .before .before .has-room .result) (c .before .before .before .before .before .before .before .before .before .before .if1 .left) in
     λ st ms hs ec hf f.
-    room-done _ _ _ _ _ _ (said-at _ _ _ _ _ st _ _ _ _ _ (a .part) ec (c .before .before .before .before .before .before .before .before .before .before .before .has-room .ensures)) yes refl
+    room-ends-done _ _ _ _ _ _ (said-at _ _ _ _ _ st _ _ _ _ _ (a .part) ec (c .before .before .before .before .before .before .before .before .before .before .before .has-room .ensures)) yes refl
     (c .before .before .finish-lead .ensures .1 _ st _ _ _ ms (part-ready _ _ _ _ _ _ st _ _ _ _ _ hs ec (a .part) f (c .before .before .before .before .before .before .before .write-part .ensures) (c .before .before .before .before .before .before .before .before .before .hint-in-part .ensures)) (held-class _) refl (hf .index (p .1) .0) (hf .index (p .1) .1))
 
 pub put-lead-spec : {M : Type 1} → statement M

@@ -4,7 +4,7 @@ use Rattle.set_part.proofs.Bounds.{first-le-end}
 use Rattle.place.specs.Laws.{filled-asks}
 use Rattle.place_laws.specs.Kept.{weighable}
 use Rattle.place_part.proofs.Parts.{not-true, not-false, said-at, asked-room, held-class}
-use Rattle.place_part.proofs.Groups.{room-full, room-done}
+use Rattle.place_part.proofs.Groups.{room-ends-full, room-ends-done}
 use Rattle.place_part.proofs.Merges.{placed-before, gap-asks, gap-room, part-filled}
 use borrow.Author.Needs.{needs}
 use Rattle.place_part.proofs.put_merge.Statement.{statement}
@@ -16,7 +16,7 @@ sub-nu c = first-le-end _ _ _ (c .before .before .before .before .before .before
 returns : tie.Need-returns
 returns c =
     let a = c .before .before .before .before .before .before .before .before .pre .0 in
-    λ st hs ec sn hf f. room-full _ _ _ _ _ _ (said-at _ _ _ _ _ st _ _ _ _ _ (a .part) ec (c .before .has-room .ensures)) (not-true (c .before .has-room .result) (c .if1 .taken)) refl
+    λ st hs ec sn hf f. room-ends-full _ _ _ _ _ _ (said-at _ _ _ _ _ st _ _ _ _ _ (a .part) ec (c .before .has-room .ensures)) (not-true (c .before .has-room .result) (c .if1 .taken)) refl
 
 open-gaps-requires : tie.Need-open-gaps-requires
 open-gaps-requires c κs =
@@ -51,7 +51,7 @@ returns-2 c =
     let yes = not-false (c .before .before .before .before .before .before .before .before .before .before .before .before .before .before .before .has-room .result) (c .before .before .before .before .before .before .before .before .before .before .before .before .before .before .if1 .left) in
     let m = asked-room _ _ _ _ _ _ _ _ _ _ _ _ a _ _ _ (c .before .before .before .before .before .before .before .before .before .before .before .before .before .before .before .has-room .ensures) yes in
     λ st hs ec sn hf f.
-    room-done _ _ _ _ _ _ (said-at _ _ _ _ _ st _ _ _ _ _ (a .part) ec (c .before .before .before .before .before .before .before .before .before .before .before .before .before .before .before .has-room .ensures)) yes refl
+    room-ends-done _ _ _ _ _ _ (said-at _ _ _ _ _ st _ _ _ _ _ (a .part) ec (c .before .before .before .before .before .before .before .before .before .before .before .before .before .before .before .has-room .ensures)) yes refl
     (c .before .before .finish-merge .ensures .1 st _ _ _ (part-filled _ _ _ _ _ st _ _ _ _ _ _ _ _ _ _ _ (a .part) hs ec (hf .target (p .1) _ (p .3)) sn f (p .4) (c .before .before .before .before .before .before .before .before .before .before .before .open-gaps .ensures st hs ec (hf .target (p .1) _ (p .3)) (placed-before _ _ _ _ _ _ (p .4) st hs (hf .target (p .1) _ (p .3)))) (c .before .before .before .before .before .before .before .write-part .ensures) (c .before .before .before .before .before .before .before .before .before .before .before .before .before .hint-in-part .ensures) (m .1) (m .2)) (held-class _) refl (hf .group (p .1) _ (p .2) .0))
 
 pub put-merge-spec : {M : Type 1} → statement M

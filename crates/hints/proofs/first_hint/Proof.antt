@@ -3,8 +3,8 @@ use native.Mathlib.Omega.{arith}
 use Rattle.words.specs.Words.{wordsOf}
 use Rattle.hints.proofs.Searching.{Searching, search-start, search-up, search-down, search-done}
 use borrow.Author.Needs.{needs}
-use Rattle.hints.proofs.first_from.Statement.{statement}
-use Rattle.hints.proofs.first_from.Tie as tie
+use Rattle.hints.proofs.first_hint.Statement.{statement}
+use Rattle.hints.proofs.first_hint.Tie as tie
 
 abbrev Inv-loop : tie.InvT-loop
 Inv-loop t at n v k low₀ high₀ low high = Searching (wordsOf t) at n v k low high
@@ -28,8 +28,8 @@ loop-again-2 c =
 returns : tie.Need-returns Inv-loop μ-loop
 returns c = let l = c .before .loop .inv in (search-done l (omega arith), omega arith)
 
-pub first-from-spec : {M : Type 1} → statement M
-first-from-spec =
+pub first-hint-spec : {M : Type 1} → statement M
+first-hint-spec =
     tie.close
     (tie.spec
     Inv-loop
