@@ -22,7 +22,8 @@ instOf q = q .0 / 4
 abbrev pub nextInst : LiveRangePoint → ℕ
 nextInst q = (q .0 + 3) / 4
 
--- "`live_insts` counts the different instructions that a sorted list touches": those below n are counted already
+-- "`live_insts` counts the different instructions that a sorted list touches": those below n are counted already. This is the Rust's sum;
+-- `live-insts-counts` (`proofs/Touched.antt`) says that it is the count of the sentence.
 unfoldable pub touched : ℕ → List Segment → ℕ
 touched n [] = 0
 touched n (s ∷ ss) = (nextInst (s .to) - max n (instOf (s .«from»))) + touched (nextInst (s .to)) ss

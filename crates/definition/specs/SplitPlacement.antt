@@ -38,6 +38,9 @@ unfolding lt
 latest price c [] = c
 latest price c (d ∷ ds) = latest price (cond (lt (price c) (price d)) c d) ds
 
+-- The two rules. That what these folds choose is what the sentences say, and nothing else is, are `early-rule`, `late-rule`, `one-earliest` and `one-latest`
+-- of crates/split_placement.
+
 -- "Early: among `after`+1 and the block starts above it up to `before`, the earliest whose block frequency is least."
 unfoldable pub earlyCut : List BlockData → ℕ → ℕ → ℕ
 unfolding freqAt starts keep earliest
