@@ -86,6 +86,7 @@ module _ (tape given : List ℕ) (s cur : Stream) (done k : ℕ) (X : List ℕ) 
       let i : done + r .n ≡ done = omega (arith, e0) in
       record {
         within = omega (arith, filled-within, i);
+        short = λ _. omega (arith, m, e, l, h .within, length-back done k X Y (h .within) e l);
         counts = sym (length-take-le done (back done k X Y) (omega (arith, filled-within, i)));
         taped = q .once .taped ∙ h .taped;
         fd = q .once .fd ∙ h .fd;
@@ -106,6 +107,7 @@ pub filling-full : (tape given : List ℕ) (s cur : Stream) (done : ℕ) (B : Li
 filling-full tape given s cur done B h z =
     record {
       within = h .within;
+      short = λ e. not-both false e refl;
       counts = sym (length-take-le done B (h .within));
       taped = h .taped;
       fd = h .fd;

@@ -8,10 +8,10 @@ use Rattle.streams.proofs.fill.Statement.{statement}
 use Rattle.streams.proofs.fill.Tie as tie
 
 abbrev Inv-loop : tie.InvT-loop
-Inv-loop tape given buf₀ at₀ done₀ buf at done = (length buf ≡ length buf₀) × Filling given at₀ at done buf
+Inv-loop tape given buf₀ at₀ got₀ buf at got = (length buf ≡ length buf₀) × Filling given at₀ at got buf
 
 abbrev μ-loop : tie.MeasureT-loop
-μ-loop tape given buf₀ at₀ done₀ buf at done = length buf - done
+μ-loop tape given buf₀ at₀ got₀ buf at got = length buf - got
 
 loop-holds : tie.Need-loop-holds Inv-loop μ-loop
 loop-holds c = (refl, filling-start _ _ _ (search needs))
@@ -35,29 +35,29 @@ returns : tie.Need-returns Inv-loop μ-loop
 returns c =
     let r = c .before .before .before .before in
     let l = r .before .before .before in
-    let k = part-long (l .loop .done) (l .loop .buf) (r .read .last .1 .1 .1 .0) (r .read .kept .1 .1 .1 .0) in
+    let k = part-long (l .loop .got) (l .loop .buf) (r .read .last .1 .1 .1 .0) (r .read .kept .1 .1 .1 .0) in
     filling-end _ _ _ _ _ _ _ _ _ (l .loop .inv .1) refl k (r .read .ensures) (c .if1 .taken) (omega (arith, k, r .before .before .loop-test .taken))
 
-add-done : tie.Need-add-done Inv-loop μ-loop
-add-done c =
+add-got : tie.Need-add-got Inv-loop μ-loop
+add-got c =
     let r = c .before .before .before .before in
     let l = r .before .before .before in
-    let k = part-long (l .loop .done) (l .loop .buf) (r .read .last .1 .1 .1 .0) (r .read .kept .1 .1 .1 .0) in
+    let k = part-long (l .loop .got) (l .loop .buf) (r .read .last .1 .1 .1 .0) (r .read .kept .1 .1 .1 .0) in
     omega (arith, k, r .read .ensures .once .within, l .loop .inv .0, l .before .before .before .before .good, r .before .before .loop-test .taken)
 
 loop-less : tie.Need-loop-less Inv-loop μ-loop
 loop-less c =
     let r = c .before .before .before .before in
     let l = r .before .before .before in
-    let k = part-long (l .loop .done) (l .loop .buf) (r .read .last .1 .1 .1 .0) (r .read .kept .1 .1 .1 .0) in
-    let e = length-back (l .loop .done) _ (l .loop .buf) (r .read .last .1 .1 .1 .0) (l .loop .inv .1 .within) refl k in
+    let k = part-long (l .loop .got) (l .loop .buf) (r .read .last .1 .1 .1 .0) (r .read .kept .1 .1 .1 .0) in
+    let e = length-back (l .loop .got) _ (l .loop .buf) (r .read .last .1 .1 .1 .0) (l .loop .inv .1 .within) refl k in
     omega (arith, e, c .if1 .left, r .before .before .loop-test .taken)
 
 loop-again : tie.Need-loop-again Inv-loop μ-loop
 loop-again c =
     let r = c .before .before .before .before in
     let l = r .before .before .before in
-    let k = part-long (l .loop .done) (l .loop .buf) (r .read .last .1 .1 .1 .0) (r .read .kept .1 .1 .1 .0) in
+    let k = part-long (l .loop .got) (l .loop .buf) (r .read .last .1 .1 .1 .0) (r .read .kept .1 .1 .1 .0) in
     (length-back _ _ _ (r .read .last .1 .1 .1 .0) (l .loop .inv .1 .within) refl k ∙ l .loop .inv .0, filling-next _ _ _ _ _ _ _ _ _ (l .loop .inv .1) refl k (r .read .ensures) (search needs))
 
 same-length-2 : tie.Need-same-length-2 Inv-loop μ-loop
@@ -79,7 +79,7 @@ fill-spec =
     read-requires
     same-length
     returns
-    add-done
+    add-got
     loop-less
     loop-again
     same-length-2
