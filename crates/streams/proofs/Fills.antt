@@ -98,6 +98,7 @@ module _ (tape given : List ℕ) (s cur : Stream) (done k : ℕ) (X : List ℕ) 
               bytes = subst (λ (j : ℕ). take j (back done k X Y) ≡ take j (drop (s .at) given)) i (filled-bytes t);
               end = λ f _. omega (arith, played t .at, e0, played t .end f (q .settled) e0 m);
               stopped = λ f. played t .stopped f;
+              call = λ f. omega (arith, z .call, played t .onward f);
               onward = λ _ f. omega (arith, z .call, played t .onward f);
             };
       }
@@ -117,6 +118,7 @@ filling-full tape given s cur done B h z =
         bytes = h .kept t .bytes;
         end = λ _ p. absurd (omega (arith, p, z));
         stopped = λ e. not-both false e refl;
+        call = λ _. h .kept t .call;
         onward = λ p _. h .kept t .onward (omega (arith, p, z));
       };
     }
