@@ -107,10 +107,10 @@ pub fn replay(
     while 0 < turns {
         let f = next_answer(at, reads, given, sheet, answer, buf, table, out, work);
         at = f.next;
-        if f.failed {
-            return ends(true, false, at, to);
-        }
         if !f.whole {
+            if f.failed {
+                return ends(true, false, at, to);
+            }
             let w = frames::sum_up(f.ended, answers, differ, to, writes, paper);
             return ends(false, w.failed, at, w.next);
         }
