@@ -138,7 +138,8 @@ pub fn read_frame(
 
 // ---- writing
 
-fn put_count(out: &mut [u8], at: usize, v: u64) -> usize
+// A number behind the first `at` bytes, and where it ends.
+pub fn put_count(out: &mut [u8], at: usize, v: u64) -> usize
     requires { ⌜ at + 20 ≤ length (now out) ⌝ }
     ensures { λ r. ⌜ Wrote (20) at (now (out .entry)) r (now (out .exit)) (decimal v) ⌝ }
 {
