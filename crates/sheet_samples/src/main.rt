@@ -8,7 +8,9 @@ use libc::STDOUT_FILENO;
 ghost use mathlib.Core.Path.{_≡_};
 ghost use Prim.Native.Nat.{_+_, _^_, _≤_, _<_};
 ghost use lib.ListN.{length};
+ghost use Rattle.lines.specs.Wrote.{Wrote};
 ghost use Rattle.sheet_samples.specs.Bounds.{Inside};
+ghost use Rattle.sheet_samples.specs.Tallies.{differsLine, tallyLine};
 
 // Cut where a line could not be written: then no more are.
 struct Tally {
@@ -27,16 +29,17 @@ fn say(text: &[u8]) -> bool {
     w.failed
 }
 
-fn put_differs(out: &mut [u8; 64], number: usize) -> usize
-    ensures { λ r. ⌜ r ≤ 64 ⌝ }
+fn put_differs(out: &mut [u8], number: u64) -> usize
+    requires { ⌜ 64 ≤ length (now out) ⌝ }
+    ensures { λ r. ⌜ Wrote (64) 0 (now (out .entry)) r (now (out .exit)) (differsLine number) ⌝ }
 {
     let a = lines::put_bytes(out, 0, b"sample ");
-    let b = frames::put_count(out, a, number as u64);
+    let b = frames::put_count(out, a, number);
     lines::put_bytes(out, b, b" differs\n")
 }
 
 // Says which sample it is; whether that is cut.
-fn tell(number: usize) -> bool {
+fn tell(number: u64) -> bool {
     let mut line = [0u8; 64];
     let n = put_differs(&mut line, number);
     say(&line[..n])
@@ -61,7 +64,7 @@ fn differed(t: Tally) -> Tally
     let number = t.agree + t.differ + 1;
     let mut cut = t.cut;
     if !cut {
-        cut = tell(number);
+        cut = tell(number as u64);
     }
     Tally {
         agree: t.agree,
@@ -153,14 +156,15 @@ fn count_all(
     t
 }
 
-fn put_tally(out: &mut [u8; 128], t: Tally) -> usize
-    ensures { λ r. ⌜ r ≤ 128 ⌝ }
+fn put_tally(out: &mut [u8], agree: u64, differ: u64, alone: u64) -> usize
+    requires { ⌜ 128 ≤ length (now out) ⌝ }
+    ensures { λ r. ⌜ Wrote (128) 0 (now (out .entry)) r (now (out .exit)) (tallyLine agree differ alone) ⌝ }
 {
-    let a = frames::put_count(out, 0, t.agree as u64);
+    let a = frames::put_count(out, 0, agree);
     let b = lines::put_bytes(out, a, b" samples agree, ");
-    let c = frames::put_count(out, b, t.differ as u64);
+    let c = frames::put_count(out, b, differ);
     let d = lines::put_bytes(out, c, b" differ, ");
-    let e = frames::put_count(out, d, t.alone as u64);
+    let e = frames::put_count(out, d, alone);
     lines::put_bytes(out, e, b" blocks have no partner\n")
 }
 
@@ -169,7 +173,7 @@ fn show(t: Tally) {
         return;
     }
     let mut line = [0u8; 128];
-    let n = put_tally(&mut line, t);
+    let n = put_tally(&mut line, t.agree as u64, t.differ as u64, t.alone as u64);
     say(&line[..n]);
 }
 
