@@ -44,37 +44,54 @@ fn bad_arguments(out: &mut [u8], at: usize, work: &mut [u8; 4104]) -> usize
 {
     let one = b"\x04\x00\x00\x00\x00\x00\x40\x40";
     let a = show(out, at, b"side off its list", one, 0, 2, 2, work);
-    let b = show(out, a, b"no whole rows", b"\x04\x00\x00\x00\x00", 0, 2, 0, work);
+    let b = show(
+        out,
+        a,
+        b"no whole rows",
+        b"\x04\x00\x00\x00\x00",
+        0,
+        2,
+        0,
+        work,
+    );
     let many = b"\x01\x10\x00\x00\x00\x00\x40\x40";
     show(out, b, b"too many instructions", many, 0, 2, 0, work)
 }
 
 fn bad_blocks(out: &mut [u8], at: usize, work: &mut [u8; 4104]) -> usize
-    requires { ⌜ at + 300 ≤ length (now out) ⌝ }
-    ensures { λ r. ⌜ r ≤ at + 300 ⌝ }
+    requires { ⌜ at + 150 ≤ length (now out) ⌝ }
+    ensures { λ r. ⌜ r ≤ at + 150 ⌝ }
 {
-    let one = b"\x04\x00\x00\x00\x00\x00\x40\x40";
     let none = b"\x00\x00\x00\x00\x00\x00\x40\x40";
     let endless = b"\x04\x00\x00\x00\x00\x00\x80\x7f";
     let a = show(out, at, b"empty block", none, 0, 2, 0, work);
-    let b = show(out, a, b"infinite frequency", endless, 0, 2, 0, work);
-    let c = show(out, b, b"ends not in order", one, 2, 2, 0, work);
-    show(out, c, b"past the last instruction", one, 0, 4, 0, work)
+    show(out, a, b"infinite frequency", endless, 0, 2, 0, work)
 }
 
-fn all(out: &mut [u8; 1024], work: &mut [u8; 4104]) -> usize
-    ensures { λ r. ⌜ r ≤ 750 ⌝ }
+fn bad_ends(out: &mut [u8], at: usize, work: &mut [u8; 4104]) -> usize
+    requires { ⌜ at + 150 ≤ length (now out) ⌝ }
+    ensures { λ r. ⌜ r ≤ at + 150 ⌝ }
+{
+    let one = b"\x04\x00\x00\x00\x00\x00\x40\x40";
+    let a = show(out, at, b"ends not in order", one, 2, 2, 0, work);
+    show(out, a, b"past the last instruction", one, 0, 4, 0, work)
+}
+
+fn all(out: &mut [u8], work: &mut [u8; 4104]) -> usize
+    requires { ⌜ 750 ≤ length (now out) ⌝ }
+    ensures { λ r. ⌜ r ≤ length (now (out .exit)) ⌝ }
 {
     let a = marked(out, work);
     let b = bad_arguments(out, a, work);
-    bad_blocks(out, b, work)
+    let c = bad_blocks(out, b, work);
+    bad_ends(out, c, work)
 }
 
 fn main() {
     let mut out = [0u8; 1024];
     let mut work = [0u8; 4104];
     let n = all(&mut out, &mut work);
-    let w = streams::write_to(STDOUT_FILENO, &out[..n]);
+    let w = streams::write_to(STDOUT_FILENO, &out[0..n]);
     if w.failed {
         os::fail(b"find_cut_main: the answers could not be written, and are cut");
     }
