@@ -1,16 +1,19 @@
 -- What is known while two texts are compared. Assumes nothing.
 use mathlib.Core.Path.{_≡_, refl, sym, ap, subst, _∙_}
-use mathlib.Core.Bool.{Bool, true, false}
-use mathlib.Core.List.{List, [], _∷_, _++_, append-assoc, append-nil}
-use Prim.Native.Nat.{ℕ, suc, _+_, _≤_, _<_}
+use mathlib.Core.Bool.{Bool, true, false, false≢true}
+use mathlib.Core.List.{List, _++_}
+use Prim.Native.Nat.{ℕ, _+_, _-_, _≤_, _<_}
 use native.Mathlib.Omega.{arith}
-use lib.ListN.{length, getD, take}
-use lib.Seq.{take-suc, take-length}
+use lib.Dec.{leb, eqb}
+use lib.ListN.{length, getD, take, drop, length-drop}
+use lib.Seq.{length-take-le, take-all, take-length, take-add, take-append-seam, drop-at}
+use borrow.Author.Tests.{leb-true, leb-false, eqb-true, eq-eqb}
 use Rattle.words.specs.Words.{wordsOf}
 use Rattle.definition.specs.Types.{Out}
 use Rattle.definition.specs.Build.{Result}
 use Rattle.definition.specs.Limits.{vregsRoom}
 use Rattle.definition.specs.JobSheet.{sheetAnswer}
+use Rattle.definition.specs.Text.{same}
 use Rattle.definition.specs.RegisterSheet.{registerSheet, vregsOf}
 use Rattle.virt_regs.specs.declared.OutLayout.{OutLayout}
 use Rattle.sheet_places.specs.Places.{tableWords}
@@ -26,43 +29,49 @@ use Rattle.build_answer.specs.declared.BuildEnd.{BuildEnd}
 use Rattle.answer_pages.specs.Pages.{leftOf, Printing, Prints, Paged, Turned}
 use Rattle.answer_pages.specs.Laws.{left-start, printing-start, prints-next, pages-next, pages-done}
 use Rattle.vregs_answer.specs.Sheet.{vregsTables, Answers}
-use Rattle.sheet_replay.specs.Same.{Follows, IsSheet}
+use Rattle.sheet_replay.specs.Same.{TellsSheet, same-refl, same-true, same-is}
 
--- ---- byte by byte: the first i bytes of the text stand there
+-- ---- a text behind the first `at` bytes
 
-pub record Along (xs : List ℕ) (at : ℕ) (text : List ℕ) (i : ℕ) : Type 0 where
+pub record Follows (xs : List ℕ) (at : ℕ) (text : List ℕ) : Type 0 where
   pub fits : at + length text ≤ length xs
-  pub within : i ≤ length text
-  pub is : take (at + i) xs ≡ take at xs ++ take i text
+  pub is : take (at + length text) xs ≡ take at xs ++ text
 
-pub along-none : (xs : List ℕ) (at : ℕ) (text : List ℕ) → at + length text ≤ length xs → Along xs at text 0
-along-none xs at text h =
-    let e : at + 0 ≡ at = omega arith in
-    record { fits = h; within = omega arith; is = ap (λ (k : ℕ). take k xs) e ∙ sym (append-nil (take at xs)) }
+fits-in : (n : ℕ) (l : List ℕ) → length (take n l) ≡ n → n ≤ length l
+fits-in n l e = go (leb n (length l)) refl
+  where
+    go : (b : Bool) → leb n (length l) ≡ b → n ≤ length l
+    go true p = leb-true n (length l) p
+    go false p = let g : length l < n = leb-false n (length l) p in absurd (omega (arith, g, e, ap length (take-all n l (omega (arith, g)))))
 
-pub along-one : (xs : List ℕ) (at : ℕ) (text : List ℕ) (i : ℕ) → Along xs at text i → i < length text → getD xs (at + i) 0 ≡ getD text i 0 → Along xs at text (i + 1)
-along-one xs at text i a h e =
-    let n : at + (i + 1) ≡ suc (at + i) = omega arith in
-    let m : i + 1 ≡ suc i = omega arith in
-    let l : at + i < length xs = omega (arith, a .fits, h) in
+pub follows : (xs : List ℕ) (at : ℕ) (text : List ℕ) → at ≤ length xs → same (take (length text) (drop at xs)) text ≡ true → Follows xs at text
+follows xs at text h e =
+    let q : take (length text) (drop at xs) ≡ text = same-true (take (length text) (drop at xs)) text e in
     record {
-      fits = a .fits;
-      within = omega (arith, h);
-      is =
-          ap (λ (k : ℕ). take k xs) n ∙ take-suc xs (at + i) 0 l
-          ∙ ap (λ (b : ℕ). take (at + i) xs ++ (b ∷ [])) e
-          ∙ ap (λ (t : List ℕ). t ++ (getD text i 0 ∷ [])) (a .is)
-          ∙ append-assoc (take at xs) (take i text) (getD text i 0 ∷ [])
-          ∙ ap (λ (t : List ℕ). take at xs ++ t) (sym (take-suc text i 0 h) ∙ ap (λ (k : ℕ). take k text) (sym m));
+      fits = omega (arith, h, fits-in (length text) (drop at xs) (ap length q), length-drop at xs);
+      is = take-add at (length text) xs ∙ ap (λ (l : List ℕ). take at xs ++ l) q;
     }
 
-pub along-all : (xs : List ℕ) (at : ℕ) (text : List ℕ) (i : ℕ) → Along xs at text i → length text ≤ i → Follows xs at text
-along-all xs at text i a h =
-    let e : i ≡ length text = omega (arith, a .within, h) in
-    record {
-      fits = a .fits;
-      is = subst (λ (k : ℕ). take (at + k) xs ≡ take at xs ++ take k text) e (a .is) ∙ ap (λ (t : List ℕ). take at xs ++ t) (take-length text);
-    }
+-- no room for the text
+pub too-short : (xs : List ℕ) (at : ℕ) (text : List ℕ) → length xs - at < length text → false ≡ same (take (length text) (drop at xs)) text
+too-short xs at text h =
+    same-is false (take (length text) (drop at xs)) text (λ e. absurd (false≢true e), λ q. absurd (omega (arith, h, fits-in (length text) (drop at xs) (ap length q), length-drop at xs)))
+
+-- the part of that length
+pub part-same : (b : Bool) (xs : List ℕ) (at : ℕ) (text : List ℕ) → (b ≡ true → take (at + length text - at) (drop at xs) ≡ text) × (take (at + length text - at) (drop at xs) ≡ text → b ≡ true)
+    → b ≡ same (take (length text) (drop at xs)) text
+part-same b xs at text h =
+    let n : at + length text - at ≡ length text = omega arith in
+    subst (λ (k : ℕ). b ≡ same (take k (drop at xs)) text) n (same-is b (take (at + length text - at) (drop at xs)) text h)
+
+-- another text: then the whole is not what begins with the first `at` bytes and goes on with the text
+pub not-there : (xs : List ℕ) (at : ℕ) (text L S : List ℕ) → at ≤ length xs → take at xs ++ (text ++ L) ≡ S → same (take (length text) (drop at xs)) text ≡ false → false ≡ same xs S
+not-there xs at text L S h e d = same-is false xs S (λ q. absurd (false≢true q), λ q. absurd (false≢true (sym d ∙ there q)))
+  where
+    there : xs ≡ S → same (take (length text) (drop at xs)) text ≡ true
+    there q =
+        let w : drop at xs ≡ text ++ L = ap (drop at) (q ∙ sym e) ∙ drop-at (take at xs) (text ++ L) at (length-take-le at xs h) in
+        ap (λ (l : List ℕ). same l text) (ap (take (length text)) w ∙ take-append-seam text L) ∙ same-refl text
 
 -- ---- page by page: the first `at` bytes of the answer and what is left are the sheet
 
@@ -101,10 +110,21 @@ held-next ol r x answer c at p B h t f =
           );
     }
 
-pub held-all : (ol : OutLayout) (r : BuildEnd) (x answer : List ℕ) (c : Cursor) (at : ℕ) → Held ol r x answer c at → c .ended ≡ true → at ≡ length answer → IsSheet r x answer
-held-all ol r x answer c at h d e o g =
-    sym (take-length answer) ∙ ap (λ (k : ℕ). take k answer) (sym e)
-    ∙ pages-done o (take at answer) c (h .each o (subst (λ (l : OutLayout). Printing l o r x atStart) (sym (h .tables)) g) .1) d
+-- a page that is not there
+pub held-differs : (ol : OutLayout) (r : BuildEnd) (x answer : List ℕ) (c : Cursor) (at : ℕ) (p : Page) (B : List ℕ) → Held ol r x answer c at → Turned ol r x c p B
+    → same (take (length (take (p .n) B)) (drop at answer)) (take (p .n) B) ≡ false → TellsSheet r x answer false
+held-differs ol r x answer c at p B h t d o g =
+    let q = h .each o (subst (λ (l : OutLayout). Printing l o r x atStart) (sym (h .tables)) g) in
+    not-there answer at (take (p .n) B) (leftOf o (p .cur)) (registerSheet o) (h .within) (ap (λ (l : List ℕ). take at answer ++ l) (sym (t .paged o (q .0) .text)) ∙ q .1) d
+
+-- all pages are there, and the answer ends with them or goes on
+pub held-all : (ol : OutLayout) (r : BuildEnd) (x answer : List ℕ) (c : Cursor) (at : ℕ) → Held ol r x answer c at → c .ended ≡ true → TellsSheet r x answer (eqb at (length answer))
+held-all ol r x answer c at h d o g =
+    same-is (eqb at (length answer)) answer (registerSheet o)
+    (λ e. sym (take-length answer) ∙ ap (λ (k : ℕ). take k answer) (sym (eqb-true at (length answer) e)) ∙ is, λ e. eq-eqb at (length answer) (sym (length-take-le at answer (h .within)) ∙ ap length (is ∙ sym e)))
+  where
+    is : take at answer ≡ registerSheet o
+    is = pages-done o (take at answer) c (h .each o (subst (λ (l : OutLayout). Printing l o r x atStart) (sym (h .tables)) g) .1) d
 
 -- ---- the sheet that was fed
 
@@ -121,6 +141,6 @@ module _ (n : ℕ) (cur : Next) (W : List ℕ) (r : BuildEnd) (x sheet : List �
   pub prints-fed : Prints vregsTables r x atStart
   prints-fed = record { few-regs = omega arith; few-groups = omega arith; answer = sheetAnswer sheet vregsRoom; printing = printing-fed }
 
-  pub is-vregs : (answer : List ℕ) → IsSheet r x answer → answer ≡ vregsOf sheet
+  pub is-vregs : (answer : List ℕ) (b : Bool) → TellsSheet r x answer b → b ≡ same answer (vregsOf sheet)
   unfolding vregsOf
-  is-vregs answer i = i (sheetAnswer sheet vregsRoom) printing-fed
+  is-vregs answer b i = i (sheetAnswer sheet vregsRoom) printing-fed

@@ -1,41 +1,34 @@
 // A stored answer held to the answer to its sheet, byte for byte.
 use build_answer::BuildEnd;
 ghost use mathlib.Core.Path.{_≡_};
-ghost use mathlib.Core.Bool.{true};
 ghost use Prim.Native.Nat.{_≤_};
-ghost use lib.ListN.{length};
+ghost use lib.ListN.{length, take, drop};
 ghost use Rattle.words.specs.Words.{wordCount};
+ghost use Rattle.definition.specs.Text.{same};
 ghost use Rattle.definition.specs.RegisterSheet.{vregsOf};
 ghost use Rattle.work_layout.specs.Regions.{maxWork};
 ghost use Rattle.sheet_places.specs.Places.{tableWords};
 ghost use Rattle.sheet_output.specs.Left.{atStart};
 ghost use Rattle.answer_pages.specs.Pages.{Prints};
 ghost use Rattle.vregs_answer.specs.Sheet.{vregsTables};
-ghost use Rattle.sheet_replay.specs.Same.{Follows, IsSheet};
+ghost use Rattle.sheet_replay.specs.Same.{TellsSheet};
 
 // Whether the text follows in the answer behind its first `at` bytes.
 fn same_text(answer: &[u8], at: usize, text: &[u8]) -> bool
     requires { ⌜ at ≤ length (now answer) ⌝ }
-    ensures { λ r. ⌜ (r ≡ true → Follows (now (answer .entry)) at (now (text .entry))) ⌝ }
+    ensures { λ r. ⌜ r ≡ same (take (length (now (text .entry))) (drop at (now (answer .entry)))) (now (text .entry)) ⌝ }
 {
     let len = text.len();
     if answer.len() - at < len {
         return false;
     }
-    let mut i = 0;
-    while i < len {
-        if answer[at + i] != text[i] {
-            return false;
-        }
-        i += 1;
-    }
-    true
+    check::same(&answer[at..at + len], text)
 }
 
 // Whether the answer is the register sheet that the end and the tables print.
 fn same_sheet(end: BuildEnd, tables: &[u8], answer: &[u8], buf: &mut [u8]) -> bool
     requires { ⌜ Prints vregsTables end (now tables) atStart × (256 ≤ length (now buf)) ⌝ }
-    ensures { λ r. ⌜ (r ≡ true → IsSheet end (now (tables .entry)) (now (answer .entry))) ⌝ }
+    ensures { λ r. ⌜ TellsSheet end (now (tables .entry)) (now (answer .entry)) r ⌝ }
 {
     let ol = vregs_answer::vregs_tables();
     let mut cur = sheet_output::start();
@@ -62,7 +55,7 @@ pub fn is_answer(
     work: &mut [u8],
 ) -> bool
     requires { ⌜ (256 ≤ length (now buf)) × (wordCount (now table) ≡ tableWords) × (length (now out) ≡ 460800) × (maxWork ≤ wordCount (now work)) ⌝ }
-    ensures { λ r. ⌜ (r ≡ true → now (answer .entry) ≡ vregsOf (now (sheet .entry))) ⌝ }
+    ensures { λ r. ⌜ r ≡ same (now (answer .entry)) (vregsOf (now (sheet .entry))) ⌝ }
 {
     let first = sheet::open(table);
     let cur = sheet::feed(first, sheet, table);

@@ -1,3 +1,4 @@
 -- The laws that belong to no one function.
 pub mod Never
 pub mod Alone
+pub mod Puts

@@ -1,17 +1,48 @@
 // Runs every sample of the document SHEETS.md: a block marked `job` is read, answered and printed, and held byte for byte to the block
-// marked `registers` behind it. Writes how many samples agree and differ, and how many such blocks have no partner.
+// marked `registers` behind it. Writes how many samples agree and differ, and how many such blocks have no partner. What fails is said on standard error.
 mod document;
 
 use document::Sample;
+use libc::STDERR_FILENO;
+use libc::STDOUT_FILENO;
 ghost use mathlib.Core.Path.{_≡_};
 ghost use Prim.Native.Nat.{_+_, _^_, _≤_, _<_};
 ghost use lib.ListN.{length};
+ghost use Rattle.lines.specs.Wrote.{Wrote};
 ghost use Rattle.sheet_samples.specs.Bounds.{Inside};
+ghost use Rattle.sheet_samples.specs.Tallies.{differsLine, tallyLine};
 
+// Cut where a line could not be written: then no more are.
 struct Tally {
     agree: usize,
     differ: usize,
     alone: usize,
+    cut: bool,
+}
+
+// Writes a text; whether it is cut.
+fn say(text: &[u8]) -> bool {
+    let w = streams::write_to(STDOUT_FILENO, text);
+    if w.failed {
+        os::fail(b"sheet_samples: the tally could not be written, and is cut");
+    }
+    w.failed
+}
+
+fn put_differs(out: &mut [u8], number: u64) -> usize
+    requires { ⌜ 64 ≤ length (now out) ⌝ }
+    ensures { λ r. ⌜ Wrote (64) 0 (now (out .entry)) r (now (out .exit)) (differsLine number) ⌝ }
+{
+    let a = lines::put_bytes(out, 0, b"sample ");
+    let b = frames::put_count(out, a, number);
+    lines::put_bytes(out, b, b" differs\n")
+}
+
+// Says which sample it is; whether that is cut.
+fn tell(number: u64) -> bool {
+    let mut line = [0u8; 64];
+    let n = put_differs(&mut line, number);
+    say(&line[..n])
 }
 
 fn agreed(t: Tally) -> Tally
@@ -22,22 +53,24 @@ fn agreed(t: Tally) -> Tally
         agree: t.agree + 1,
         differ: t.differ,
         alone: t.alone,
+        cut: t.cut,
     }
 }
 
-// Says which sample it is.
 fn differed(t: Tally) -> Tally
     requires { ⌜ t .agree + t .differ + t .alone < 2 ^ 63 ⌝ }
     ensures { λ r. ⌜ r .agree + r .differ + r .alone ≡ t .agree + t .differ + t .alone + 1 ⌝ }
 {
     let number = t.agree + t.differ + 1;
-    io::write_all(1, b"sample ");
-    io::print_decimal(1, number as u64);
-    io::write_all(1, b" differs\n");
+    let mut cut = t.cut;
+    if !cut {
+        cut = tell(number as u64);
+    }
     Tally {
         agree: t.agree,
         differ: t.differ + 1,
         alone: t.alone,
+        cut,
     }
 }
 
@@ -49,6 +82,7 @@ fn left_alone(t: Tally) -> Tally
         agree: t.agree,
         differ: t.differ,
         alone: t.alone + 1,
+        cut: t.cut,
     }
 }
 
@@ -111,6 +145,7 @@ fn count_all(
         agree: 0,
         differ: 0,
         alone: 0,
+        cut: false,
     };
     let mut at = document::next_fence(doc, 0);
     while at < doc.len() {
@@ -121,13 +156,25 @@ fn count_all(
     t
 }
 
+fn put_tally(out: &mut [u8], agree: u64, differ: u64, alone: u64) -> usize
+    requires { ⌜ 128 ≤ length (now out) ⌝ }
+    ensures { λ r. ⌜ Wrote (128) 0 (now (out .entry)) r (now (out .exit)) (tallyLine agree differ alone) ⌝ }
+{
+    let a = frames::put_count(out, 0, agree);
+    let b = lines::put_bytes(out, a, b" samples agree, ");
+    let c = frames::put_count(out, b, differ);
+    let d = lines::put_bytes(out, c, b" differ, ");
+    let e = frames::put_count(out, d, alone);
+    lines::put_bytes(out, e, b" blocks have no partner\n")
+}
+
 fn show(t: Tally) {
-    io::print_decimal(1, t.agree as u64);
-    io::write_all(1, b" samples agree, ");
-    io::print_decimal(1, t.differ as u64);
-    io::write_all(1, b" differ, ");
-    io::print_decimal(1, t.alone as u64);
-    io::write_all(1, b" blocks have no partner\n");
+    if t.cut {
+        return;
+    }
+    let mut line = [0u8; 128];
+    let n = put_tally(&mut line, t.agree as u64, t.differ as u64, t.alone as u64);
+    say(&line[..n]);
 }
 
 fn run(doc: &[u8])
@@ -142,10 +189,22 @@ fn run(doc: &[u8])
 
 fn main() {
     let fd = os::open_read(b"SHEETS.md");
-    let mut text = io::large_buffer();
-    let n = io::read_full(fd, &mut text);
-    if n == 65536 {
-        io::write_all(1, b"the document is too long\n");
+    if fd < 0 {
+        os::fail(b"sheet_samples: SHEETS.md could not be opened, and nothing is tallied");
+        return;
+    }
+    let mut text = [0u8; 131072];
+    let r = streams::fill_from(fd, &mut text);
+    if r.failed {
+        os::fail(b"sheet_samples: SHEETS.md could not be read, and nothing is tallied");
+        return;
+    }
+    let n = r.n;
+    if n == 131072 {
+        io::write_all(
+            STDERR_FILENO,
+            b"sheet_samples: SHEETS.md is too long, and nothing is tallied\n",
+        );
         return;
     }
     run(&text[..n]);

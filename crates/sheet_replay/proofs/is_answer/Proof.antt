@@ -25,11 +25,11 @@ same-sheet-requires c κs =
     (prints-fed _ _ _ _ _ _ b (fed-once _ _ _ _ (p .1) (c .before .before .before .before .before .before .before .before .before .before .before .before .before .before .before .before .«open» .ensures) (c .before .before .before .before .before .before .before .before .before .before .before .before .feed .ensures)) (c .before .before .before .before .before .before .answer-table .ensures), search needs)
 
 returns : tie.Need-returns
-returns c e =
+returns c =
     let p = c .before .before .before .before .before .before .before .before .before .before .before .before .before .before .before .before .before .before .before .before .before .before .before .before .before .before .before .pre in
     let s = c .before .before .before .before .before .before .before .before .before .before .before .before .before .before .before .before .before .before .before .before .before .before .before .before .before .before .before .args .sheet in
     let b : (i : ℕ) → getD (now s) i 0 < 256 = λ i. omega (arith, c .before .before .before .before .before .before .before .before .before .before .before .before .before .before .before .before .before .before .before .before .before .before .before .before .before .before .shared-slice-known .given i) in
-    is-vregs _ _ _ _ _ _ b (fed-once _ _ _ _ (p .1) (c .before .before .before .before .before .before .before .before .before .before .before .before .before .before .before .before .before .before .before .«open» .ensures) (c .before .before .before .before .before .before .before .before .before .before .before .before .before .before .before .feed .ensures)) (c .before .before .before .before .before .before .before .before .before .answer-table .ensures) _ (c .before .before .same-sheet .ensures e)
+    is-vregs _ _ _ _ _ _ b (fed-once _ _ _ _ (p .1) (c .before .before .before .before .before .before .before .before .before .before .before .before .before .before .before .before .before .before .before .«open» .ensures) (c .before .before .before .before .before .before .before .before .before .before .before .before .before .before .before .feed .ensures)) (c .before .before .before .before .before .before .before .before .before .answer-table .ensures) (now (c .before .before .before .before .before .before .before .before .before .before .before .before .before .before .before .before .before .before .before .before .before .before .before .before .before .before .before .args .answer)) _ (c .before .before .same-sheet .ensures)
 
 pub is-answer-spec : {M : Type 1} → statement M
 is-answer-spec =

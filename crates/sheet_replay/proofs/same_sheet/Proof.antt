@@ -1,12 +1,11 @@
-use mathlib.Core.Path.{_≡_, refl}
-use mathlib.Core.Bool.{false≢true}
+use mathlib.Core.Path.{_≡_, refl, sym, _∙_}
 use Prim.Native.Nat.{_+_, _≤_}
 use native.Mathlib.Omega.{arith}
 use lib.ListN.{length}
 use denote.Ref.{now}
-use borrow.Author.Tests.{not-true, not-false, eqb-true}
+use borrow.Author.Tests.{not-true, not-false}
 use Rattle.sheet_output.specs.Left.{rowsLeft}
-use Rattle.sheet_replay.proofs.Comparing.{Held, held-start, held-within, held-next, held-all}
+use Rattle.sheet_replay.proofs.Comparing.{Held, held-start, held-within, held-next, held-differs, held-all, follows}
 use borrow.Author.Needs.{needs}
 use Rattle.sheet_replay.proofs.same_sheet.Statement.{statement}
 use Rattle.sheet_replay.proofs.same_sheet.Tie as tie
@@ -35,18 +34,21 @@ same-text-requires c κs = c .before .before .before .before .before .before .be
 add-at : tie.Need-add-at Inv-loop μ-loop
 add-at c =
     let p = c .before .before .before .before .before .page in
-    let h : c .before .before .before .before .before .before .before .before .before .loop .at + p .result .n ≤ length (now (c .before .before .before .before .before .before .before .before .before .before .before .before .before .before .before .args .answer)) = held-within _ _ _ _ _ _ _ _ (p .ensures) (c .before .same-text .ensures (not-false _ (c .if2 .left))) in
+    let h : c .before .before .before .before .before .before .before .before .before .loop .at + p .result .n ≤ length (now (c .before .before .before .before .before .before .before .before .before .before .before .before .before .before .before .args .answer)) = held-within _ _ _ _ _ _ _ _ (p .ensures) (follows _ _ _ (c .before .before .before .before .before .before .before .before .before .loop .inv .1 .within) (sym (c .before .same-text .ensures) ∙ not-false _ (c .if2 .left))) in
     omega (arith, h, c .before .before .before .before .before .before .before .before .before .before .before .before .before .before .before .good)
+
+returns : tie.Need-returns Inv-loop μ-loop
+returns c = held-differs _ _ _ _ _ _ _ _ (c .before .before .before .before .before .before .before .before .before .loop .inv .1) (c .before .before .before .before .before .page .ensures) (sym (c .before .same-text .ensures) ∙ not-true _ (c .if2 .taken))
 
 loop-less : tie.Need-loop-less Inv-loop μ-loop
 loop-less c = c .before .before .before .before .before .before .page .ensures .fewer (not-true _ (c .before .before .before .before .before .before .before .before .if1 .taken))
 
 loop-again : tie.Need-loop-again Inv-loop μ-loop
 loop-again c =
-    (search needs, held-next _ _ _ _ _ _ _ _ (c .before .before .before .before .before .before .before .before .before .before .loop .inv .1) (c .before .before .before .before .before .before .page .ensures) (c .before .before .same-text .ensures (not-false _ (c .before .if2 .left))))
+    (search needs, held-next _ _ _ _ _ _ _ _ (c .before .before .before .before .before .before .before .before .before .before .loop .inv .1) (c .before .before .before .before .before .before .page .ensures) (follows _ _ _ (c .before .before .before .before .before .before .before .before .before .before .loop .inv .1 .within) (sym (c .before .before .same-text .ensures) ∙ not-false _ (c .before .if2 .left))))
 
 returns-2 : tie.Need-returns-2 Inv-loop μ-loop
-returns-2 c e = held-all _ _ _ _ _ _ (c .before .before .loop .inv .1) (not-false _ (c .if1 .left)) (eqb-true _ _ e)
+returns-2 c = held-all _ _ _ _ _ _ (c .before .before .loop .inv .1) (not-false _ (c .if1 .left))
 
 pub same-sheet-spec : {M : Type 1} → statement M
 same-sheet-spec =
@@ -62,7 +64,7 @@ same-sheet-spec =
     aggregate
     same-text-requires
     (λ c. search needs)
-    (λ c e. absurd (false≢true e))
+    returns
     add-at
     loop-less
     loop-again

@@ -1,0 +1,4 @@
+-- The laws that belong to no one function.
+pub mod Spelling
+pub mod Texts
+pub mod Reading
