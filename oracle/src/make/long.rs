@@ -16,6 +16,9 @@ const PAGE: usize = 65_536;
 /// Least of bytes of every sheet.
 const LONG: usize = 20_001;
 
+/// How far a sheet and its answer may go beyond what is asked for.
+const NEAR: usize = 16_384;
+
 /// What a sheet is: the number that refuses it or none, the least of its bytes and of its answer's.
 #[derive(Clone, Copy)]
 struct Shape {
@@ -80,8 +83,9 @@ pub fn make(rng: &mut Rng, seed: u64) -> Vec<u8> {
             Some(rule) => sheet_of(&broken(job, rng, u32::from(rule))),
         };
         let found = answer(&sheet, Room::default());
-        let fits = (shape.sheet..shape.sheet + 20_000).contains(&sheet.len());
-        if found.number == shape.number && fits && found.text.len() >= shape.answer {
+        let near = |least: usize, bytes: usize| (least..least + NEAR).contains(&bytes);
+        let answered = shape.number.is_some() || near(shape.answer, found.text.len());
+        if found.number == shape.number && near(shape.sheet, sheet.len()) && answered {
             return sheet;
         }
     }
@@ -95,11 +99,11 @@ fn style_of(shape: Shape) -> Style {
         insts: if page { (200, 400) } else { (60, 120) },
         blocks: if page { (20, 60) } else { (5, 20) },
         classes: (4, 9),
-        values: if page { (260, 300) } else { (40, 60) },
+        values: if page { (270, 310) } else { (40, 60) },
         segs: (1, 4),
         uses: (0, 7),
         hints: if page { (500, 1000) } else { (100, 300) },
-        kinds: if cut { [2, 4, 4, 0, 60, 6, 0, 0, 3, 3] } else { [20, 30, 20, 0, 25, 2, 0, 0, 3, 10] },
+        kinds: if cut { [2, 4, 4, 0, 60, 6, 0, 0, 3, 3] } else { [20, 30, 20, 0, 12, 1, 0, 0, 3, 10] },
         crowd: 12,
         books: if cut { [0, 0, 0, 1] } else { [4, 0, 0, 1] },
         ..style::of("classes").unwrap()

@@ -124,10 +124,10 @@ impl Weave {
 
     /// As many sets as the groups have places, some of two values; operands that use them all; cuts between.
     fn draw(&self, job: &mut Job, rng: &mut Rng) -> Vec<Piece> {
-        let kind = rng.weighted(&[70, 20, 10]) as u32;
+        let kind = rng.weighted(&[80, 15, 5]) as u32;
         let last = job.inst_count() as u32;
         let mut strands: Vec<Vec<Piece>> = (0..SIZES[kind as usize]).map(|_| self.strand(job, rng, last)).collect();
-        let breaks: Vec<u32> = (0..strands.len()).map(|place| if place == 0 { 25 } else { rng.within((20, 90)) }).collect();
+        let breaks: Vec<u32> = (0..strands.len()).map(|place| if place == 0 { 30 } else { rng.within((40, 90)) }).collect();
         let slot = job.vgroups.len() as u32;
         let mut inst = rng.below(4);
         while inst + 1 < last {

@@ -224,12 +224,10 @@ fn fits_uses(rng: &mut Rng) -> Job {
     draft.done(rng)
 }
 
-/// Groups full, both places of most of them taken.
+/// Groups full, both places of a hundred of them taken.
 fn fits_pairs(rng: &mut Rng) -> Job {
     let mut draft = Draft::new(rng);
-    for _ in 0..4 {
-        draft.pairs(draft::INSTS);
-    }
+    draft.pairs(draft::INSTS);
     fill(&mut draft, rng, GROUPS, limit(GROUPS));
     draft.done(rng)
 }
