@@ -54,7 +54,10 @@ fn store(folder: &Path, profile: &str, seeds: std::ops::Range<u64>, most: usize)
         let room = frame.room.map_or("-".to_string(), Room::text);
         let stop = found.cause.as_deref().unwrap_or("-");
         let what = what(profile, seed).unwrap_or("-".to_string());
-        writeln!(manifest, "{job}\t{out}\t{room}\t{stop}\t{profile} {seed}\t{what}")?;
+        writeln!(
+            manifest,
+            "{job}\t{out}\t{room}\t{stop}\t{profile} {seed}\t{what}"
+        )?;
         next += 1;
     }
     manifest.flush()

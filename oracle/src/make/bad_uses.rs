@@ -32,7 +32,9 @@ const CAUSES: &[(&str, &[u32], Edit)] = &[
 
 /// The cause and the kind that a seed stands for: as many seeds in a row as there are pairs give each once.
 fn case(seed: u64) -> (&'static str, u32, Edit) {
-    let pairs = CAUSES.iter().flat_map(|&(name, kinds, edit)| kinds.iter().map(move |&kind| (name, kind, edit)));
+    let pairs = CAUSES
+        .iter()
+        .flat_map(|&(name, kinds, edit)| kinds.iter().map(move |&kind| (name, kind, edit)));
     let pairs: Vec<_> = pairs.collect();
     pairs[(seed % pairs.len() as u64) as usize]
 }
@@ -46,7 +48,10 @@ pub fn make(rng: &mut Rng, seed: u64) -> Job {
     let (_, kind, edit) = case(seed);
     loop {
         let mut job = soup::make(rng, &style::of("groups").unwrap());
-        if job.segs.is_empty() || job.regs.is_empty() || !job.classes.iter().any(|class| class.size > 1) {
+        if job.segs.is_empty()
+            || job.regs.is_empty()
+            || !job.classes.iter().any(|class| class.size > 1)
+        {
             continue;
         }
         let at = rng.below(job.segs.len() as u32) as usize;
@@ -61,7 +66,10 @@ pub fn make(rng: &mut Rng, seed: u64) -> Job {
 pub fn spoil(mut job: Job, rng: &mut Rng, seed: u64) -> Job {
     let (_, kind, edit) = case(seed);
     let ready = !job.regs.is_empty();
-    let done = ready && (0..job.segs.len()).rev().any(|at| edit(&mut job, rng, at, kind).is_some());
+    let done = ready
+        && (0..job.segs.len())
+            .rev()
+            .any(|at| edit(&mut job, rng, at, kind).is_some());
     debug_assert!(!done || entry::refusal(&job) == Some(7));
     job
 }
@@ -99,28 +107,45 @@ fn sound(job: &mut Job, rng: &mut Rng, at: usize, kind: u32, inst: u32) -> Use {
 /// Slot, class and index of a new operand that has the segment's value.
 fn group_fields(job: &mut Job, rng: &mut Rng, at: usize, inst: u32) -> [u32; 4] {
     let numbers = 0..job.classes.len() as u32;
-    let classes: Vec<u32> = numbers.filter(|&class| job.classes[class as usize].size > 1).collect();
+    let classes: Vec<u32> = numbers
+        .filter(|&class| job.classes[class as usize].size > 1)
+        .collect();
     let class = rng.pick(&classes);
     let size = job.classes[class as usize].size;
     let index = rng.below(size);
-    let mut members: Vec<u32> = (0..size).map(|_| rng.below(job.values.len() as u32)).collect();
+    let mut members: Vec<u32> = (0..size)
+        .map(|_| rng.below(job.values.len() as u32))
+        .collect();
     members[index as usize] = job.segs[at].value;
     let vgroup = job.vgroups.len() as u32;
     job.vgroups.push(members);
     let slot = free_slot(job, inst);
-    job.operands.push(Operand { inst, slot, vgroup, class });
+    job.operands.push(Operand {
+        inst,
+        slot,
+        vgroup,
+        class,
+    });
     [slot, class, index, 0]
 }
 
 /// The lowest slot that no operand of the instruction has.
 fn free_slot(job: &Job, inst: u32) -> u32 {
-    let taken = |slot: u32| job.operands.iter().any(|op| (op.inst, op.slot) == (inst, slot));
+    let taken = |slot: u32| {
+        job.operands
+            .iter()
+            .any(|op| (op.inst, op.slot) == (inst, slot))
+    };
     (0..).find(|&slot| !taken(slot)).unwrap_or(0)
 }
 
 /// Puts a use behind those of its segment that come before it.
 fn put(job: &mut Job, at: usize, u: Use) {
-    let before = job.uses_of(&job.segs[at]).iter().filter(|other| other.inst <= u.inst).count();
+    let before = job
+        .uses_of(&job.segs[at])
+        .iter()
+        .filter(|other| other.inst <= u.inst)
+        .count();
     put_at(job, at, job.segs[at].uses.start + before, u);
 }
 
@@ -156,7 +181,10 @@ fn put_changed(
 fn falls(job: &mut Job, rng: &mut Rng, at: usize, kind: u32) -> Option<()> {
     let end = job.segs[at].uses.end;
     let last = job.uses_of(&job.segs[at]).last()?.inst;
-    let insts: Vec<u32> = insts(job, at, kind).into_iter().filter(|&inst| inst < last).collect();
+    let insts: Vec<u32> = insts(job, at, kind)
+        .into_iter()
+        .filter(|&inst| inst < last)
+        .collect();
     if insts.is_empty() {
         return None;
     }
@@ -186,7 +214,14 @@ fn far_inst(job: &mut Job, rng: &mut Rng, at: usize, kind: u32) -> Option<()> {
     let good = rng.pick(&insts);
     let mut u = sound(job, rng, at, kind, good);
     let count = job.inst_count() as u32;
-    u.inst = rng.pick(&[count, count + 1, 65_536 + good, (1 << 30) + good, (3 << 30) + good, u32::MAX]);
+    u.inst = rng.pick(&[
+        count,
+        count + 1,
+        65_536 + good,
+        (1 << 30) + good,
+        (3 << 30) + good,
+        u32::MAX,
+    ]);
     put(job, at, u);
     Some(())
 }
@@ -202,23 +237,36 @@ fn class(job: &mut Job, rng: &mut Rng, at: usize, kind: u32) -> Option<()> {
 fn register(job: &mut Job, rng: &mut Rng, at: usize, kind: u32) -> Option<()> {
     put_changed(job, rng, at, kind, 0, |job, rng, u| {
         let count = job.regs.len() as u32;
-        Some(rng.pick(&[count, count, 255, 256 + u.fields[0], 65_536 + u.fields[0], u32::MAX]))
+        Some(rng.pick(&[
+            count,
+            count,
+            255,
+            256 + u.fields[0],
+            65_536 + u.fields[0],
+            u32::MAX,
+        ]))
     })
 }
 
 /// A slot whose low sixteen bits are right.
 fn slot(job: &mut Job, rng: &mut Rng, at: usize, kind: u32) -> Option<()> {
-    put_changed(job, rng, at, kind, 0, |_, rng, u| Some(65_536 * rng.pick(&[1, 1, 2, 65_535]) + u.fields[0]))
+    put_changed(job, rng, at, kind, 0, |_, rng, u| {
+        Some(65_536 * rng.pick(&[1, 1, 2, 65_535]) + u.fields[0])
+    })
 }
 
 fn def_slot(job: &mut Job, rng: &mut Rng, at: usize, kind: u32) -> Option<()> {
-    put_changed(job, rng, at, kind, 1, |_, rng, u| Some(65_536 * rng.pick(&[1, 1, 2, 65_535]) + u.fields[1]))
+    put_changed(job, rng, at, kind, 1, |_, rng, u| {
+        Some(65_536 * rng.pick(&[1, 1, 2, 65_535]) + u.fields[1])
+    })
 }
 
 /// An index whose low eight bits are right.
 fn index(job: &mut Job, rng: &mut Rng, at: usize, kind: u32) -> Option<()> {
     let field = if kind == 2 { 3 } else { 2 };
-    put_changed(job, rng, at, kind, field, |_, rng, u| Some(256 * rng.pick(&[1, 1, 2, 256, 65_536]) + u.fields[field]))
+    put_changed(job, rng, at, kind, field, |_, rng, u| {
+        Some(256 * rng.pick(&[1, 1, 2, 256, 65_536]) + u.fields[field])
+    })
 }
 
 /// A use of the kind that only a result has.
@@ -228,7 +276,15 @@ fn conflict(job: &mut Job, rng: &mut Rng, at: usize, kind: u32) -> Option<()> {
         return None;
     }
     let inst = rng.pick(&insts);
-    put(job, at, Use { kind, inst, fields: [0; 4] });
+    put(
+        job,
+        at,
+        Use {
+            kind,
+            inst,
+            fields: [0; 4],
+        },
+    );
     Some(())
 }
 
@@ -238,7 +294,11 @@ fn before_from(job: &mut Job, rng: &mut Rng, at: usize, kind: u32) -> Option<()>
     if first == 0 {
         return None;
     }
-    let inst = if rng.chance(75) { first - 1 } else { rng.below(first) };
+    let inst = if rng.chance(75) {
+        first - 1
+    } else {
+        rng.below(first)
+    };
     let u = sound(job, rng, at, kind, inst);
     put(job, at, u);
     Some(())
@@ -249,7 +309,11 @@ fn behind_to(job: &mut Job, rng: &mut Rng, at: usize, kind: u32) -> Option<()> {
     let seg = &job.segs[at];
     let ends_above = |&inst: &u32| seg.from < 4 * inst + 4 && 4 * inst + end_of(kind) > seg.to;
     let insts: Vec<u32> = (0..job.inst_count() as u32).filter(ends_above).collect();
-    let inst = if rng.chance(75) { *insts.first()? } else { *insts.last()? };
+    let inst = if rng.chance(75) {
+        *insts.first()?
+    } else {
+        *insts.last()?
+    };
     let u = sound(job, rng, at, kind, inst);
     put(job, at, u);
     Some(())
@@ -258,8 +322,16 @@ fn behind_to(job: &mut Job, rng: &mut Rng, at: usize, kind: u32) -> Option<()> {
 /// A slot that no operand has at this instruction, though one has it elsewhere where that can be.
 fn no_operand(job: &mut Job, rng: &mut Rng, at: usize, kind: u32) -> Option<()> {
     put_changed(job, rng, at, kind, 0, |job, rng, u| {
-        let others = job.operands.iter().filter(|op| op.inst != u.inst).map(|op| op.slot);
-        let here = |slot: u32| job.operands.iter().any(|op| (op.inst, op.slot) == (u.inst, slot));
+        let others = job
+            .operands
+            .iter()
+            .filter(|op| op.inst != u.inst)
+            .map(|op| op.slot);
+        let here = |slot: u32| {
+            job.operands
+                .iter()
+                .any(|op| (op.inst, op.slot) == (u.inst, slot))
+        };
         let mut slots: Vec<u32> = others.filter(|&slot| !here(slot)).collect();
         slots.push(free_slot(job, u.inst));
         Some(rng.pick(&slots))
@@ -287,7 +359,8 @@ fn other_value(job: &mut Job, rng: &mut Rng, at: usize, kind: u32) -> Option<()>
         let members = job.vgroups.last()?;
         let leader = |value: u32| job.values[value as usize].leader;
         let others = (0..members.len()).filter(|&place| members[place] != value);
-        let (near, far): (Vec<usize>, Vec<usize>) = others.partition(|&place| leader(members[place]) == leader(value));
+        let (near, far): (Vec<usize>, Vec<usize>) =
+            others.partition(|&place| leader(members[place]) == leader(value));
         let places = if near.is_empty() { far } else { near };
         (!places.is_empty()).then(|| rng.pick(&places) as u32)
     })

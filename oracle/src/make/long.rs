@@ -28,11 +28,19 @@ struct Shape {
 }
 
 const fn accepted(sheet: usize, answer: usize) -> Shape {
-    Shape { number: None, sheet, answer }
+    Shape {
+        number: None,
+        sheet,
+        answer,
+    }
 }
 
 const fn refused(number: u8, sheet: usize) -> Shape {
-    Shape { number: Some(number), sheet, answer: 0 }
+    Shape {
+        number: Some(number),
+        sheet,
+        answer: 0,
+    }
 }
 
 /// The shapes, each with how many seeds in a row have it; behind the last the first comes again.
@@ -54,15 +62,23 @@ const SHAPES: [(u64, Shape); 14] = [
 ];
 
 fn shape(seed: u64) -> Shape {
-    let mut shapes = SHAPES.iter().flat_map(|&(times, shape)| (0..times).map(move |_| shape));
+    let mut shapes = SHAPES
+        .iter()
+        .flat_map(|&(times, shape)| (0..times).map(move |_| shape));
     let count: u64 = SHAPES.iter().map(|&(times, _)| times).sum();
     shapes.nth((seed % count) as usize).unwrap_or(SHAPES[0].1)
 }
 
 pub fn what(seed: u64) -> String {
     let shape = shape(seed);
-    let outcome = shape.number.map_or("accepted".to_string(), |number| format!("refused {number}"));
-    let pages = if shape.sheet > PAGE { "over a page" } else { "over 20,000 bytes" };
+    let outcome = shape
+        .number
+        .map_or("accepted".to_string(), |number| format!("refused {number}"));
+    let pages = if shape.sheet > PAGE {
+        "over a page"
+    } else {
+        "over 20,000 bytes"
+    };
     let answer = match shape.answer / PAGE {
         0 => "",
         1 => ", the answer over a page",
@@ -103,7 +119,11 @@ fn style_of(shape: Shape) -> Style {
         segs: (1, 4),
         uses: (0, 7),
         hints: if page { (500, 1000) } else { (100, 300) },
-        kinds: if cut { [2, 4, 4, 0, 60, 6, 0, 0, 3, 3] } else { [20, 30, 20, 0, 12, 1, 0, 0, 3, 10] },
+        kinds: if cut {
+            [2, 4, 4, 0, 60, 6, 0, 0, 3, 3]
+        } else {
+            [20, 30, 20, 0, 12, 1, 0, 0, 3, 10]
+        },
         crowd: 12,
         books: if cut { [0, 0, 0, 1] } else { [4, 0, 0, 1] },
         ..style::of("classes").unwrap()
@@ -126,10 +146,17 @@ fn job(rng: &mut Rng, shape: Shape) -> (Job, Weave) {
 /// Takes the uses away from every set that meets a stop. Without groups no set touches another.
 fn tame(job: &mut Job) {
     let leader = |job: &Job, seg: &Seg| job.values[seg.value as usize].leader;
-    let sets: Vec<Vec<Seg>> = job.segs.chunk_by(|a, b| leader(job, a) == leader(job, b)).map(<[Seg]>::to_vec).collect();
+    let sets: Vec<Vec<Seg>> = job
+        .segs
+        .chunk_by(|a, b| leader(job, a) == leader(job, b))
+        .map(<[Seg]>::to_vec)
+        .collect();
     let (mut segs, mut uses) = (Vec::new(), Vec::new());
     for set in sets {
-        let alone = Job { segs: set.clone(), ..job.clone() };
+        let alone = Job {
+            segs: set.clone(),
+            ..job.clone()
+        };
         let kept = run(&alone, None).end == End::Done;
         for mut seg in set {
             let first = uses.len();
@@ -149,29 +176,60 @@ fn broken(mut job: Job, rng: &mut Rng, rule: u32) -> Job {
     job
 }
 
-/// A last set that meets a stop: two definitions, an operand mapped twice, or a class of another bank.
+/// A last set that meets a stop: two definitions, a class of another bank, or an operand mapped twice.
 fn with_stop(mut job: Job, rng: &mut Rng, weave: &Weave) -> Job {
     let value = weave.value(&mut job, None);
-    let class_use = |kind: u32, class: u32| Use { kind, inst: 1, fields: [0, class, 0, 0] };
+    let [first, second] = [0, 1].map(|number| weave.leaf(number));
     let uses = match rng.below(3) {
-        0 => vec![class_use(CLASS_DEF, weave.leaf(0)), class_use(CLASS_DEF, weave.leaf(1))],
-        1 => vec![class_use(CLASS_USE, weave.leaf(0)), class_use(CLASS_USE, 1)],
-        _ => {
-            let (vgroup, slot) = (job.vgroups.len() as u32, 60_000);
-            job.vgroups.push(vec![value, value]);
-            job.operands.push(Operand { inst: 1, slot, vgroup, class: weave.pairs() });
-            vec![Use { kind: GROUP_USE, inst: 1, fields: [slot, weave.pairs(), 0, 0] }; 2]
-        }
+        0 => vec![class_use(CLASS_DEF, first), class_use(CLASS_DEF, second)],
+        1 => vec![class_use(CLASS_USE, first), class_use(CLASS_USE, 1)],
+        _ => vec![group_use(&mut job, value, weave.pairs()); 2],
     };
-    let piece = Piece { value, from: 0, to: 8, flags: 0, uses };
+    let (from, to, flags) = (0, 8, 0);
+    let piece = Piece {
+        value,
+        from,
+        to,
+        flags,
+        uses,
+    };
     pieces::put(&mut job, rng, vec![piece]);
     job
+}
+
+fn class_use(kind: u32, class: u32) -> Use {
+    let fields = [0, class, 0, 0];
+    Use {
+        kind,
+        inst: 1,
+        fields,
+    }
+}
+
+/// A use of an operand of its own.
+fn group_use(job: &mut Job, value: u32, class: u32) -> Use {
+    let (inst, slot, vgroup) = (1, 60_000, job.vgroups.len() as u32);
+    job.vgroups.push(vec![value, value]);
+    job.operands.push(Operand {
+        inst,
+        slot,
+        vgroup,
+        class,
+    });
+    let fields = [slot, class, 0, 0];
+    Use {
+        kind: GROUP_USE,
+        inst,
+        fields,
+    }
 }
 
 /// A form of a number or of a line that no record has, within the last hundred bytes.
 fn damaged(rng: &mut Rng, mut sheet: Vec<u8>) -> Vec<u8> {
     let body = sheet.len() - b"end\n".len();
-    let near: Vec<usize> = (body - 96..body).filter(|&place| sheet[place] == b'\t').collect();
+    let near: Vec<usize> = (body - 96..body)
+        .filter(|&place| sheet[place] == b'\t')
+        .collect();
     let place = rng.pick(&near);
     match rng.below(6) {
         0 => sheet.truncate(body),

@@ -1,8 +1,8 @@
 //! Generated job sheets: the same profile and seed always give the same sheet.
 
+mod bad_uses;
 mod book;
 mod braids;
-mod bad_uses;
 mod breaks;
 mod damage;
 mod falling;
@@ -25,7 +25,18 @@ use rng::Rng;
 pub use write::sheet_of;
 
 pub const PROFILES: [&str; 12] = [
-    "small", "classes", "groups", "hints", "floats", "limits", "damaged", "rooms", "bad-uses", "full-tables", "many-merges", "long-sheets",
+    "small",
+    "classes",
+    "groups",
+    "hints",
+    "floats",
+    "limits",
+    "damaged",
+    "rooms",
+    "bad-uses",
+    "full-tables",
+    "many-merges",
+    "long-sheets",
 ];
 
 /// One sheet of a profile, with a room where the profile sets one.
@@ -42,7 +53,10 @@ pub fn make(profile: &str, seed: u64) -> Option<Frame> {
             bytes: damage::make(&mut rng),
             room: None,
         },
-        "long-sheets" => Frame { bytes: long::make(&mut rng, seed), room: None },
+        "long-sheets" => Frame {
+            bytes: long::make(&mut rng, seed),
+            room: None,
+        },
         "rooms" => rooms::make(&mut rng),
         "bad-uses" => plain(bad_uses::make(&mut rng, seed)),
         "full-tables" => plain(full::make(&mut rng, seed)),

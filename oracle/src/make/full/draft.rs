@@ -1,7 +1,8 @@
 //! A job built of parts whose rows in the result tables are known: registers, segments, uses, groups.
 
 use crate::job::{
-    BLOCKPARAM_IN, BLOCKPARAM_OUT, Block, CLASS_DEF, CLASS_USE, Class, GROUP_USE, Job, Operand, Use, Value,
+    BLOCKPARAM_IN, BLOCKPARAM_OUT, Block, CLASS_DEF, CLASS_USE, Class, GROUP_USE, Job, Operand,
+    Use, Value,
 };
 use crate::make::pieces::{self, Piece};
 use crate::make::rng::Rng;
@@ -42,15 +43,26 @@ pub fn leaf(number: u32) -> u32 {
 }
 
 pub fn class_use(inst: u32, class: u32) -> Use {
-    Use { kind: CLASS_USE, inst, fields: [0, class, 0, 0] }
+    Use {
+        kind: CLASS_USE,
+        inst,
+        fields: [0, class, 0, 0],
+    }
 }
 
 pub fn class_def(inst: u32, class: u32) -> Use {
-    Use { kind: CLASS_DEF, ..class_use(inst, class) }
+    Use {
+        kind: CLASS_DEF,
+        ..class_use(inst, class)
+    }
 }
 
 pub fn group_use(op: &Operand, index: u32) -> Use {
-    Use { kind: GROUP_USE, inst: op.inst, fields: [op.slot, op.class, index, 0] }
+    Use {
+        kind: GROUP_USE,
+        inst: op.inst,
+        fields: [op.slot, op.class, index, 0],
+    }
 }
 
 fn mask_of(class: u32) -> u32 {
@@ -74,16 +86,33 @@ fn size_of(class: u32) -> u32 {
 
 impl Draft {
     pub fn new(rng: &mut Rng) -> Self {
-        let mut job = Job { adjust: rng.below(3), scales: [1.0; 3], banks: vec![0], ..Job::default() };
+        let mut job = Job {
+            adjust: rng.below(3),
+            scales: [1.0; 3],
+            banks: vec![0],
+            ..Job::default()
+        };
         for class in 0..32 {
             let (mask, size) = (mask_of(class), size_of(class));
-            job.classes.push(Class { mask, cost: 1.0, size, spillslots: rng.chance(20) });
+            job.classes.push(Class {
+                mask,
+                cost: 1.0,
+                size,
+                spillslots: rng.chance(20),
+            });
         }
         let insts = rng.within((STACKS, INSTS - 1));
         for insts in [insts, INSTS - insts] {
-            job.blocks.push(Block { insts, frequency: rng.below(9) as f32 });
+            job.blocks.push(Block {
+                insts,
+                frequency: rng.below(9) as f32,
+            });
         }
-        Self { job, pieces: Vec::new(), rows: [0; 4] }
+        Self {
+            job,
+            pieces: Vec::new(),
+            rows: [0; 4],
+        }
     }
 
     pub fn done(mut self, rng: &mut Rng) -> Job {
@@ -100,16 +129,31 @@ impl Draft {
     /// A new set of one value.
     pub fn set(&mut self) -> u32 {
         let number = self.job.values.len() as u32;
-        self.job.values.push(Value { bank: 0, leader: number, remat: 0 });
+        self.job.values.push(Value {
+            bank: 0,
+            leader: number,
+            remat: 0,
+        });
         number
     }
 
     pub fn piece(&mut self, value: u32, from: u32, to: u32, uses: Vec<Use>) {
-        self.pieces.push(Piece { value, from, to, flags: 0, uses });
+        self.pieces.push(Piece {
+            value,
+            from,
+            to,
+            flags: 0,
+            uses,
+        });
     }
 
     pub fn operand(&mut self, inst: u32, slot: u32, vgroup: usize, class: u32) -> Operand {
-        let operand = Operand { inst, slot, vgroup: vgroup as u32, class };
+        let operand = Operand {
+            inst,
+            slot,
+            vgroup: vgroup as u32,
+            class,
+        };
         self.job.operands.push(operand);
         operand
     }
@@ -142,7 +186,11 @@ impl Draft {
     /// A set without class uses, whose uses are counted alone.
     pub fn pad(&mut self, count: usize) {
         let value = self.set();
-        let u = Use { kind: BLOCKPARAM_OUT, inst: 0, fields: [0; 4] };
+        let u = Use {
+            kind: BLOCKPARAM_OUT,
+            inst: 0,
+            fields: [0; 4],
+        };
         self.piece(value, 0, 4, vec![u; count]);
         self.add([1, 1, count, 0]);
     }
@@ -156,7 +204,12 @@ impl Draft {
                 let count = left.min(LEAVES);
                 left -= count;
                 uses.extend((0..count).map(|number| class_use(inst, leaf(inst + number))));
-                self.add([count as usize, count as usize, (2 * count).saturating_sub(1) as usize, 0]);
+                self.add([
+                    count as usize,
+                    count as usize,
+                    (2 * count).saturating_sub(1) as usize,
+                    0,
+                ]);
             }
             self.piece(value, 0, 4 * STACKS, uses);
         }
@@ -164,10 +217,17 @@ impl Draft {
 
     /// The same with a block parameter before each instruction's uses, which stands in each of its registers.
     pub fn led_stacks(&mut self, stacks: usize, each: u32) {
-        for chunk in (0..stacks as u32).collect::<Vec<_>>().chunks(STACKS as usize) {
+        for chunk in (0..stacks as u32)
+            .collect::<Vec<_>>()
+            .chunks(STACKS as usize)
+        {
             let value = self.set();
             for inst in 0..chunk.len() as u32 {
-                let mut uses = vec![Use { kind: BLOCKPARAM_IN, inst, fields: [0; 4] }];
+                let mut uses = vec![Use {
+                    kind: BLOCKPARAM_IN,
+                    inst,
+                    fields: [0; 4],
+                }];
                 uses.extend((0..each).map(|number| class_use(inst, leaf(inst + number))));
                 self.piece(value, 4 * inst, 4 * inst + 4, uses);
                 self.add([each as usize, each as usize, 3 * each as usize - 1, 0]);
@@ -178,7 +238,14 @@ impl Draft {
     /// A block parameter, a use that stays, and many that are turned, of six classes: few registers, many uses.
     pub fn crowd(&mut self, turned: u32) {
         let value = self.set();
-        let mut uses = vec![Use { kind: BLOCKPARAM_IN, inst: 0, fields: [0; 4] }, class_use(0, leaf(0))];
+        let mut uses = vec![
+            Use {
+                kind: BLOCKPARAM_IN,
+                inst: 0,
+                fields: [0; 4],
+            },
+            class_use(0, leaf(0)),
+        ];
         uses.extend((0..turned).map(|number| class_use(0, leaf(1 + number % 6))));
         self.piece(value, 0, 4, uses);
         self.add([7, 7, 2 + 2 * turned as usize + 6, 0]);
@@ -208,8 +275,9 @@ impl Draft {
         let (first, second, slot) = (self.set(), self.set(), self.next_slot());
         let vgroup = self.job.vgroups.len();
         self.job.vgroups.push(vec![first, second]);
-        let ops: Vec<Operand> =
-            (0..count).map(|inst| self.operand(inst, slot, vgroup, PAIRS[inst as usize % 2])).collect();
+        let ops: Vec<Operand> = (0..count)
+            .map(|inst| self.operand(inst, slot, vgroup, PAIRS[inst as usize % 2]))
+            .collect();
         for (index, value) in [first, second].into_iter().enumerate() {
             let uses = ops.iter().map(|op| group_use(op, index as u32)).collect();
             self.piece(value, 0, 4 * INSTS, uses);
@@ -238,8 +306,15 @@ impl Draft {
     pub fn close(&mut self, open: Open) {
         let value = self.set();
         self.job.vgroups[open.vgroup][1..].fill(value);
-        let ops = self.job.operands.iter().filter(|op| op.vgroup as usize == open.vgroup);
-        let uses = ops.enumerate().map(|(number, op)| group_use(op, 1 + number as u32 % 2)).collect();
+        let ops = self
+            .job
+            .operands
+            .iter()
+            .filter(|op| op.vgroup as usize == open.vgroup);
+        let uses = ops
+            .enumerate()
+            .map(|(number, op)| group_use(op, 1 + number as u32 % 2))
+            .collect();
         self.piece(value, 0, 4 * INSTS, uses);
         let count = open.count as usize;
         self.add([count.min(2), count, count, 0]);

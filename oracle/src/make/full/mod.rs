@@ -63,7 +63,9 @@ fn overfull() -> Vec<Case> {
             for behind in 0..if table == GROUPS { 3 } else { 2 } {
                 let how = ["by one", "more behind", "far more behind"][behind];
                 let what = format!("9: {name}, {how}: {}", straw.name);
-                cases.push(case(what, move |rng| over(rng, table, &STRAWS[table].1[place], behind as u32)));
+                cases.push(case(what, move |rng| {
+                    over(rng, table, &STRAWS[table].1[place], behind as u32)
+                }));
             }
         }
     }
@@ -72,23 +74,34 @@ fn overfull() -> Vec<Case> {
 
 /// 8 and 9 in one register, in one set and in different sets.
 fn against() -> Vec<Case> {
-    let mut cases = Vec::new();
-    let both = [(3, REGISTERS), (3, SEGMENTS), (3, USES), (3, GROUPS), (4, SEGMENTS), (4, USES)];
-    for (stop, table) in both {
-        let what = format!("8: {}, and 9 for {}, in one register", STOPS[stop].name, STRAWS[table].0);
-        cases.push(case(what, move |rng| full_then(rng, table, &STOPS[stop])));
-    }
-    for stop in [0, 1, 2, 4, 5] {
+    let mut cases = in_one_register();
+    cases.extend([0, 1, 2, 4, 5].map(|stop| {
         let what = format!("8: {}, the groups full", STOPS[stop].name);
-        cases.push(case(what, move |rng| full_then(rng, GROUPS, &STOPS[stop])));
-    }
+        case(what, move |rng| full_then(rng, GROUPS, &STOPS[stop]))
+    }));
     for (stop, Stop { name, .. }) in STOPS.iter().enumerate() {
-        cases.push(case(format!("9: groups, before 8: {name}"), move |rng| nine_then(rng, &STOPS[stop])));
-        cases.push(case(format!("8: {name}, before 9 for groups"), move |rng| then_nine(rng, &STOPS[stop])));
+        let nine = format!("9: groups, before 8: {name}");
+        cases.push(case(nine, move |rng| nine_then(rng, &STOPS[stop])));
+        let eight = format!("8: {name}, before 9 for groups");
+        cases.push(case(eight, move |rng| then_nine(rng, &STOPS[stop])));
     }
-    cases.push(case("9: groups, before 8 of its set: none-admitted".into(), |rng| own_then_conflict(rng)));
-    cases.push(case("9: groups, before 8 of its set: turned-def".into(), |rng| part_then_def(rng)));
+    let own = "9: groups, before 8 of its set: none-admitted".into();
+    let part = "9: groups, before 8 of its set: turned-def".into();
+    cases.extend([case(own, own_then_conflict), case(part, part_then_def)]);
     cases
+}
+
+/// The two stops that a register meets while it is placed, with the tables that it would overfill.
+fn in_one_register() -> Vec<Case> {
+    let twice = [REGISTERS, SEGMENTS, USES, GROUPS].map(|table| (3, table));
+    let overlap = [SEGMENTS, USES].map(|table| (4, table));
+    let both = twice.into_iter().chain(overlap);
+    let cases = both.map(|(stop, table): (usize, usize)| {
+        let (stop_name, table_name) = (STOPS[stop].name, STRAWS[table].0);
+        let what = format!("8: {stop_name}, and 9 for {table_name}, in one register");
+        case(what, move |rng| full_then(rng, table, &STOPS[stop]))
+    });
+    cases.collect()
 }
 
 /// A few parts of every kind, so that no two jobs have the same sets before those that fill. Without merges where the
@@ -184,7 +197,11 @@ fn part_then_def(rng: &mut Rng) -> Job {
     prelude(&mut draft, rng, GROUPS);
     fill(&mut draft, rng, GROUPS, limit(GROUPS));
     let (value, op) = own_operand(&mut draft, 1);
-    let uses = vec![group_use(&op, 0), class_def(5, leaf(0)), class_def(5, leaf(1))];
+    let uses = vec![
+        group_use(&op, 0),
+        class_def(5, leaf(0)),
+        class_def(5, leaf(1)),
+    ];
     draft.piece(value, 0, 24, uses);
     draft.done(rng)
 }

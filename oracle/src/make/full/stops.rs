@@ -11,30 +11,73 @@ pub struct Stop {
 }
 
 pub const STOPS: [Stop; 6] = [
-    Stop { name: "no-start", before: [0; 4], put: no_start },
-    Stop { name: "turned-def", before: [0; 4], put: turned_def },
-    Stop { name: "values-differ", before: [1, 2, 3, 0], put: values_differ },
-    Stop { name: "mapped-twice", before: [0; 4], put: mapped_twice },
-    Stop { name: "overlap", before: [1, 1, 4, 1], put: overlap },
-    Stop { name: "none-admitted", before: [1, 1, 1, 0], put: none_admitted },
+    Stop {
+        name: "no-start",
+        before: [0; 4],
+        put: no_start,
+    },
+    Stop {
+        name: "turned-def",
+        before: [0; 4],
+        put: turned_def,
+    },
+    Stop {
+        name: "values-differ",
+        before: [1, 2, 3, 0],
+        put: values_differ,
+    },
+    Stop {
+        name: "mapped-twice",
+        before: [0; 4],
+        put: mapped_twice,
+    },
+    Stop {
+        name: "overlap",
+        before: [1, 1, 4, 1],
+        put: overlap,
+    },
+    Stop {
+        name: "none-admitted",
+        before: [1, 1, 1, 0],
+        put: none_admitted,
+    },
 ];
 
 fn no_start(draft: &mut Draft) {
     let value = draft.set();
-    draft.piece(value, 0, 8, vec![class_use(0, ONE_WAY[0]), class_use(1, ONE_WAY[1])]);
+    draft.piece(
+        value,
+        0,
+        8,
+        vec![class_use(0, ONE_WAY[0]), class_use(1, ONE_WAY[1])],
+    );
 }
 
 fn turned_def(draft: &mut Draft) {
     let value = draft.set();
-    draft.piece(value, 0, 8, vec![class_def(1, leaf(0)), class_def(1, leaf(1))]);
+    draft.piece(
+        value,
+        0,
+        8,
+        vec![class_def(1, leaf(0)), class_def(1, leaf(1))],
+    );
 }
 
 /// Two values of a set meet inside an instruction, and both have a use turned; its own register stands before.
 fn values_differ(draft: &mut Draft) {
     let first = draft.set();
     let second = draft.job.values.len() as u32;
-    draft.job.values.push(Value { bank: 0, leader: first, remat: 0 });
-    draft.piece(first, 4, 6, vec![class_use(1, leaf(0)), class_use(1, leaf(1))]);
+    draft.job.values.push(Value {
+        bank: 0,
+        leader: first,
+        remat: 0,
+    });
+    draft.piece(
+        first,
+        4,
+        6,
+        vec![class_use(1, leaf(0)), class_use(1, leaf(1))],
+    );
     draft.piece(second, 6, 8, vec![class_use(1, leaf(1))]);
 }
 
@@ -48,7 +91,12 @@ fn mapped_twice(draft: &mut Draft) {
 /// group stand.
 fn overlap(draft: &mut Draft) {
     let (value, op) = own_operand(draft, 1);
-    let turned = [class_use(1, leaf(0)), group_use(&op, 0), class_def(1, WIDE), group_use(&op, 0)];
+    let turned = [
+        class_use(1, leaf(0)),
+        group_use(&op, 0),
+        class_def(1, WIDE),
+        group_use(&op, 0),
+    ];
     draft.piece(value, 0, 8, turned.to_vec());
 }
 

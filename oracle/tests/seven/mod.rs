@@ -1,0 +1,157 @@
+//! Row 7 of the entry rules, read once more: every cause at every use, each looked at by itself.
+
+use std::collections::BTreeSet;
+
+use oracle::job::{Job, Seg, Use};
+
+pub type Causes = BTreeSet<&'static str>;
+
+/// Each cause with the kinds of use that can have it.
+pub const CAUSES: [(&str, &[u32]); 14] = [
+    ("falls in position", &[0, 1, 2, 4, 5, 6, 7, 8, 9]),
+    ("unknown instruction", &[0, 1, 2, 4, 5, 6, 7, 8, 9]),
+    ("unknown class", &[2, 4, 5, 6, 7]),
+    ("unknown register", &[0, 1]),
+    ("slot beyond its type", &[2, 4, 5, 6, 7]),
+    ("definition's slot beyond its type", &[2]),
+    ("index beyond its type", &[2, 6, 7]),
+    ("kind 3", &[3]),
+    (
+        "from not below the next Boundary",
+        &[0, 1, 2, 4, 5, 6, 7, 8, 9],
+    ),
+    ("end_point above to", &[0, 1, 2, 4, 5, 6, 7, 8, 9]),
+    ("no operand", &[6, 7]),
+    ("another class", &[6, 7]),
+    ("index without a member", &[6, 7]),
+    ("index of another value", &[6, 7]),
+];
+
+/// A cause that brings others with it, since no job has the one without them; an unknown instruction brings an
+/// `end_point` above `to` for most kinds.
+const BRINGS: [(&str, &[&str]); 4] = [
+    ("unknown instruction", &["end_point above to", "no operand"]),
+    ("unknown class", &["another class"]),
+    ("slot beyond its type", &["no operand"]),
+    ("index beyond its type", &["index without a member"]),
+];
+
+/// The one cause for which a job falls to number 7, with the kind of the one use that has it; none if there are more.
+pub fn only_cause(job: &Job) -> Option<(&'static str, u32)> {
+    let faults = job.segs.iter().flat_map(|seg| faults_of(job, seg));
+    let [(kind, causes)] = &faults.collect::<Vec<_>>()[..] else {
+        return None;
+    };
+    let brought = |&cause: &&str| {
+        BRINGS
+            .iter()
+            .any(|(first, others)| causes.contains(first) && others.contains(&cause))
+    };
+    let own: Vec<&str> = causes
+        .iter()
+        .copied()
+        .filter(|cause| !brought(cause))
+        .collect();
+    match own[..] {
+        [cause] => Some((cause, *kind)),
+        _ => None,
+    }
+}
+
+/// The uses of a segment that have a fault, by kind, with all their causes.
+fn faults_of(job: &Job, seg: &Seg) -> Vec<(u32, Causes)> {
+    let mut faults = Vec::new();
+    let mut before = 0;
+    for u in job.uses_of(seg) {
+        let mut causes = fields(job, u);
+        causes.extend(position(job, seg, u));
+        causes.extend(group(job, seg, u));
+        if u.inst < before {
+            causes.insert("falls in position");
+        }
+        before = u.inst;
+        if !causes.is_empty() {
+            faults.push((u.kind, causes));
+        }
+    }
+    faults
+}
+
+fn seen<const N: usize>(causes: [(bool, &'static str); N]) -> Causes {
+    causes
+        .into_iter()
+        .filter(|(is, _)| *is)
+        .map(|(_, cause)| cause)
+        .collect()
+}
+
+/// Fields that their types or the job do not have.
+fn fields(job: &Job, u: &Use) -> Causes {
+    let [a, b, c, d] = u.fields;
+    let (class, index) = match u.kind {
+        2 => (Some(c), Some(d)),
+        4 | 5 => (Some(b), None),
+        6 | 7 => (Some(b), Some(c)),
+        _ => (None, None),
+    };
+    seen([
+        (
+            class.is_some_and(|class| class as usize >= job.classes.len()),
+            "unknown class",
+        ),
+        (
+            u.kind < 2 && a as usize >= job.regs.len(),
+            "unknown register",
+        ),
+        (class.is_some() && a >= 1 << 16, "slot beyond its type"),
+        (
+            u.kind == 2 && b >= 1 << 16,
+            "definition's slot beyond its type",
+        ),
+        (
+            index.is_some_and(|index| index >= 1 << 8),
+            "index beyond its type",
+        ),
+        (u.kind == 3, "kind 3"),
+    ])
+}
+
+fn position(job: &Job, seg: &Seg, u: &Use) -> Causes {
+    let boundary = 4 * u64::from(u.inst);
+    let end_point = match u.kind {
+        0 | 5 | 7 | 9 => boundary + 4,
+        4 | 6 => boundary + 2,
+        _ => boundary,
+    };
+    seen([
+        (u64::from(u.inst) >= job.inst_count(), "unknown instruction"),
+        (
+            u64::from(seg.from) >= boundary + 4,
+            "from not below the next Boundary",
+        ),
+        (end_point > u64::from(seg.to), "end_point above to"),
+    ])
+}
+
+fn group(job: &Job, seg: &Seg, u: &Use) -> Causes {
+    let [slot, class, index, _] = u.fields;
+    if !matches!(u.kind, 6 | 7) {
+        return Causes::new();
+    }
+    let Some(operand) = job
+        .operands
+        .iter()
+        .find(|op| op.inst == u.inst && op.slot == slot)
+    else {
+        return seen([(true, "no operand")]);
+    };
+    let member = job.vgroups[operand.vgroup as usize].get(index as usize);
+    seen([
+        (operand.class != class, "another class"),
+        (member.is_none(), "index without a member"),
+        (
+            member.is_some_and(|&value| value != seg.value),
+            "index of another value",
+        ),
+    ])
+}
