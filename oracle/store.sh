@@ -1,5 +1,5 @@
 #!/usr/bin/env bash
-# store.sh FOLDER COUNT [SEED] [MOST_BYTES]: COUNT sheets of every profile with
+# store.sh FOLDER COUNT [SEED] [MOST_BYTES]: COUNT sheets of each profile below with
 # their answers, and a manifest: job, answer, room or -, stop or -, profile and
 # seed, what the sheet is made for or -.
 set -eu

@@ -21,6 +21,8 @@ const CAUSES: &[(&str, &[u32], Edit)] = &[
     ("slot beyond its type", &[2, 4, 5, 6, 7], slot),
     ("definition's slot beyond its type", &[2], def_slot),
     ("index beyond its type", &[2, 6, 7], index),
+    ("class beyond its type", &[2, 4, 5, 6, 7], class_beyond),
+    ("register beyond its type", &[0, 1], register_beyond),
     ("kind 3", &[3], conflict),
     ("from not below the next Boundary", ALL, before_from),
     ("end_point above to", ALL, behind_to),
@@ -226,25 +228,37 @@ fn far_inst(job: &mut Job, rng: &mut Rng, at: usize, kind: u32) -> Option<()> {
     Some(())
 }
 
+/// The field that has the class.
+fn class_field(kind: u32) -> usize {
+    if kind == 2 { 2 } else { 1 }
+}
+
 fn class(job: &mut Job, rng: &mut Rng, at: usize, kind: u32) -> Option<()> {
-    let field = if kind == 2 { 2 } else { 1 };
-    put_changed(job, rng, at, kind, field, |job, rng, u| {
+    put_changed(job, rng, at, kind, class_field(kind), |job, rng, _| {
         let count = job.classes.len() as u32;
-        Some(rng.pick(&[count, count, 32, 255, 256 + u.fields[field], u32::MAX]))
+        Some(rng.pick(&[count, count, 31, 32, 255]))
+    })
+}
+
+/// A class whose low eight bits are right.
+fn class_beyond(job: &mut Job, rng: &mut Rng, at: usize, kind: u32) -> Option<()> {
+    let field = class_field(kind);
+    put_changed(job, rng, at, kind, field, |_, rng, u| {
+        Some(256 * rng.pick(&[1, 1, 2, 256, 65_536]) + u.fields[field])
     })
 }
 
 fn register(job: &mut Job, rng: &mut Rng, at: usize, kind: u32) -> Option<()> {
     put_changed(job, rng, at, kind, 0, |job, rng, u| {
         let count = job.regs.len() as u32;
-        Some(rng.pick(&[
-            count,
-            count,
-            255,
-            256 + u.fields[0],
-            65_536 + u.fields[0],
-            u32::MAX,
-        ]))
+        Some(rng.pick(&[count, count, 255, 256 + u.fields[0], 65_535]))
+    })
+}
+
+/// A register whose low sixteen bits are right.
+fn register_beyond(job: &mut Job, rng: &mut Rng, at: usize, kind: u32) -> Option<()> {
+    put_changed(job, rng, at, kind, 0, |_, rng, u| {
+        Some(65_536 * rng.pick(&[1, 1, 2, 65_535]) + u.fields[0])
     })
 }
 

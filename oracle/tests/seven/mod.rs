@@ -7,7 +7,7 @@ use oracle::job::{Job, Seg, Use};
 pub type Causes = BTreeSet<&'static str>;
 
 /// Each cause with the kinds of use that can have it.
-pub const CAUSES: [(&str, &[u32]); 14] = [
+pub const CAUSES: [(&str, &[u32]); 16] = [
     ("falls in position", &[0, 1, 2, 4, 5, 6, 7, 8, 9]),
     ("unknown instruction", &[0, 1, 2, 4, 5, 6, 7, 8, 9]),
     ("unknown class", &[2, 4, 5, 6, 7]),
@@ -15,6 +15,8 @@ pub const CAUSES: [(&str, &[u32]); 14] = [
     ("slot beyond its type", &[2, 4, 5, 6, 7]),
     ("definition's slot beyond its type", &[2]),
     ("index beyond its type", &[2, 6, 7]),
+    ("class beyond its type", &[2, 4, 5, 6, 7]),
+    ("register beyond its type", &[0, 1]),
     ("kind 3", &[3]),
     (
         "from not below the next Boundary",
@@ -29,9 +31,11 @@ pub const CAUSES: [(&str, &[u32]); 14] = [
 
 /// A cause that brings others with it, since no job has the one without them; an unknown instruction brings an
 /// `end_point` above `to` for most kinds.
-const BRINGS: [(&str, &[&str]); 4] = [
+const BRINGS: [(&str, &[&str]); 6] = [
     ("unknown instruction", &["end_point above to", "no operand"]),
     ("unknown class", &["another class"]),
+    ("class beyond its type", &["unknown class", "another class"]),
+    ("register beyond its type", &["unknown register"]),
     ("slot beyond its type", &["no operand"]),
     ("index beyond its type", &["index without a member"]),
 ];
@@ -63,7 +67,8 @@ fn faults_of(job: &Job, seg: &Seg) -> Vec<(u32, Causes)> {
     let mut faults = Vec::new();
     let mut before = 0;
     for u in job.uses_of(seg) {
-        let mut causes = fields(job, u);
+        let mut causes = unknown(job, u);
+        causes.extend(beyond(u));
         causes.extend(position(job, seg, u));
         causes.extend(group(job, seg, u));
         if u.inst < before {
@@ -85,34 +90,44 @@ fn seen<const N: usize>(causes: [(bool, &'static str); N]) -> Causes {
         .collect()
 }
 
-/// Fields that their types or the job do not have.
-fn fields(job: &Job, u: &Use) -> Causes {
-    let [a, b, c, d] = u.fields;
-    let (class, index) = match u.kind {
+/// The class and the index of a use, of the kinds that have them.
+fn class_and_index(u: &Use) -> (Option<u32>, Option<u32>) {
+    let [_, b, c, d] = u.fields;
+    match u.kind {
         2 => (Some(c), Some(d)),
         4 | 5 => (Some(b), None),
         6 | 7 => (Some(b), Some(c)),
         _ => (None, None),
-    };
+    }
+}
+
+/// Classes and registers that the job does not have, and the kind that only a result has.
+fn unknown(job: &Job, u: &Use) -> Causes {
+    let (class, _) = class_and_index(u);
+    let no_class = class.is_some_and(|class| class as usize >= job.classes.len());
+    let no_register = u.kind < 2 && u.fields[0] as usize >= job.regs.len();
     seen([
+        (no_class, "unknown class"),
+        (no_register, "unknown register"),
+        (u.kind == 3, "kind 3"),
+    ])
+}
+
+/// Fields above their types: registers and slots have sixteen bits, classes and indices eight.
+fn beyond(u: &Use) -> Causes {
+    let [a, b, ..] = u.fields;
+    let (class, index) = class_and_index(u);
+    let above_byte = |field: Option<u32>| field.is_some_and(|field| field >= 256);
+    let two_slots = u.kind == 2;
+    seen([
+        (above_byte(class), "class beyond its type"),
+        (above_byte(index), "index beyond its type"),
+        (u.kind < 2 && a >= 65_536, "register beyond its type"),
+        (class.is_some() && a >= 65_536, "slot beyond its type"),
         (
-            class.is_some_and(|class| class as usize >= job.classes.len()),
-            "unknown class",
-        ),
-        (
-            u.kind < 2 && a as usize >= job.regs.len(),
-            "unknown register",
-        ),
-        (class.is_some() && a >= 1 << 16, "slot beyond its type"),
-        (
-            u.kind == 2 && b >= 1 << 16,
+            two_slots && b >= 65_536,
             "definition's slot beyond its type",
         ),
-        (
-            index.is_some_and(|index| index >= 1 << 8),
-            "index beyond its type",
-        ),
-        (u.kind == 3, "kind 3"),
     ])
 }
 
