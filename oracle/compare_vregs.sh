@@ -1,7 +1,7 @@
 #!/usr/bin/env bash
-# compare_vregs.sh [COUNT [SEED]]: holds the program `vregs` to the oracle, byte for byte, on COUNT generated sheets of every profile
-# (of limits, full-tables, many-merges and long-sheets a tenth), valid and damaged, one process for each sheet. `rt check vregs` has
-# built it. Default: 500 sheets, seed 1.
+# compare_vregs.sh [COUNT [SEED]]: holds the program `vregs` to the oracle, byte for byte, on COUNT generated sheets of
+# every profile (of limits, full-tables, many-merges and long-sheets a tenth), valid and damaged, one process for each
+# sheet. `rt check vregs` has built it. Default: 500 sheets, seed 1.
 set -eu
 cd "$(dirname "$0")"
 count=${1:-500} seed=${2:-1}

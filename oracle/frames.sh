@@ -1,8 +1,9 @@
 #!/usr/bin/env bash
-# frames.sh: writes the answers that crates/replay replays, and the line that it has to write: the marked cases of docs/samples; 80 sheets of
-# every profile, of damaged 160 and of limits 8, those of them that have at most 70,000 bytes; and the four families of stored answers. Each sheet
-# with the oracle's answer in the room of `vregs`. stored.txt has a line for each: number, where it comes from, bytes of the sheet and of the answer,
-# outcome, what it is made for or -. The same sources give the same bytes. A sheet has at most 262,144 bytes and an answer 524,288.
+# frames.sh: writes the answers that crates/replay replays, and the line that it has to write: the marked cases of
+# docs/samples; 80 sheets of every profile from small to rooms, of damaged 160 and of limits 8, those of them that have
+# at most 70,000 bytes; and the four families of stored answers. Each sheet with the oracle's answer in the room of
+# `vregs`. stored.txt has a line for each: number, where it comes from, bytes of the sheet and of the answer, outcome,
+# what it is made for or -. The same sources give the same bytes. A sheet has at most 262,144 bytes, an answer 524,288.
 set -eu
 cd "$(dirname "$0")"
 cargo build --offline --release --quiet
