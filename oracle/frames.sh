@@ -14,9 +14,9 @@ for profile in small classes groups hints floats rooms; do "$bin/store" "$aside"
 "$bin/store" "$aside" damaged 1 160 70000
 "$bin/store" "$aside" limits 1 8 70000
 # every cause of 7 twice; the tables full and overfull; groups and merges; long sheets
-"$bin/store" "$aside" bad-uses 0 142
+"$bin/store" "$aside" bad-uses 0 200
 "$bin/store" "$aside" full-tables 0 84
-"$bin/store" "$aside" many-merges 0 64
+"$bin/store" "$aside" many-merges 0 56
 "$bin/store" "$aside" long-sheets 0 45
 
 count=0

@@ -24,12 +24,28 @@ const CAUSES: &[(&str, &[u32], Edit)] = &[
     ("class beyond its type", &[2, 4, 5, 6, 7], class_beyond),
     ("register beyond its type", &[0, 1], register_beyond),
     ("kind 3", &[3], conflict),
-    ("from not below the next Boundary", ALL, before_from),
-    ("end_point above to", ALL, behind_to),
+    ("from at the next Boundary", ALL, from_at),
+    ("from above the next Boundary", ALL, from_above),
+    (
+        "end_point above to, a Boundary",
+        ALL,
+        |job, rng, at, kind| behind_to(job, rng, at, kind, 0),
+    ),
+    ("end_point above to, an Early", ALL, |job, rng, at, kind| {
+        behind_to(job, rng, at, kind, 1)
+    }),
+    ("end_point above to, a Normal", ALL, |job, rng, at, kind| {
+        behind_to(job, rng, at, kind, 2)
+    }),
     ("no operand", GROUPS, no_operand),
     ("another class", GROUPS, other_class),
     ("index without a member", GROUPS, no_member),
-    ("index of another value", GROUPS, other_value),
+    ("index of another value, of its set", GROUPS, value_of_set),
+    (
+        "index of another value, of another set",
+        GROUPS,
+        value_of_other,
+    ),
 ];
 
 /// The cause and the kind that a seed stands for: as many seeds in a row as there are pairs give each once.
@@ -302,32 +318,36 @@ fn conflict(job: &mut Job, rng: &mut Rng, at: usize, kind: u32) -> Option<()> {
     Some(())
 }
 
-/// A use whose next Boundary is `from`, or before it.
-fn before_from(job: &mut Job, rng: &mut Rng, at: usize, kind: u32) -> Option<()> {
-    let first = job.segs[at].from / 4;
-    if first == 0 {
+/// A use whose next Boundary is `from`.
+fn from_at(job: &mut Job, rng: &mut Rng, at: usize, kind: u32) -> Option<()> {
+    let from = job.segs[at].from;
+    if from == 0 || from % 4 != 0 {
         return None;
     }
-    let inst = if rng.chance(75) {
-        first - 1
-    } else {
-        rng.below(first)
-    };
+    let u = sound(job, rng, at, kind, from / 4 - 1);
+    put(job, at, u);
+    Some(())
+}
+
+/// A use whose next Boundary is before `from`.
+fn from_above(job: &mut Job, rng: &mut Rng, at: usize, kind: u32) -> Option<()> {
+    let insts = job.segs[at].from.saturating_sub(1) / 4;
+    if insts == 0 {
+        return None;
+    }
+    let any = rng.below(insts);
+    let inst = rng.pick(&[insts - 1, any]);
     let u = sound(job, rng, at, kind, inst);
     put(job, at, u);
     Some(())
 }
 
-/// A use of the first instruction at which it ends above `to`, or of a later one.
-fn behind_to(job: &mut Job, rng: &mut Rng, at: usize, kind: u32) -> Option<()> {
+/// A use of the first instruction at which it ends above `to`, where `to` has this slot.
+fn behind_to(job: &mut Job, rng: &mut Rng, at: usize, kind: u32, slot: u32) -> Option<()> {
     let seg = &job.segs[at];
     let ends_above = |&inst: &u32| seg.from < 4 * inst + 4 && 4 * inst + end_of(kind) > seg.to;
-    let insts: Vec<u32> = (0..job.inst_count() as u32).filter(ends_above).collect();
-    let inst = if rng.chance(75) {
-        *insts.first()?
-    } else {
-        *insts.last()?
-    };
+    let first = (0..job.inst_count() as u32).find(ends_above);
+    let inst = first.filter(|_| seg.to % 4 == slot)?;
     let u = sound(job, rng, at, kind, inst);
     put(job, at, u);
     Some(())
@@ -366,16 +386,24 @@ fn no_member(job: &mut Job, rng: &mut Rng, at: usize, kind: u32) -> Option<()> {
     })
 }
 
-/// The index of another value, of one of the same set where that can be.
-fn other_value(job: &mut Job, rng: &mut Rng, at: usize, kind: u32) -> Option<()> {
+fn value_of_set(job: &mut Job, rng: &mut Rng, at: usize, kind: u32) -> Option<()> {
+    other_value(job, rng, at, kind, true)
+}
+
+fn value_of_other(job: &mut Job, rng: &mut Rng, at: usize, kind: u32) -> Option<()> {
+    other_value(job, rng, at, kind, false)
+}
+
+/// The index of another value, of the same set or of another.
+fn other_value(job: &mut Job, rng: &mut Rng, at: usize, kind: u32, same_set: bool) -> Option<()> {
     let value = job.segs[at].value;
     put_changed(job, rng, at, kind, 2, |job, rng, _| {
-        let members = job.vgroups.last()?;
         let leader = |value: u32| job.values[value as usize].leader;
-        let others = (0..members.len()).filter(|&place| members[place] != value);
-        let (near, far): (Vec<usize>, Vec<usize>) =
-            others.partition(|&place| leader(members[place]) == leader(value));
-        let places = if near.is_empty() { far } else { near };
+        let wanted = |member: u32| member != value && (leader(member) == leader(value)) == same_set;
+        let members = job.vgroups.last()?;
+        let places: Vec<usize> = (0..members.len())
+            .filter(|&place| wanted(members[place]))
+            .collect();
         (!places.is_empty()).then(|| rng.pick(&places) as u32)
     })
 }

@@ -29,7 +29,7 @@ const FEW: (usize, usize) = (8, 0);
 const MANY: (usize, usize) = (100, 20_001);
 
 fn wanted(seed: u64) -> (usize, usize) {
-    if seed % 8 == 7 { MANY } else { FEW }
+    if seed % 7 == 6 { MANY } else { FEW }
 }
 
 pub fn what(seed: u64) -> String {

@@ -6,8 +6,15 @@ use oracle::job::{Job, Seg, Use};
 
 pub type Causes = BTreeSet<&'static str>;
 
+/// An `end_point` above `to`, by the slot of `to`.
+const END_ABOVE: [&str; 3] = [
+    "end_point above to, a Boundary",
+    "end_point above to, an Early",
+    "end_point above to, a Normal",
+];
+
 /// Each cause with the kinds of use that can have it.
-pub const CAUSES: [(&str, &[u32]); 16] = [
+pub const CAUSES: [(&str, &[u32]); 20] = [
     ("falls in position", &[0, 1, 2, 4, 5, 6, 7, 8, 9]),
     ("unknown instruction", &[0, 1, 2, 4, 5, 6, 7, 8, 9]),
     ("unknown class", &[2, 4, 5, 6, 7]),
@@ -18,21 +25,23 @@ pub const CAUSES: [(&str, &[u32]); 16] = [
     ("class beyond its type", &[2, 4, 5, 6, 7]),
     ("register beyond its type", &[0, 1]),
     ("kind 3", &[3]),
-    (
-        "from not below the next Boundary",
-        &[0, 1, 2, 4, 5, 6, 7, 8, 9],
-    ),
-    ("end_point above to", &[0, 1, 2, 4, 5, 6, 7, 8, 9]),
+    ("from at the next Boundary", &[0, 1, 2, 4, 5, 6, 7, 8, 9]),
+    ("from above the next Boundary", &[0, 1, 2, 4, 5, 6, 7, 8, 9]),
+    (END_ABOVE[0], &[0, 1, 2, 4, 5, 6, 7, 8, 9]),
+    (END_ABOVE[1], &[0, 1, 2, 4, 5, 6, 7, 8, 9]),
+    (END_ABOVE[2], &[0, 1, 2, 4, 5, 6, 7, 8, 9]),
     ("no operand", &[6, 7]),
     ("another class", &[6, 7]),
     ("index without a member", &[6, 7]),
-    ("index of another value", &[6, 7]),
+    ("index of another value, of its set", &[6, 7]),
+    ("index of another value, of another set", &[6, 7]),
 ];
 
 /// A cause that brings others with it, since no job has the one without them; an unknown instruction brings an
 /// `end_point` above `to` for most kinds.
-const BRINGS: [(&str, &[&str]); 6] = [
-    ("unknown instruction", &["end_point above to", "no operand"]),
+const BRINGS: [(&str, &[&str]); 7] = [
+    ("unknown instruction", &["no operand"]),
+    ("unknown instruction", &END_ABOVE),
     ("unknown class", &["another class"]),
     ("class beyond its type", &["unknown class", "another class"]),
     ("register beyond its type", &["unknown register"]),
@@ -138,13 +147,13 @@ fn position(job: &Job, seg: &Seg, u: &Use) -> Causes {
         4 | 6 => boundary + 2,
         _ => boundary,
     };
+    let (from, to) = (u64::from(seg.from), u64::from(seg.to));
+    let above = END_ABOVE[seg.to as usize % 4];
     seen([
         (u64::from(u.inst) >= job.inst_count(), "unknown instruction"),
-        (
-            u64::from(seg.from) >= boundary + 4,
-            "from not below the next Boundary",
-        ),
-        (end_point > u64::from(seg.to), "end_point above to"),
+        (from == boundary + 4, "from at the next Boundary"),
+        (from > boundary + 4, "from above the next Boundary"),
+        (end_point > to, above),
     ])
 }
 
@@ -161,12 +170,15 @@ fn group(job: &Job, seg: &Seg, u: &Use) -> Causes {
         return seen([(true, "no operand")]);
     };
     let member = job.vgroups[operand.vgroup as usize].get(index as usize);
+    let leader = |value: u32| job.values[value as usize].leader;
+    let other = member.filter(|&&member| member != seg.value);
+    let of_set = |&member: &u32| leader(member) == leader(seg.value);
+    let in_set = other.is_some_and(of_set);
+    let far = other.is_some_and(|member| !of_set(member));
     seen([
         (operand.class != class, "another class"),
         (member.is_none(), "index without a member"),
-        (
-            member.is_some_and(|&value| value != seg.value),
-            "index of another value",
-        ),
+        (in_set, "index of another value, of its set"),
+        (far, "index of another value, of another set"),
     ])
 }
