@@ -1,33 +1,47 @@
 #!/usr/bin/env bash
-# frames.sh [COUNT [SEED [MOST_BYTES]]]: writes the answers that crates/replay replays, and the line that it has to write: the marked cases of
-# docs/samples, COUNT sheets of every profile, of damaged twice and of limits a tenth as many, and of all these those that have at most MOST_BYTES
-# bytes; each sheet with the oracle's answer in the room of `vregs`. Default: 80 sheets, seed 1, 70,000 bytes. crates/replay reads at most 1,600,000 bytes.
+# frames.sh: writes the answers that crates/replay replays, and the line that it has to write: the marked cases of
+# docs/samples; 80 sheets of every profile from small to rooms, of damaged 160 and of limits 8, those of them that have
+# at most 70,000 bytes; and the four families of stored answers. Each sheet with the oracle's answer in the room of
+# `vregs`. stored.txt has a line for each: number, where it comes from, bytes of the sheet and of the answer, outcome,
+# what it is made for or -. The same sources give the same bytes. A sheet has at most 262,144 bytes, an answer 524,288.
 set -eu
 cd "$(dirname "$0")"
-count=${1:-80} seed=${2:-1} most=${3:-70000}
 cargo build --offline --release --quiet
 bin=${CARGO_TARGET_DIR:-target}/release
 aside=$(mktemp -d)
 trap 'rm -rf "$aside"' EXIT
-for profile in small classes groups hints floats rooms; do
-    "$bin/store" "$aside" "$profile" "$seed" "$count" "$most"
-done
-"$bin/store" "$aside" damaged "$seed" $((2 * count)) "$most"
-"$bin/store" "$aside" limits "$seed" $(((count + 9) / 10)) "$most"
-frame() {
-    printf '%08d\t%08d\n' "$(wc -c < "$1")" "$(wc -c < "$2")"
+for profile in small classes groups hints floats rooms; do "$bin/store" "$aside" "$profile" 1 80 70000; done
+"$bin/store" "$aside" damaged 1 160 70000
+"$bin/store" "$aside" limits 1 8 70000
+# every cause of 7 twice; the tables full and overfull; groups and merges; long sheets
+"$bin/store" "$aside" bad-uses 0 200
+"$bin/store" "$aside" full-tables 0 84
+"$bin/store" "$aside" many-merges 0 56
+"$bin/store" "$aside" long-sheets 0 45
+
+count=0
+frame() { # JOB ANSWER SOURCE WHAT
+    local job out outcome
+    job=$(stat -c %s "$1") out=$(stat -c %s "$2")
+    [ "$job" -le 262144 ] && [ "$out" -le 524288 ] || { echo "frames.sh: $3 is too long" >&2; exit 1; }
+    IFS=$'\t' read -r outcome number < "$2" || true
+    [ "$outcome" = refused ] && outcome="refused $number" || outcome=accepted
+    count=$((count + 1))
+    printf '%d\t%s\t%d\t%d\t%s\t%s\n' "$count" "$3" "$job" "$out" "$outcome" "$4" >> "$aside/stored"
+    printf '%08d\t%08d\n' "$job" "$out"
     cat "$1" "$2"
 }
-to=../crates/replay
-{
-    for job in ../docs/samples/*.job; do frame "$job" "${job%.job}.out"; done
-    while IFS=$'\t' read -r job out room _; do
+frames() {
+    for job in ../docs/samples/*.job; do frame "$job" "${job%.job}.out" "${job#../}" -; done
+    while IFS=$'\t' read -r job out room _ source what; do
         [ "$room" = - ] || "$bin/oracle" < "$aside/$job" > "$aside/$out" 2> "$aside/cause"
-        frame "$aside/$job" "$aside/$out"
+        frame "$aside/$job" "$aside/$out" "$source" "$what"
     done < "$aside/manifest"
-} > "$to/stdin"
-samples=(../docs/samples/*.job)
-echo "$((${#samples[@]} + $(wc -l < "$aside/manifest"))) answers, all equal" > "$to/stdout"
+}
+to=../crates/replay
+frames > "$to/stdin"
+cp "$aside/stored" stored.txt
+echo "$(wc -l < stored.txt) answers, all equal" > "$to/stdout"
 cat "$to/stdout"
 wc -c "$to/stdin"
-cut -f2 "$aside/manifest" | while read -r out; do head -n 1 "$aside/$out" | grep '^refused' || echo accepted; done | sort | uniq -c
+cut -f5 stored.txt | sort | uniq -c

@@ -1,6 +1,7 @@
 #!/usr/bin/env bash
-# store.sh FOLDER COUNT [SEED] [MOST_BYTES]: COUNT sheets of every profile with
-# their answers, and a manifest: job, answer, room or -, stop or -.
+# store.sh FOLDER COUNT [SEED] [MOST_BYTES]: COUNT sheets of each profile below with
+# their answers, and a manifest: job, answer, room or -, stop or -, profile and
+# seed, what the sheet is made for or -.
 set -eu
 if [ $# -lt 2 ]; then
     echo "usage: store.sh FOLDER COUNT [SEED] [MOST_BYTES]" >&2

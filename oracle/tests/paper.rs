@@ -8,10 +8,10 @@ use oracle::answer::{Room, answer_job, tested};
 use oracle::make::make;
 
 /// Compares `count` sheets of a profile, or PAPER_TIMES as many; answers with
-/// how many had a result.
-fn compare(profile: &str, count: u64) -> usize {
+/// how many had a result, and how many merges these have in all.
+fn compare(profile: &str, count: u64) -> (usize, usize) {
     let times = env::var("PAPER_TIMES").map_or(1, |times| times.parse().unwrap());
-    let mut accepted = 0;
+    let (mut accepted, mut merges) = (0, 0);
     for seed in 1_000_000..1_000_000 + count * times {
         let frame = make(profile, seed).unwrap();
         let Ok(job) = tested(&frame.bytes) else {
@@ -20,22 +20,24 @@ fn compare(profile: &str, count: u64) -> usize {
         let room = frame.room.unwrap_or_default();
         let found = answer_job(&job, room);
         let sheet = || String::from_utf8_lossy(&frame.bytes).into_owned();
-        match model::build(&job, room.0) {
-            Ok(text) => {
+        match model::run(&job, room.0) {
+            (model, None) => {
                 accepted += 1;
-                assert_eq!(found.text, text, "{profile} {seed}\n{}", sheet());
+                merges += model.merges;
+                assert_eq!(found.text, model.sheet(), "{profile} {seed}\n{}", sheet());
             }
-            Err(model::Refused::Stop(stop)) => {
+            (_, Some(model::Refused::Stop(stop))) => {
                 let cause = found.cause.as_deref();
                 assert_eq!(cause, Some(stop), "{profile} {seed}\n{}", sheet());
                 assert_eq!(found.number, Some(8));
             }
-            Err(model::Refused::Room) => {
+            (model, Some(model::Refused::Room)) => {
                 assert_eq!(found.number, Some(9), "{profile} {seed}\n{}", sheet());
+                assert!(!room.holds(Room(model.rows())));
             }
         }
     }
-    accepted
+    (accepted, merges)
 }
 
 #[test]
@@ -45,40 +47,57 @@ fn room_is_the_default_of_the_paper() {
 
 #[test]
 fn small_jobs_agree() {
-    assert!(compare("small", 20_000) > 10_000);
+    assert!(compare("small", 20_000).0 > 10_000);
 }
 
 #[test]
 fn class_jobs_agree() {
-    assert!(compare("classes", 20_000) > 10_000);
+    assert!(compare("classes", 20_000).0 > 10_000);
 }
 
 #[test]
 fn group_jobs_agree() {
-    assert!(compare("groups", 20_000) > 10_000);
+    let (accepted, merges) = compare("groups", 20_000);
+    assert!(accepted > 10_000 && merges > 1_000);
 }
 
 #[test]
 fn hint_jobs_agree() {
-    assert!(compare("hints", 20_000) > 10_000);
+    assert!(compare("hints", 20_000).0 > 10_000);
 }
 
 #[test]
 fn float_jobs_agree() {
-    assert!(compare("floats", 20_000) > 10_000);
+    assert!(compare("floats", 20_000).0 > 10_000);
 }
 
 #[test]
 fn room_jobs_agree() {
-    assert!(compare("rooms", 20_000) > 4_000);
+    assert!(compare("rooms", 20_000).0 > 4_000);
 }
 
 #[test]
 fn limit_jobs_agree() {
-    assert!(compare("limits", 40) > 20);
+    assert!(compare("limits", 40).0 > 20);
 }
 
 #[test]
 fn damaged_jobs_agree() {
-    assert!(compare("damaged", 20_000) > 100);
+    assert!(compare("damaged", 20_000).0 > 100);
+}
+
+#[test]
+fn full_tables_agree() {
+    assert!(compare("full-tables", 84).0 > 3);
+}
+
+#[test]
+fn many_merges_agree() {
+    let (accepted, merges) = compare("many-merges", 200);
+    assert!(accepted == 200 && merges > 1_600);
+}
+
+#[test]
+fn long_sheets_agree() {
+    assert!(compare("long-sheets", 45).0 > 10);
 }

@@ -8,7 +8,7 @@ use std::path::Path;
 use std::process::exit;
 
 use oracle::answer::{Room, answer};
-use oracle::make::make;
+use oracle::make::{make, what};
 
 fn main() {
     let args: Vec<String> = std::env::args().skip(1).collect();
@@ -53,7 +53,11 @@ fn store(folder: &Path, profile: &str, seeds: std::ops::Range<u64>, most: usize)
         fs::write(folder.join(&out), &found.text)?;
         let room = frame.room.map_or("-".to_string(), Room::text);
         let stop = found.cause.as_deref().unwrap_or("-");
-        writeln!(manifest, "{job}\t{out}\t{room}\t{stop}")?;
+        let what = what(profile, seed).unwrap_or("-".to_string());
+        writeln!(
+            manifest,
+            "{job}\t{out}\t{room}\t{stop}\t{profile} {seed}\t{what}"
+        )?;
         next += 1;
     }
     manifest.flush()

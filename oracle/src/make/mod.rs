@@ -1,11 +1,14 @@
 //! Generated job sheets: the same profile and seed always give the same sheet.
 
+mod bad_uses;
 mod book;
 mod braids;
 mod breaks;
 mod damage;
 mod falling;
+mod full;
 mod limits;
+mod long;
 mod pieces;
 mod rng;
 mod rooms;
@@ -13,6 +16,7 @@ mod soup;
 mod stops;
 mod style;
 mod tiny;
+mod weave;
 mod write;
 
 use crate::frames::Frame;
@@ -20,8 +24,19 @@ use rng::Rng;
 
 pub use write::sheet_of;
 
-pub const PROFILES: [&str; 8] = [
-    "small", "classes", "groups", "hints", "floats", "limits", "damaged", "rooms",
+pub const PROFILES: [&str; 12] = [
+    "small",
+    "classes",
+    "groups",
+    "hints",
+    "floats",
+    "limits",
+    "damaged",
+    "rooms",
+    "bad-uses",
+    "full-tables",
+    "many-merges",
+    "long-sheets",
 ];
 
 /// One sheet of a profile, with a room where the profile sets one.
@@ -38,7 +53,14 @@ pub fn make(profile: &str, seed: u64) -> Option<Frame> {
             bytes: damage::make(&mut rng),
             room: None,
         },
+        "long-sheets" => Frame {
+            bytes: long::make(&mut rng, seed),
+            room: None,
+        },
         "rooms" => rooms::make(&mut rng),
+        "bad-uses" => plain(bad_uses::make(&mut rng, seed)),
+        "full-tables" => plain(full::make(&mut rng, seed)),
+        "many-merges" => plain(weave::make(&mut rng, seed)),
         "small" if seed.is_multiple_of(2) => plain(tiny::mixed(seed / 2)),
         "classes" if rng.chance(6) => plain(falling::make(&mut rng)),
         "groups" => plain(match rng.below(10) {
@@ -49,4 +71,15 @@ pub fn make(profile: &str, seed: u64) -> Option<Frame> {
         }),
         _ => plain(soup::make(&mut rng, &style::of(profile)?)),
     })
+}
+
+/// What a sheet is made for, in the profiles that go through cases by their seeds.
+pub fn what(profile: &str, seed: u64) -> Option<String> {
+    match profile {
+        "bad-uses" => Some(bad_uses::what(seed)),
+        "full-tables" => Some(full::what(seed)),
+        "many-merges" => Some(weave::what(seed)),
+        "long-sheets" => Some(long::what(seed)),
+        _ => None,
+    }
 }

@@ -8,6 +8,7 @@ use crate::job::{
 };
 
 /// A segment with uses of its own, not yet in the job's list.
+#[derive(Clone)]
 pub struct Piece {
     pub value: u32,
     pub from: u32,

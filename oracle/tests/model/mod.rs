@@ -49,16 +49,25 @@ pub struct Model<'a> {
     /// Operand, by instruction and slot, to group.
     pub mapping: HashMap<(u32, u32), usize>,
     pub block_of: Vec<usize>,
+    /// Registers that were merged into one that stood.
+    pub merges: usize,
     room: [usize; 4],
-    set: u32,
+    /// The set being built.
+    pub set: u32,
     top: u32,
     turned: Vec<Turned>,
 }
 
-/// The register sheet of a tested job.
-pub fn build(job: &Job, room: [usize; 4]) -> Result<String, Refused> {
+/// The model of a tested job as far as it was built, and why no further.
+pub fn run(job: &Job, room: [usize; 4]) -> (Model<'_>, Option<Refused>) {
+    let mut model = empty(job, room);
+    let refused = model.sets().err();
+    (model, refused)
+}
+
+fn empty(job: &Job, room: [usize; 4]) -> Model<'_> {
     let blocks = job.blocks.iter().enumerate();
-    let mut model = Model {
+    Model {
         job,
         regs: Vec::new(),
         groups: Vec::new(),
@@ -66,27 +75,12 @@ pub fn build(job: &Job, room: [usize; 4]) -> Result<String, Refused> {
         block_of: blocks
             .flat_map(|(b, block)| vec![b; block.insts as usize])
             .collect(),
+        merges: 0,
         room,
         set: 0,
         top: 0,
         turned: Vec::new(),
-    };
-    let set_of = |value: u32| job.values[value as usize].leader;
-    for segs in job.segs.chunk_by(|a, b| set_of(a.value) == set_of(b.value)) {
-        let piece = |seg: &oracle::job::Seg| Piece {
-            value: seg.value,
-            from: seg.from,
-            to: seg.to,
-            flags: seg.flags,
-            uses: job.uses_of(seg).to_vec(),
-            added: false,
-        };
-        model.set = set_of(segs[0].value);
-        model.top = job.banks[job.values[segs[0].value as usize].bank as usize];
-        model.parts(segs.iter().map(piece).collect())?;
-        model.conflicts()?;
     }
-    Ok(show::sheet(&model))
 }
 
 fn is_def(u: &Use) -> bool {
@@ -94,6 +88,32 @@ fn is_def(u: &Use) -> bool {
 }
 
 impl Model<'_> {
+    /// The register sheet.
+    pub fn sheet(&self) -> String {
+        show::sheet(self)
+    }
+
+    /// Builds the registers of every set.
+    fn sets(&mut self) -> Result<(), Refused> {
+        let job = self.job;
+        let set_of = |value: u32| job.values[value as usize].leader;
+        for segs in job.segs.chunk_by(|a, b| set_of(a.value) == set_of(b.value)) {
+            let piece = |seg: &oracle::job::Seg| Piece {
+                value: seg.value,
+                from: seg.from,
+                to: seg.to,
+                flags: seg.flags,
+                uses: job.uses_of(seg).to_vec(),
+                added: false,
+            };
+            self.set = set_of(segs[0].value);
+            self.top = job.banks[job.values[segs[0].value as usize].bank as usize];
+            self.parts(segs.iter().map(piece).collect())?;
+            self.conflicts()?;
+        }
+        Ok(())
+    }
+
     /// Builds the set's registers but those of its conflicts.
     fn parts(&mut self, mut pieces: Vec<Piece>) -> Result<(), Refused> {
         loop {

@@ -24,6 +24,7 @@ impl Model<'_> {
         }
         old.extend(pieces);
         old.sort_by_key(|piece| piece.from);
+        self.merges += 1;
         let weight = weigh::weight(self, held, &self.regs[reg].pieces);
         self.agree(self.regs[reg].group.unwrap(), held.class, weight);
         Ok(())
@@ -84,10 +85,15 @@ impl Model<'_> {
     }
 
     fn check_room(&self) -> Result<(), Refused> {
-        let pieces = self.regs.iter().flat_map(|reg| &reg.pieces);
-        let uses = pieces.clone().map(|piece| piece.uses.len()).sum();
-        let need = [self.regs.len(), pieces.count(), uses, self.groups.len()];
+        let need = self.rows();
         let fits = need.iter().zip(self.room).all(|(&need, have)| need <= have);
         if fits { Ok(()) } else { Err(Refused::Room) }
+    }
+
+    /// Registers, segments, uses and groups that stand.
+    pub fn rows(&self) -> [usize; 4] {
+        let pieces = self.regs.iter().flat_map(|reg| &reg.pieces);
+        let uses = pieces.clone().map(|piece| piece.uses.len()).sum();
+        [self.regs.len(), pieces.count(), uses, self.groups.len()]
     }
 }
