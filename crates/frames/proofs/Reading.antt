@@ -13,7 +13,7 @@ use Rattle.streams.specs.declared.Stream.{Stream}
 use Rattle.streams.specs.declared.Step.{Step}
 use Rattle.streams.specs.Tape.{AllPlayed, Filled}
 use Rattle.frames.specs.declared.Frame.{Frame}
-use Rattle.frames.specs.Frames.{spelled, sheetSize, answerSize, frameSize, isHead, isFrame, sheetOf, answerOf}
+use Rattle.frames.specs.Frames.{spelled, sheetSize, answerSize, frameSize, isHead, isFrame, frameSheet, frameAnswer}
 use Rattle.frames.specs.Read.{Missing, Headed, HeadRead, Framed, FrameRead}
 
 -- ---- tests

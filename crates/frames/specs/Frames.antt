@@ -29,15 +29,15 @@ isHead bs = eqb (getD bs 8 0) tab && eqb (getD bs 17 0) lineFeed && leb (sheetSi
 abbrev pub isFrame : List ℕ → Bool
 isFrame bs = isHead bs && leb (frameSize bs) (length bs)
 
-abbrev pub sheetOf : List ℕ → List ℕ
-sheetOf bs = take (sheetSize bs) (drop 18 bs)
+abbrev pub frameSheet : List ℕ → List ℕ
+frameSheet bs = take (sheetSize bs) (drop 18 bs)
 
-abbrev pub answerOf : List ℕ → List ℕ
-answerOf bs = take (answerSize bs) (drop (18 + sheetSize bs) bs)
+abbrev pub frameAnswer : List ℕ → List ℕ
+frameAnswer bs = take (answerSize bs) (drop (18 + sheetSize bs) bs)
 
 -- its answer is the definition's to its sheet
 abbrev pub agrees : List ℕ → Bool
-agrees bs = same (answerOf bs) (vregsOf (sheetOf bs))
+agrees bs = same (frameAnswer bs) (vregsOf (frameSheet bs))
 
-abbrev pub behind : List ℕ → List ℕ
-behind bs = drop (frameSize bs) bs
+abbrev pub pastFrame : List ℕ → List ℕ
+pastFrame bs = drop (frameSize bs) bs

@@ -7,7 +7,7 @@ use lib.Dec.{eqb}
 use lib.ListN.{length, take, drop, getD}
 use Rattle.streams.specs.declared.Stream.{Stream}
 use Rattle.frames.specs.declared.Frame.{Frame}
-use Rattle.frames.specs.Frames.{sheetSize, answerSize, frameSize, isHead, isFrame, sheetOf, answerOf}
+use Rattle.frames.specs.Frames.{sheetSize, answerSize, frameSize, isHead, isFrame, frameSheet, frameAnswer}
 
 -- on a tape, the bytes D being left, where no whole frame was read: a call fails there; or what is left is none, and whether it is nothing is told
 pub record Missing (tape D : List ℕ) (failed ended : Bool) (next : Stream) : Type 0 where
@@ -34,8 +34,8 @@ pub record HeadRead (tape given : List ℕ) (s : Stream) (f : Frame) : Type 0 wh
 -- all of it, in the buffers S and A
 pub record Framed (D : List ℕ) (s : Stream) (f : Frame) (S A : List ℕ) : Type 0 where
   pub frame : isFrame D ≡ true
-  pub sheet : take (f .sheet) S ≡ sheetOf D
-  pub answer : take (f .answer) A ≡ answerOf D
+  pub sheet : take (f .sheet) S ≡ frameSheet D
+  pub answer : take (f .answer) A ≡ frameAnswer D
   pub at : f .next .at ≡ s .at + frameSize D
   pub onward : s .call + 1 ≤ f .next .call
 

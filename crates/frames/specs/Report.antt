@@ -5,7 +5,7 @@ use Prim.Native.Nat.{ℕ, zero, suc, _+_}
 use lib.Dec.{eqb}
 use lib.ListN.{length}
 use Rattle.definition.specs.Text.{bytes, decimal, lineFeed}
-use Rattle.frames.specs.Frames.{isFrame, agrees, behind}
+use Rattle.frames.specs.Frames.{isFrame, agrees, pastFrame}
 
 -- a line for an answer that is another
 unfoldable pub differsLine : Bool → ℕ → List ℕ
@@ -27,7 +27,7 @@ summary true n d =
 unfoldable pub reportFrom : ℕ → ℕ → ℕ → List ℕ → List ℕ
 reportFrom zero n d bs = summary (eqb (length bs) 0) n d
 reportFrom (suc k) n d bs =
-    cond (isFrame bs) (differsLine (agrees bs) (n + 1) ++ reportFrom k (n + 1) (d + missed (agrees bs)) (behind bs)) (summary (eqb (length bs) 0) n d)
+    cond (isFrame bs) (differsLine (agrees bs) (n + 1) ++ reportFrom k (n + 1) (d + missed (agrees bs)) (pastFrame bs)) (summary (eqb (length bs) 0) n d)
 
 -- a frame has 18 bytes or more, so there are fewer frames than bytes
 abbrev pub report : List ℕ → List ℕ

@@ -14,7 +14,7 @@ use Rattle.streams.specs.declared.Stream.{Stream}
 use Rattle.streams.specs.declared.Step.{Step}
 use Rattle.streams.specs.Tape.{AllMarked, WroteAll}
 use Rattle.frames.specs.declared.Frame.{Frame}
-use Rattle.frames.specs.Frames.{isHead, isFrame, frameSize, sheetOf, answerOf, agrees, behind}
+use Rattle.frames.specs.Frames.{isHead, isFrame, frameSize, frameSheet, frameAnswer, agrees, pastFrame}
 use Rattle.frames.specs.Report.{differsLine, missed, summary, reportFrom, report}
 use Rattle.frames.specs.Read.{Missing, Framed, FrameRead}
 use Rattle.replay_run.specs.declared.Found.{Found}
@@ -39,7 +39,7 @@ found-some tape given s f S A b q e i =
           let w : Framed (drop (s .at) given) s f S A = q .whole e t in
           record {
             frame = w .frame;
-            same = i ∙ ap (λ (l : List ℕ). same l (vregsOf (take (f .sheet) S))) (w .answer) ∙ ap (λ (l : List ℕ). same (answerOf (drop (s .at) given)) (vregsOf l)) (w .sheet);
+            same = i ∙ ap (λ (l : List ℕ). same l (vregsOf (take (f .sheet) S))) (w .answer) ∙ ap (λ (l : List ℕ). same (frameAnswer (drop (s .at) given)) (vregsOf l)) (w .sheet);
             at = w .at;
             onward = w .onward;
           };
@@ -52,12 +52,12 @@ report-stop : (k n d : ℕ) (D : List ℕ) → isFrame D ≡ false → reportFro
 unfolding reportFrom
 report-stop zero n d D e = refl
 report-stop (suc k) n d D e =
-    ap (λ (b : Bool). cond b (differsLine (agrees D) (n + 1) ++ reportFrom k (n + 1) (d + missed (agrees D)) (behind D)) (summary (eqb (length D) 0) n d)) e
+    ap (λ (b : Bool). cond b (differsLine (agrees D) (n + 1) ++ reportFrom k (n + 1) (d + missed (agrees D)) (pastFrame D)) (summary (eqb (length D) 0) n d)) e
 
-report-next : (k n d : ℕ) (D : List ℕ) → isFrame D ≡ true → reportFrom (suc k) n d D ≡ differsLine (agrees D) (n + 1) ++ reportFrom k (n + 1) (d + missed (agrees D)) (behind D)
+report-next : (k n d : ℕ) (D : List ℕ) → isFrame D ≡ true → reportFrom (suc k) n d D ≡ differsLine (agrees D) (n + 1) ++ reportFrom k (n + 1) (d + missed (agrees D)) (pastFrame D)
 unfolding reportFrom
 report-next k n d D e =
-    ap (λ (b : Bool). cond b (differsLine (agrees D) (n + 1) ++ reportFrom k (n + 1) (d + missed (agrees D)) (behind D)) (summary (eqb (length D) 0) n d)) e
+    ap (λ (b : Bool). cond b (differsLine (agrees D) (n + 1) ++ reportFrom k (n + 1) (d + missed (agrees D)) (pastFrame D)) (summary (eqb (length D) 0) n d)) e
 
 and-right : (a b : Bool) → a && b ≡ true → b ≡ true
 and-right true b e = e
@@ -188,14 +188,14 @@ module _ (reads given : List ℕ) (input : Stream) (writes paper : List ℕ) (ou
           go : (n : ℕ) → k .fuel ≡ n → Onward k
           go zero e = absurd (omega (arith, e, k .enough, frame-fits (drop (at .at) given) (compared t .frame)))
           go (suc n) e =
-              let p : drop (f .next .at) given ≡ behind (drop (at .at) given) = ap (λ (j : ℕ). drop j given) (compared t .at) ∙ sym (drop-drop (frameSize (drop (at .at) given)) (at .at) given) in
+              let p : drop (f .next .at) given ≡ pastFrame (drop (at .at) given) = ap (λ (j : ℕ). drop j given) (compared t .at) ∙ sym (drop-drop (frameSize (drop (at .at) given)) (at .at) given) in
               record {
                 fuel = n;
                 enough = omega (arith, e, k .enough, length-drop (f .next .at) given, length-drop (at .at) given, compared t .at, frame-fits (drop (at .at) given) (compared t .frame));
                 is =
                     ap (λ (j : ℕ). reportFrom j answers differ (drop (at .at) given)) e
                     ∙ report-next n answers differ (drop (at .at) given) (compared t .frame)
-                    ∙ ap (λ (b : Bool). differsLine b (answers + 1) ++ reportFrom n (answers + 1) (differ + missed b) (behind (drop (at .at) given))) (sym (compared t .same))
+                    ∙ ap (λ (b : Bool). differsLine b (answers + 1) ++ reportFrom n (answers + 1) (differ + missed b) (pastFrame (drop (at .at) given))) (sym (compared t .same))
                     ∙ ap (λ (l : List ℕ). differsLine (f .same) (answers + 1) ++ reportFrom n (answers + 1) (differ + missed (f .same)) l) (sym p);
               }
 

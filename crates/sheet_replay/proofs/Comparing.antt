@@ -75,14 +75,14 @@ not-there xs at text L S h e d = same-is false xs S (λ q. absurd (false≢true 
 
 -- ---- page by page: the first `at` bytes of the answer and what is left are the sheet
 
-pub record Held (ol : OutLayout) (r : BuildEnd) (x answer : List ℕ) (c : Cursor) (at : ℕ) : Type 0 where
+pub record Agreed (ol : OutLayout) (r : BuildEnd) (x answer : List ℕ) (c : Cursor) (at : ℕ) : Type 0 where
   pub tables : ol ≡ vregsTables
   pub prints : Prints ol r x c
   pub within : at ≤ length answer
   pub each : (o : Out Result) → Printing ol o r x atStart → Printing ol o r x c × (take at answer ++ leftOf o c ≡ registerSheet o)
 
-pub held-start : (ol : OutLayout) (r : BuildEnd) (x answer : List ℕ) (c : Cursor) → Prints vregsTables r x atStart → ol ≡ vregsTables → c ≡ atStart → Held ol r x answer c 0
-held-start ol r x answer c p e d =
+pub agreed-start : (ol : OutLayout) (r : BuildEnd) (x answer : List ℕ) (c : Cursor) → Prints vregsTables r x atStart → ol ≡ vregsTables → c ≡ atStart → Agreed ol r x answer c 0
+agreed-start ol r x answer c p e d =
     record {
       tables = e;
       prints = subst (λ (l : OutLayout). Prints l r x c) (sym e) (subst (λ (k : Cursor). Prints vregsTables r x k) (sym d) p);
@@ -90,17 +90,17 @@ held-start ol r x answer c p e d =
       each = λ o g. (subst (λ (k : Cursor). Printing ol o r x k) (sym d) g, ap (λ (k : Cursor). leftOf o k) d ∙ left-start o);
     }
 
-pub held-within : (ol : OutLayout) (r : BuildEnd) (x answer : List ℕ) (c : Cursor) (at : ℕ) (p : Page) (B : List ℕ) → Turned ol r x c p B → Follows answer at (take (p .n) B) → at + p .n ≤ length answer
-held-within ol r x answer c at p B t f = let k : p .n ≡ length (take (p .n) B) = t .counts in omega (arith, f .fits, k)
+pub agreed-within : (ol : OutLayout) (r : BuildEnd) (x answer : List ℕ) (c : Cursor) (at : ℕ) (p : Page) (B : List ℕ) → Turned ol r x c p B → Follows answer at (take (p .n) B) → at + p .n ≤ length answer
+agreed-within ol r x answer c at p B t f = let k : p .n ≡ length (take (p .n) B) = t .counts in omega (arith, f .fits, k)
 
-pub held-next : (ol : OutLayout) (r : BuildEnd) (x answer : List ℕ) (c : Cursor) (at : ℕ) (p : Page) (B : List ℕ) → Held ol r x answer c at → Turned ol r x c p B → Follows answer at (take (p .n) B)
-    → Held ol r x answer (p .cur) (at + p .n)
-held-next ol r x answer c at p B h t f =
+pub agreed-next : (ol : OutLayout) (r : BuildEnd) (x answer : List ℕ) (c : Cursor) (at : ℕ) (p : Page) (B : List ℕ) → Agreed ol r x answer c at → Turned ol r x c p B → Follows answer at (take (p .n) B)
+    → Agreed ol r x answer (p .cur) (at + p .n)
+agreed-next ol r x answer c at p B h t f =
     let k : p .n ≡ length (take (p .n) B) = t .counts in
     record {
       tables = h .tables;
       prints = prints-next ol r x c p B (h .prints) t;
-      within = held-within ol r x answer c at p B t f;
+      within = agreed-within ol r x answer c at p B t f;
       each = λ o g.
           let q = h .each o g in
           let s = t .paged o (q .0) in (
@@ -111,15 +111,15 @@ held-next ol r x answer c at p B h t f =
     }
 
 -- a page that is not there
-pub held-differs : (ol : OutLayout) (r : BuildEnd) (x answer : List ℕ) (c : Cursor) (at : ℕ) (p : Page) (B : List ℕ) → Held ol r x answer c at → Turned ol r x c p B
+pub agreed-differs : (ol : OutLayout) (r : BuildEnd) (x answer : List ℕ) (c : Cursor) (at : ℕ) (p : Page) (B : List ℕ) → Agreed ol r x answer c at → Turned ol r x c p B
     → same (take (length (take (p .n) B)) (drop at answer)) (take (p .n) B) ≡ false → TellsSheet r x answer false
-held-differs ol r x answer c at p B h t d o g =
+agreed-differs ol r x answer c at p B h t d o g =
     let q = h .each o (subst (λ (l : OutLayout). Printing l o r x atStart) (sym (h .tables)) g) in
     not-there answer at (take (p .n) B) (leftOf o (p .cur)) (registerSheet o) (h .within) (ap (λ (l : List ℕ). take at answer ++ l) (sym (t .paged o (q .0) .text)) ∙ q .1) d
 
 -- all pages are there, and the answer ends with them or goes on
-pub held-all : (ol : OutLayout) (r : BuildEnd) (x answer : List ℕ) (c : Cursor) (at : ℕ) → Held ol r x answer c at → c .ended ≡ true → TellsSheet r x answer (eqb at (length answer))
-held-all ol r x answer c at h d o g =
+pub agreed-all : (ol : OutLayout) (r : BuildEnd) (x answer : List ℕ) (c : Cursor) (at : ℕ) → Agreed ol r x answer c at → c .ended ≡ true → TellsSheet r x answer (eqb at (length answer))
+agreed-all ol r x answer c at h d o g =
     same-is (eqb at (length answer)) answer (registerSheet o)
     (λ e. sym (take-length answer) ∙ ap (λ (k : ℕ). take k answer) (sym (eqb-true at (length answer) e)) ∙ is, λ e. eq-eqb at (length answer) (sym (length-take-le at answer (h .within)) ∙ ap length (is ∙ sym e)))
   where
