@@ -373,6 +373,9 @@ fn replay(room: Option<&str>) {
     println!("no difference");
 }
 
+/// Profiles of large jobs: a fiftieth of the others.
+const LARGE: [&str; 4] = ["limits", "full-tables", "many-merges", "long-sheets"];
+
 fn main() {
     let args: Vec<String> = env::args().skip(1).collect();
     if args.first().is_some_and(|arg| arg == "--replay") {
@@ -383,7 +386,7 @@ fn main() {
     let seed = args.next().unwrap_or(1);
     let mut trials = Trials::new(seed);
     for profile in PROFILES {
-        let fewer = if profile == "limits" { 50 } else { 1 };
+        let fewer = if LARGE.contains(&profile) { 50 } else { 1 };
         let count = jobs.div_ceil(fewer);
         trials.profile(profile, seed * count..(seed + 1) * count);
     }
