@@ -71,7 +71,7 @@ struct cundzeli_cut {
  *         whole rows as are left for it. Behind the last row of each table, and behind the tables, all is zero.
  * Refuses by 1 to 9. Then all of `out` is zero, and so are the counts.
  *
- * cundzeli_rows_for_job names rows that are never too few.
+ * cundzeli_rows_for_job names rows that are never too few where the usual ones are enough.
  */
 struct cundzeli_end build_initial_vregs(
     const uint8_t *CUNDZELI_RESTRICT job, size_t job_length,
@@ -338,10 +338,10 @@ static inline uint32_t cundzeli_at_most(uint64_t count, uint32_t most)
 
 /*
  * Rows by the counts in the header of a job (CUNDZELI_HEADER words at `job`), each at most the usual number. They are
- * never too few: the answer is the same as with the usual rows, and only these rows are set to zero. For a register
- * more comes of a cut or of a turned use, and each lowers the class uses that are left; so does a piece more. A turned
- * use is written twice, and its conflict piece may begin with a block parameter. A new group maps an operand that was
- * not mapped.
+ * never too few where those are enough: the answer is the same as with the usual rows, and only these are set to zero.
+ * Why: beyond one for each segment, a register or a piece more comes of a cut or of a turned use, and each of these
+ * uses up a class use. A turned use is written twice, and its conflict piece may begin with a block parameter. A new
+ * group maps an operand that was not mapped.
  */
 static inline struct cundzeli_rows cundzeli_rows_for_job(const uint8_t *job)
 {

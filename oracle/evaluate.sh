@@ -1,5 +1,5 @@
 #!/usr/bin/env bash
-# Generates jobs of every profile (of limits: those up to 8,000 bytes) and damaged sheets, has the oracle answer them, and holds the definition to the answers
+# Generates jobs of the profiles small to rooms (of limits: those up to 8,000 bytes) and damaged sheets, has the oracle answer them, and holds the definition to the answers
 # by computation (eval.py). usage: evaluate.sh [JOBS_PER_PROFILE [DAMAGED [SEED]]]   (default 200, 400, 1)
 set -eu
 cd "$(dirname "$0")"

@@ -79,7 +79,7 @@ if [ -x "$gen" ]; then
         "${gen%gen}oracle" <"$d/job" >"$d/want" 2>/dev/null
         feed "limits $seed" "$d/want" <"$d/job"
     done
-fi
+else echo "five jobs of profile limits: not tried, no $gen"; fi
 
 # --- reads that fail: nothing is answered, and it is said
 unread='^vregs: the job sheet could not be read, and nothing is answered: '

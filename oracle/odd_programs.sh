@@ -68,8 +68,8 @@ for _ in {1..9000}; do frame "$sheet" "$sheet"; done >"$d/differ"
 mkdir "$d/small"
 if mount -t tmpfs -o size=64k tmpfs "$d/small" 2>/dev/null; then
     fresh; "$replay" <"$d/differ" >"$d/small/out" 2>"$d/err"; st=$?
-    cp "$d/small/out" "$d/out"; tell "replay: a tmpfs of 64 KB, 9,000 answers that differ" "$(tail -n 1 "$d/out")" "${cut}No space left on device"
-    [ "$(stat -c %s "$d/out")" = 65536 ] || { echo "DIFFERS: $(stat -c %s "$d/out") bytes were written"; bad=1; }
+    cp "$d/small/out" "$d/out"; tell "replay: a tmpfs of 64 KB, 9,000 answers that differ" dif "${cut}No space left on device"
+    cmp -s "$d/out" <("$replay" <"$d/differ" | head -c 65536) || { echo "DIFFERS: not the first 65,536 bytes of the report"; bad=1; }
 else echo "replay: a tmpfs of 64 KB: not tried, no right to mount one"; fi
 
 # --- sheet_samples: the document in the folder that it is run in
@@ -95,7 +95,8 @@ tell "sheet_samples: /dev/full" "" "^sheet_samples: the tally could not be writt
 
 # --- find_cut_main
 ten=$(tail -n 1 crates/find_cut_main/stdout)
-fresh; "$cuts" >"$d/out" 2>"$d/err"; st=$?; tell "find_cut_main: as usual" "$ten" ""
+all_ten() { cmp -s "$d/out" crates/find_cut_main/stdout || { echo "DIFFERS: not all ten lines"; bad=1; }; }
+fresh; "$cuts" >"$d/out" 2>"$d/err"; st=$?; tell "find_cut_main: as usual" "$ten" ""; all_ten
 fresh; "$cuts" >/dev/full 2>"$d/err"; st=$?
 tell "find_cut_main: /dev/full" "" "^find_cut_main: the answers could not be written, and are cut: No space left on device"
 
@@ -104,7 +105,7 @@ if gcc -O1 -o "$d/faults" oracle/faults.c && gcc -O1 -shared -fPIC -DPRELOADED -
     half="half of all reads and writes interrupted, the others short"
     fresh; LD_PRELOAD=$d/faults.so "$replay" <"$stored" >"$d/out" 2>"$d/err"; st=$?; tell "replay: $half" "$all" ""
     fresh; (cd "$d/whole" && LD_PRELOAD=$d/faults.so "$samples" >"$d/out" 2>"$d/err"); st=$?; tell "sheet_samples: $half" "$agree" ""
-    fresh; LD_PRELOAD=$d/faults.so "$cuts" >"$d/out" 2>"$d/err"; st=$?; tell "find_cut_main: $half" "$ten" ""
+    fresh; LD_PRELOAD=$d/faults.so "$cuts" >"$d/out" 2>"$d/err"; st=$?; tell "find_cut_main: $half" "$ten" ""; all_ten
     fresh; "$d/faults" in "$replay" >"$d/out" 2>"$d/err"; st=$?
     tell "replay: a non-blocking standard input, its writer late" "" "${unread}Resource temporarily unavailable"
 else echo "interrupted calls, pipes that would block: not tried, gcc failed"; fi

@@ -335,7 +335,10 @@ fn sheets_are_long() {
         long.len(),
     );
     told("of these accepted", accepted.len());
-    told("sheet and answer over 65,536 bytes", pages.count());
-    told("sheet over 65,536 bytes, answer over 131,072", two.count());
-    told("sheet over 65,536 bytes, refused", refused.count());
+    told("of these sheet and answer over 65,536 bytes", pages.count());
+    told(
+        "of these sheet over 65,536 bytes, answer over 131,072",
+        two.count(),
+    );
+    told("of these sheet over 65,536 bytes, refused", refused.count());
 }
