@@ -5,6 +5,14 @@ use std::convert::Infallible;
 use std::ops::{BitOr, BitOrAssign};
 
 /// Stands in a result for a use that was turned into a conflict.
+///
+/// ```
+/// use cundzeli::{Turned, UseKind};
+///
+/// let turned = |kind: &UseKind| matches!(kind, UseKind::ConstraintConflict(Turned));
+/// let uses = [UseKind::BlockparamOut, UseKind::ConstraintConflict(Turned)];
+/// assert_eq!(uses.iter().position(turned), Some(1));
+/// ```
 #[derive(Clone, Copy, Debug, PartialEq, Eq, Hash)]
 pub struct Turned;
 
@@ -98,6 +106,13 @@ pub enum UseKind<C = Turned> {
 
 impl<C> UseKind<C> {
     /// Its number, 0 to 9.
+    ///
+    /// ```
+    /// use cundzeli::{PhysReg, UseKind};
+    ///
+    /// let kinds: [UseKind; 2] = [UseKind::FixedUse { reg: PhysReg(7) }, UseKind::BlockparamOut];
+    /// assert_eq!(kinds.map(|kind| kind.number()), [1, 9]);
+    /// ```
     pub fn number(&self) -> u32 {
         match self {
             UseKind::FixedDef { .. } => 0,
@@ -216,6 +231,9 @@ impl From<UseKind<Infallible>> for UseKind {
 /// ```
 /// use cundzeli::Flags;
 ///
+/// let flags = [Flags::NONE, Flags::LIVE_IN, Flags::LIVE_OUT, Flags::FIXED_HINT, Flags::FIXED_DEF];
+/// assert_eq!(flags.map(Flags::bits), [0, 1, 2, 4, 8]);
+///
 /// let flags = Flags::LIVE_IN | Flags::FIXED_DEF;
 /// assert!(flags.live_in && flags.fixed_def && !flags.live_out);
 /// assert_eq!(flags.bits(), 9);
@@ -257,11 +275,25 @@ impl Flags {
     }
 
     /// The flags of a sum, or none above 15.
+    ///
+    /// ```
+    /// use cundzeli::Flags;
+    ///
+    /// assert_eq!(Flags::from_bits(3), Some(Flags::LIVE_IN | Flags::LIVE_OUT));
+    /// assert!((0..16).all(|bits| Flags::from_bits(bits).map(Flags::bits) == Some(bits)));
+    /// ```
     pub fn from_bits(bits: u32) -> Option<Self> {
         (bits < 16).then(|| Self::of(bits))
     }
 
     /// The sum of its flags' numbers.
+    ///
+    /// ```
+    /// use cundzeli::Flags;
+    ///
+    /// let flags = Flags { live_out: true, fixed_hint: true, ..Flags::NONE };
+    /// assert_eq!(flags.bits(), 2 + 4);
+    /// ```
     pub fn bits(self) -> u32 {
         let flags = [self.live_in, self.live_out, self.fixed_hint, self.fixed_def];
         let bits = flags.iter().zip([1, 2, 4, 8]);
