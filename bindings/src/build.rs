@@ -230,7 +230,7 @@ impl Builder {
     ///
     /// By 2 to 9; never by 1.
     ///
-    /// Two definitions at one instruction that no class fits have no registers; the builder builds on:
+    /// Of two definitions at one instruction that no class fits none can be turned. The builder serves on:
     ///
     /// ```
     /// use cundzeli::Refusal;
@@ -242,10 +242,9 @@ impl Builder {
     /// # let right = book.class(ClassData::new(RegClassMask(0b100)));
     /// # let mut job = Job::new(&book, Options::default(), BlockData::new(4, 1.0));
     /// # let value = job.value(RegBank(0), Remat::None);
+    /// # job.segment(value, Inst(0).normal(), Inst(2).normal(), Flags::NONE);
     ///
     /// let mut builder = Builder::new();
-    /// job.segment(value, Inst(0).normal(), Inst(2).normal(), Flags::NONE)
-    ///     .add(Inst(0), UseKind::ClassDef { slot: 0, class: left });
     /// assert_eq!(builder.build(&job)?.registers().len(), 1);
     /// let mut bad = job.clone();
     /// bad.segment(value, Inst(2).normal(), Inst(3).normal(), Flags::NONE)
@@ -264,7 +263,7 @@ impl Builder {
     /// The tables of the last build.
     ///
     /// ```
-    /// use cundzeli::build::{Builder, Tables};
+    /// use cundzeli::build::Builder;
     /// # use cundzeli::build::{Book, ClassData, Job, Options, Remat, build};
     /// # use cundzeli::{BlockData, Flags, Inst, RegBank, RegClass, RegClassMask, UseKind};
     /// # let class = RegClass(0);
@@ -272,16 +271,12 @@ impl Builder {
     /// # let mut job = Job::new(&book, Options::default(), BlockData::new(4, 1.0));
     /// # let value = job.value(RegBank(0), Remat::None);
     ///
-    /// fn last(jobs: &[Job]) -> Tables {
-    ///     let mut builder = Builder::new();
-    ///     let refused = jobs.iter().filter(|job| builder.build(job).is_err()).count();
-    ///     assert_eq!(refused, 0);
-    ///     builder.into_tables()
-    /// }
-    /// let before = job.clone();
+    /// let mut builder = Builder::new();
+    /// assert_eq!(builder.build(&job)?.made().registers, 0);
     /// job.segment(value, Inst(0).normal(), Inst(2).normal(), Flags::NONE);
-    /// assert_eq!(last(&[job.clone(), before.clone()]).made().registers, 0);
-    /// assert_eq!(last(&[before, job]).made().registers, 1);
+    /// builder.build(&job)?;
+    /// assert_eq!(builder.into_tables().made().registers, 1);
+    /// # Ok::<(), cundzeli::Refusal>(())
     /// ```
     pub fn into_tables(self) -> Tables {
         self.tables
@@ -326,7 +321,6 @@ pub fn build(job: &Job) -> Result<Tables, Refusal> {
 /// # let value = job.value(RegBank(0), Remat::None);
 /// # job.segment(value, Inst(0).normal(), Inst(2).normal(), Flags::NONE);
 ///
-/// // The bytes may come from a file or another process.
 /// let mut bytes = job.bytes();
 /// let (mut tables, mut work) = (Tables::new(), Work::new());
 /// build_binary(&bytes, &mut tables, &mut work)?;

@@ -76,15 +76,13 @@ impl Side {
     /// 0 for early, 1 for late.
     ///
     /// ```
-    /// use cundzeli::cut::{Blocks, Side, Work, find, find_in_bytes};
-    /// use cundzeli::{BlockData, Inst};
+    /// use cundzeli::BlockData;
+    /// use cundzeli::cut::{Blocks, Side, Work, find_in_bytes};
     ///
     /// let blocks = Blocks::new(BlockData::new(4, 1.0));
-    /// for side in [Side::Early, Side::Late] {
-    ///     let found = find(&blocks, Inst(0), Inst(3), side, &mut Work::new());
-    ///     let number = find_in_bytes(blocks.bytes(), 0, 3, side.number(), &mut Work::new());
-    ///     assert_eq!(found.map(u32::from), number);
-    /// }
+    /// let cut = |side: Side| find_in_bytes(blocks.bytes(), 0, 3, side.number(), &mut Work::new());
+    /// assert_eq!([Side::Early, Side::Late].map(Side::number), [0, 1]);
+    /// assert_eq!([Side::Early, Side::Late].map(cut), [Ok(1), Ok(3)]);
     /// ```
     pub fn number(self) -> u32 {
         match self {

@@ -8,10 +8,21 @@ use std::ops::{BitOr, BitOrAssign};
 ///
 /// ```
 /// use cundzeli::{Turned, UseKind};
+/// # use cundzeli::build::{Book, ClassData, Job, Options, Remat, build};
+/// # use cundzeli::{BlockData, Flags, Inst, RegBank, RegClass, RegClassMask};
+/// # let mut book = Book::new(RegClass(0), ClassData::new(RegClassMask(0b111)));
+/// # let left = book.class(ClassData::new(RegClassMask(0b010)));
+/// # let right = book.class(ClassData::new(RegClassMask(0b100)));
+/// # let mut job = Job::new(&book, Options::default(), BlockData::new(4, 1.0));
+/// # let value = job.value(RegBank(0), Remat::None);
 ///
-/// let turned = |kind: &UseKind| matches!(kind, UseKind::ConstraintConflict(Turned));
-/// let uses = [UseKind::BlockparamOut, UseKind::ConstraintConflict(Turned)];
-/// assert_eq!(uses.iter().position(turned), Some(1));
+/// job.segment(value, Inst(0).boundary(), Inst(1).normal(), Flags::NONE)
+///     .add(Inst(1), UseKind::ClassUse { slot: 0, class: left })
+///     .add(Inst(1), UseKind::ClassUse { slot: 1, class: right });
+/// let tables = build(&job)?;
+/// let turned = UseKind::ConstraintConflict(Turned);
+/// assert_eq!(tables.uses(&tables.segment(0)).position(|one| one.kind == turned), Some(1));
+/// # Ok::<(), cundzeli::Refusal>(())
 /// ```
 #[derive(Clone, Copy, Debug, PartialEq, Eq, Hash)]
 pub struct Turned;

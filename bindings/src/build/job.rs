@@ -460,16 +460,15 @@ impl SegmentUses<'_> {
     /// # let mut job = Job::new(&book, Options::default(), BlockData::new(4, 1.0));
     /// # let value = job.value(RegBank(0), Remat::None);
     ///
-    /// let used_at = |insts: [u32; 2]| {
+    /// let refused = |first, second| {
     ///     let mut job = job.clone();
     ///     job.segment(value, Inst(0).boundary(), Inst(3).normal(), Flags::NONE)
-    ///         .add(Inst(insts[0]), UseKind::ClassUse { slot: 0, class })
-    ///         .add(Inst(insts[1]), UseKind::ClassUse { slot: 1, class });
-    ///     build(&job).map(|tables| tables.a_use(1).inst)
+    ///         .add(first, UseKind::ClassUse { slot: 0, class })
+    ///         .add(second, UseKind::ClassUse { slot: 1, class });
+    ///     build(&job).err()
     /// };
-    /// assert_eq!(used_at([2, 2]), Ok(Inst(2)));
-    /// assert_eq!(used_at([2, 3]), Ok(Inst(3)));
-    /// assert_eq!(used_at([3, 2]), Err(Refusal::BadUse));
+    /// assert_eq!(refused(Inst(2), Inst(2)), None);
+    /// assert_eq!(refused(Inst(3), Inst(2)), Some(Refusal::BadUse));
     /// ```
     pub fn add(&mut self, inst: Inst, kind: UseKind<Infallible>) -> &mut Self {
         let [a, b, c, d] = kind.words();

@@ -56,7 +56,7 @@ impl Rows {
 
     /// What the program `vregs` has.
     ///
-    /// A header that counts as much as words can, and no job's own rows are more:
+    /// The greatest counts name them, and so no job's own rows are more:
     ///
     /// ```
     /// use cundzeli::build::Rows;
@@ -96,6 +96,8 @@ impl Rows {
     ///
     /// The job is any bytes; of those that are no job the answer is 1 in any room.
     ///
+    /// With one segment and two uses:
+    ///
     /// ```
     /// use cundzeli::build::{Rows, Tables, Work, build_in_rows};
     /// # use cundzeli::build::{Book, ClassData, Job, Options, Remat, build};
@@ -109,7 +111,6 @@ impl Rows {
     /// #     .add(Inst(0), UseKind::ClassDef { slot: 0, class: left })
     /// #     .add(Inst(3), UseKind::ClassUse { slot: 0, class: right });
     ///
-    /// // A job with one segment and two uses.
     /// let bytes = job.bytes();
     /// let rows = Rows::for_job(&bytes);
     /// assert_eq!(rows, Rows { registers: 3, segments: 3, uses: 6, groups: 0 });

@@ -375,7 +375,7 @@ impl Tables {
     /// # let mut job = Job::new(&book, Options::default(), BlockData::new(4, 1.0));
     /// # let value = job.value(RegBank(0), Remat::None);
     ///
-    /// // From an instruction up to the next it can't be spilled.
+    /// // A register of one instruction can't be spilled.
     /// job.segment(value, Inst(0).boundary(), Inst(1).boundary(), Flags::NONE);
     /// let tables = build(&job)?;
     /// assert_eq!(tables.register(VirtReg(0)).weight, f32::INFINITY);
@@ -408,23 +408,22 @@ impl Tables {
     /// All registers, by rising number: set by set, in a set those made by cuts by their points, then those made for
     /// conflicts.
     ///
-    /// What could be spilled, the cheapest first:
+    /// By their weights, the cheapest to spill first:
     ///
     /// ```
     /// # use cundzeli::build::{Book, ClassData, Job, Options, Remat, build};
     /// # use cundzeli::{BlockData, Flags, Inst, RegBank, RegClass, RegClassMask, UseKind};
-    /// # let mut book = Book::new(RegClass(0), ClassData::new(RegClassMask(0b111)));
-    /// # let left = book.class(ClassData::new(RegClassMask(0b010)));
-    /// # let right = book.class(ClassData::new(RegClassMask(0b100)));
+    /// # let class = RegClass(0);
+    /// # let book = Book::new(class, ClassData::new(RegClassMask(1)));
     /// # let mut job = Job::new(&book, Options::default(), BlockData::new(4, 1.0));
-    /// # let value = job.value(RegBank(0), Remat::None);
-    /// # job.segment(value, Inst(0).normal(), Inst(3).normal(), Flags::NONE)
-    /// #     .add(Inst(0), UseKind::ClassDef { slot: 0, class: left })
-    /// #     .add(Inst(3), UseKind::ClassUse { slot: 0, class: right });
-    /// let tables = build(&job)?;
-    /// let mut registers: Vec<_> = tables.registers().filter(|register| register.weight.is_finite()).collect();
+    /// for last in [3, 1] {
+    ///     let value = job.value(RegBank(0), Remat::None);
+    ///     let mut uses = job.segment(value, Inst(0).boundary(), Inst(4).boundary(), Flags::NONE);
+    ///     (0..=last).for_each(|inst| _ = uses.add(Inst(inst), UseKind::ClassUse { slot: 0, class }));
+    /// }
+    /// let mut registers: Vec<_> = build(&job)?.registers().collect();
     /// registers.sort_by(|one, other| one.weight.total_cmp(&other.weight));
-    /// assert_eq!((tables.registers().len(), registers.len()), (2, 1));
+    /// assert_eq!((registers[0].weight, registers[1].weight), (0.5, 1.0));
     /// # Ok::<(), cundzeli::Refusal>(())
     /// ```
     pub fn registers(&self) -> impl ExactSizeIterator<Item = Register> {
