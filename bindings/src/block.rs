@@ -18,6 +18,15 @@ pub struct BlockData {
 
 impl BlockData {
     /// A block of so many instructions, run so often.
+    ///
+    /// ```
+    /// use cundzeli::cut::{Blocks, Side, Work, find};
+    /// use cundzeli::{BlockData, Inst, Refusal};
+    ///
+    /// let cut = |block| find(&Blocks::new(block), Inst(0), Inst(1), Side::Early, &mut Work::new());
+    /// assert_eq!(cut(BlockData::new(2, 0.0)), Ok(Inst(1)));
+    /// assert_eq!(cut(BlockData::new(2, -0.0)), Err(Refusal::BadFunction));
+    /// ```
     pub fn new(insts: u32, frequency: f32) -> Self {
         Self { insts, frequency }
     }

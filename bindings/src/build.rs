@@ -46,6 +46,14 @@ pub use rows::Rows;
 pub use tables::{Group, GroupPlace, Origin, Register, Segment, Tables, Use};
 
 /// The bytes of the work space, for the largest job that is accepted.
+///
+/// The space for any call in the usual rows:
+///
+/// ```
+/// use cundzeli::build::{Rows, WORK};
+///
+/// assert_eq!(WORK + Rows::USUAL.bytes(), 571_400);
+/// ```
 pub const WORK: usize = 110_600;
 
 #[repr(C)]
@@ -80,6 +88,23 @@ unsafe extern "C" {
 }
 
 /// How many registers and groups were made.
+///
+/// A value without a segment has no register:
+///
+/// ```
+/// use cundzeli::build::Counts;
+/// # use cundzeli::build::{Book, ClassData, Job, Options, Remat, build};
+/// # use cundzeli::{BlockData, Flags, Inst, RegBank, RegClass, RegClassMask, UseKind};
+/// # let class = RegClass(0);
+/// # let book = Book::new(class, ClassData::new(RegClassMask(1)));
+/// # let mut job = Job::new(&book, Options::default(), BlockData::new(4, 1.0));
+/// # let value = job.value(RegBank(0), Remat::None);
+///
+/// let _unused = job.value(RegBank(0), Remat::None);
+/// job.segment(value, Inst(0).normal(), Inst(2).normal(), Flags::NONE);
+/// assert_eq!(build(&job)?.made(), Counts { registers: 1, groups: 0 });
+/// # Ok::<(), cundzeli::Refusal>(())
+/// ```
 #[derive(Clone, Copy, Debug, Default, PartialEq, Eq)]
 pub struct Counts {
     /// Registers.
@@ -89,16 +114,65 @@ pub struct Counts {
 }
 
 /// Space that the builder works in. One serves any number of calls; what it holds does not matter.
+///
+/// ```
+/// use cundzeli::build::{Tables, Work, build_binary};
+/// # use cundzeli::build::{Book, ClassData, Job, Options, Remat, build};
+/// # use cundzeli::{BlockData, Flags, Inst, RegBank, RegClass, RegClassMask, UseKind};
+/// # let class = RegClass(0);
+/// # let book = Book::new(class, ClassData::new(RegClassMask(1)));
+/// # let mut job = Job::new(&book, Options::default(), BlockData::new(4, 1.0));
+/// # let value = job.value(RegBank(0), Remat::None);
+/// # job.segment(value, Inst(0).normal(), Inst(2).normal(), Flags::NONE);
+///
+/// let (mut tables, mut work) = (Tables::new(), Work::new());
+/// let first = build_binary(&job.bytes(), &mut tables, &mut work)?;
+/// assert!(build_binary(b"no job", &mut tables, &mut work).is_err());
+/// assert_eq!(build_binary(&job.bytes(), &mut tables, &mut work), Ok(first));
+/// # Ok::<(), cundzeli::Refusal>(())
+/// ```
 pub struct Work(Box<[u8; WORK]>);
 
 impl Work {
     /// Space for calls.
+    ///
+    /// ```
+    /// use cundzeli::build::{Counts, Tables, Work, build_binary};
+    /// # use cundzeli::build::{Book, ClassData, Job, Options, Remat, build};
+    /// # use cundzeli::{BlockData, Flags, Inst, RegBank, RegClass, RegClassMask, UseKind};
+    /// # let class = RegClass(0);
+    /// # let book = Book::new(class, ClassData::new(RegClassMask(1)));
+    /// # let mut job = Job::new(&book, Options::default(), BlockData::new(4, 1.0));
+    /// # let value = job.value(RegBank(0), Remat::None);
+    ///
+    /// let made = build_binary(&job.bytes(), &mut Tables::new(), &mut Work::new());
+    /// assert_eq!(made, Ok(Counts::default()), "a job without a segment");
+    /// ```
     pub fn new() -> Self {
         let bytes = vec![0; WORK].into_boxed_slice();
         Self(bytes.try_into().expect("as many bytes as asked for"))
     }
 
     /// For trials: work space that holds these bytes.
+    ///
+    /// ```
+    /// use cundzeli::build::{Tables, Work, build_binary};
+    /// # use cundzeli::build::{Book, ClassData, Job, Options, Remat, build};
+    /// # use cundzeli::{BlockData, Flags, Inst, RegBank, RegClass, RegClassMask, UseKind};
+    /// # let class = RegClass(0);
+    /// # let book = Book::new(class, ClassData::new(RegClassMask(1)));
+    /// # let mut job = Job::new(&book, Options::default(), BlockData::new(4, 1.0));
+    /// # let value = job.value(RegBank(0), Remat::None);
+    /// # job.segment(value, Inst(0).normal(), Inst(2).normal(), Flags::NONE);
+    ///
+    /// let [mut clean, mut filled] = [Tables::new(), Tables::new()];
+    /// let mut work = Work::new();
+    /// build_binary(&job.bytes(), &mut clean, &mut work)?;
+    /// work.bytes().fill(0xff);
+    /// build_binary(&job.bytes(), &mut filled, &mut work)?;
+    /// assert_eq!(clean.bytes(), filled.bytes());
+    /// # Ok::<(), cundzeli::Refusal>(())
+    /// ```
     pub fn bytes(&mut self) -> &mut [u8; WORK] {
         &mut self.0
     }
@@ -139,7 +213,13 @@ pub struct Builder {
 }
 
 impl Builder {
-    /// Space for calls.
+    /// Space for calls. It grows with the jobs.
+    ///
+    /// ```
+    /// use cundzeli::build::{Builder, Rows};
+    ///
+    /// assert_eq!(Builder::new().into_tables().rows(), Rows::NONE);
+    /// ```
     pub fn new() -> Self {
         Self::default()
     }
@@ -149,6 +229,31 @@ impl Builder {
     /// # Errors
     ///
     /// By 2 to 9; never by 1.
+    ///
+    /// Of two definitions at one instruction that no class fits none can be turned. The builder serves on:
+    ///
+    /// ```
+    /// use cundzeli::Refusal;
+    /// use cundzeli::build::Builder;
+    /// # use cundzeli::build::{Book, ClassData, Job, Options, Remat, build};
+    /// # use cundzeli::{BlockData, Flags, Inst, RegBank, RegClass, RegClassMask, UseKind};
+    /// # let mut book = Book::new(RegClass(0), ClassData::new(RegClassMask(0b111)));
+    /// # let left = book.class(ClassData::new(RegClassMask(0b010)));
+    /// # let right = book.class(ClassData::new(RegClassMask(0b100)));
+    /// # let mut job = Job::new(&book, Options::default(), BlockData::new(4, 1.0));
+    /// # let value = job.value(RegBank(0), Remat::None);
+    /// # job.segment(value, Inst(0).normal(), Inst(2).normal(), Flags::NONE);
+    ///
+    /// let mut builder = Builder::new();
+    /// assert_eq!(builder.build(&job)?.registers().len(), 1);
+    /// let mut bad = job.clone();
+    /// bad.segment(value, Inst(2).normal(), Inst(3).normal(), Flags::NONE)
+    ///     .add(Inst(2), UseKind::ClassDef { slot: 0, class: left })
+    ///     .add(Inst(2), UseKind::ClassDef { slot: 1, class: right });
+    /// assert_eq!(builder.build(&bad).err(), Some(Refusal::Stopped));
+    /// assert_eq!(builder.build(&job)?.registers().len(), 1);
+    /// # Ok::<(), cundzeli::Refusal>(())
+    /// ```
     pub fn build(&mut self, job: &Job) -> Result<&Tables, Refusal> {
         job.write(&mut self.job);
         build_binary(&self.job, &mut self.tables, &mut self.work)?;
@@ -156,6 +261,23 @@ impl Builder {
     }
 
     /// The tables of the last build.
+    ///
+    /// ```
+    /// use cundzeli::build::Builder;
+    /// # use cundzeli::build::{Book, ClassData, Job, Options, Remat, build};
+    /// # use cundzeli::{BlockData, Flags, Inst, RegBank, RegClass, RegClassMask, UseKind};
+    /// # let class = RegClass(0);
+    /// # let book = Book::new(class, ClassData::new(RegClassMask(1)));
+    /// # let mut job = Job::new(&book, Options::default(), BlockData::new(4, 1.0));
+    /// # let value = job.value(RegBank(0), Remat::None);
+    ///
+    /// let mut builder = Builder::new();
+    /// assert_eq!(builder.build(&job)?.made().registers, 0);
+    /// job.segment(value, Inst(0).normal(), Inst(2).normal(), Flags::NONE);
+    /// builder.build(&job)?;
+    /// assert_eq!(builder.into_tables().made().registers, 1);
+    /// # Ok::<(), cundzeli::Refusal>(())
+    /// ```
     pub fn into_tables(self) -> Tables {
         self.tables
     }
@@ -191,9 +313,23 @@ pub fn build(job: &Job) -> Result<Tables, Refusal> {
 /// ```
 /// use cundzeli::Refusal;
 /// use cundzeli::build::{Tables, Work, build_binary};
+/// # use cundzeli::build::{Book, ClassData, Job, Options, Remat, build};
+/// # use cundzeli::{BlockData, Flags, Inst, RegBank, RegClass, RegClassMask, UseKind};
+/// # let class = RegClass(0);
+/// # let book = Book::new(class, ClassData::new(RegClassMask(1)));
+/// # let mut job = Job::new(&book, Options::default(), BlockData::new(4, 1.0));
+/// # let value = job.value(RegBank(0), Remat::None);
+/// # job.segment(value, Inst(0).normal(), Inst(2).normal(), Flags::NONE);
 ///
-/// let end = build_binary(b"no job", &mut Tables::new(), &mut Work::new());
-/// assert_eq!(end, Err(Refusal::NotARecord));
+/// let mut bytes = job.bytes();
+/// let (mut tables, mut work) = (Tables::new(), Work::new());
+/// build_binary(&bytes, &mut tables, &mut work)?;
+/// assert_eq!(tables.registers().len(), 1);
+///
+/// bytes.pop();
+/// assert_eq!(build_binary(&bytes, &mut tables, &mut work), Err(Refusal::NotARecord));
+/// assert_eq!(tables.registers().len(), 0);
+/// # Ok::<(), cundzeli::Refusal>(())
 /// ```
 pub fn build_binary(job: &[u8], tables: &mut Tables, work: &mut Work) -> Result<Counts, Refusal> {
     build_in_rows(job, Rows::for_job(job), tables, work)

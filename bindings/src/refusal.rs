@@ -95,11 +95,25 @@ impl Refusal {
     }
 
     /// Its number, from 1.
+    ///
+    /// ```
+    /// use cundzeli::Refusal;
+    ///
+    /// assert_eq!((Refusal::NotARecord.number(), Refusal::Full.number()), (1, 9));
+    /// assert!(Refusal::BadBook < Refusal::BadUse, "they are in the order of their numbers");
+    /// ```
     pub fn number(self) -> u32 {
         self as u32
     }
 
     /// All causes that it is given for.
+    ///
+    /// ```
+    /// use cundzeli::Refusal;
+    ///
+    /// assert!(Refusal::BadHint.causes().starts_with("hint's value unknown"));
+    /// assert!(Refusal::Stopped.to_string().ends_with(Refusal::Stopped.causes()));
+    /// ```
     pub fn causes(self) -> &'static str {
         CAUSES[self as usize - 1]
     }
@@ -120,6 +134,13 @@ impl fmt::Display for Refusal {
 impl Error for Refusal {}
 
 /// A number that no refusal has.
+///
+/// ```
+/// use cundzeli::{Refusal, UnknownNumber};
+///
+/// assert_eq!(Refusal::try_from(10), Err(UnknownNumber(10)));
+/// assert_eq!(UnknownNumber(10).to_string(), "10 is the number of no refusal");
+/// ```
 #[derive(Clone, Copy, Debug, PartialEq, Eq)]
 pub struct UnknownNumber(
     /// The number.

@@ -5,6 +5,25 @@ use std::convert::Infallible;
 use std::ops::{BitOr, BitOrAssign};
 
 /// Stands in a result for a use that was turned into a conflict.
+///
+/// ```
+/// use cundzeli::{Turned, UseKind};
+/// # use cundzeli::build::{Book, ClassData, Job, Options, Remat, build};
+/// # use cundzeli::{BlockData, Flags, Inst, RegBank, RegClass, RegClassMask};
+/// # let mut book = Book::new(RegClass(0), ClassData::new(RegClassMask(0b111)));
+/// # let left = book.class(ClassData::new(RegClassMask(0b010)));
+/// # let right = book.class(ClassData::new(RegClassMask(0b100)));
+/// # let mut job = Job::new(&book, Options::default(), BlockData::new(4, 1.0));
+/// # let value = job.value(RegBank(0), Remat::None);
+///
+/// job.segment(value, Inst(0).boundary(), Inst(1).normal(), Flags::NONE)
+///     .add(Inst(1), UseKind::ClassUse { slot: 0, class: left })
+///     .add(Inst(1), UseKind::ClassUse { slot: 1, class: right });
+/// let tables = build(&job)?;
+/// let turned = UseKind::ConstraintConflict(Turned);
+/// assert_eq!(tables.uses(&tables.segment(0)).position(|one| one.kind == turned), Some(1));
+/// # Ok::<(), cundzeli::Refusal>(())
+/// ```
 #[derive(Clone, Copy, Debug, PartialEq, Eq, Hash)]
 pub struct Turned;
 
@@ -98,6 +117,13 @@ pub enum UseKind<C = Turned> {
 
 impl<C> UseKind<C> {
     /// Its number, 0 to 9.
+    ///
+    /// ```
+    /// use cundzeli::{PhysReg, UseKind};
+    ///
+    /// let kinds: [UseKind; 2] = [UseKind::FixedUse { reg: PhysReg(7) }, UseKind::BlockparamOut];
+    /// assert_eq!(kinds.map(|kind| kind.number()), [1, 9]);
+    /// ```
     pub fn number(&self) -> u32 {
         match self {
             UseKind::FixedDef { .. } => 0,
@@ -216,6 +242,9 @@ impl From<UseKind<Infallible>> for UseKind {
 /// ```
 /// use cundzeli::Flags;
 ///
+/// let flags = [Flags::NONE, Flags::LIVE_IN, Flags::LIVE_OUT, Flags::FIXED_HINT, Flags::FIXED_DEF];
+/// assert_eq!(flags.map(Flags::bits), [0, 1, 2, 4, 8]);
+///
 /// let flags = Flags::LIVE_IN | Flags::FIXED_DEF;
 /// assert!(flags.live_in && flags.fixed_def && !flags.live_out);
 /// assert_eq!(flags.bits(), 9);
@@ -257,11 +286,25 @@ impl Flags {
     }
 
     /// The flags of a sum, or none above 15.
+    ///
+    /// ```
+    /// use cundzeli::Flags;
+    ///
+    /// assert_eq!(Flags::from_bits(3), Some(Flags::LIVE_IN | Flags::LIVE_OUT));
+    /// assert!((0..16).all(|bits| Flags::from_bits(bits).map(Flags::bits) == Some(bits)));
+    /// ```
     pub fn from_bits(bits: u32) -> Option<Self> {
         (bits < 16).then(|| Self::of(bits))
     }
 
     /// The sum of its flags' numbers.
+    ///
+    /// ```
+    /// use cundzeli::Flags;
+    ///
+    /// let flags = Flags { live_out: true, fixed_hint: true, ..Flags::NONE };
+    /// assert_eq!(flags.bits(), 2 + 4);
+    /// ```
     pub fn bits(self) -> u32 {
         let flags = [self.live_in, self.live_out, self.fixed_hint, self.fixed_def];
         let bits = flags.iter().zip([1, 2, 4, 8]);

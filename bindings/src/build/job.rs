@@ -38,6 +38,26 @@ pub enum Remat {
 }
 
 /// An operand that is a value group.
+///
+/// A pair must be of a class of pairs:
+///
+/// ```
+/// use cundzeli::Refusal;
+/// use cundzeli::build::Operand;
+/// # use cundzeli::build::{Book, ClassData, Job, Options, Remat, build};
+/// # use cundzeli::{BlockData, Flags, Inst, RegBank, RegClass, RegClassMask, UseKind};
+/// # let mut book = Book::new(RegClass(0), ClassData::new(RegClassMask(0b11)));
+/// # let pairs = book.class(ClassData { group_size: 2, ..ClassData::new(RegClassMask(0b10)) });
+/// # let mut job = Job::new(&book, Options::default(), BlockData::new(4, 1.0));
+/// # let members = [(); 2].map(|()| job.value(RegBank(0), Remat::None));
+///
+/// let vgroup = job.vgroup(&members);
+/// let mut single = job.clone();
+/// job.operand(Operand { inst: Inst(1), slot: 0, vgroup, class: pairs });
+/// assert!(build(&job).is_ok());
+/// single.operand(Operand { inst: Inst(1), slot: 0, vgroup, class: RegClass(0) });
+/// assert_eq!(build(&single).err(), Some(Refusal::BadFunction));
+/// ```
 #[derive(Clone, Copy, Debug, PartialEq, Eq)]
 pub struct Operand {
     /// Where it stands.
@@ -131,6 +151,18 @@ pub struct Job {
 
 impl Job {
     /// A job over a book, begun with block 0.
+    ///
+    /// The book is copied: what is added to it later is not in the job.
+    ///
+    /// ```
+    /// # use cundzeli::build::{Book, ClassData, Job, Options, Remat, build};
+    /// # use cundzeli::{BlockData, Flags, Inst, RegBank, RegClass, RegClassMask, UseKind};
+    /// let mut book = Book::new(RegClass(0), ClassData::new(RegClassMask(1)));
+    /// let before = Job::new(&book, Options::default(), BlockData::new(2, 1.0));
+    /// book.reg(false);
+    /// let after = Job::new(&book, Options::default(), BlockData::new(2, 1.0));
+    /// assert_eq!(before.bytes().len() + 4, after.bytes().len());
+    /// ```
     pub fn new(book: &Book, options: Options, first: BlockData) -> Self {
         let mut job = Self {
             options,
@@ -148,21 +180,88 @@ impl Job {
     }
 
     /// The next block.
+    ///
+    /// The instructions of a block are counted on from those before it:
+    ///
+    /// ```
+    /// use cundzeli::{Block, Refusal};
+    /// # use cundzeli::build::{Book, ClassData, Job, Options, Remat, build};
+    /// # use cundzeli::{BlockData, Flags, Inst, RegBank, RegClass, RegClassMask, UseKind};
+    /// # let class = RegClass(0);
+    /// # let book = Book::new(class, ClassData::new(RegClassMask(1)));
+    /// # let mut job = Job::new(&book, Options::default(), BlockData::new(4, 1.0));
+    /// # let value = job.value(RegBank(0), Remat::None);
+    ///
+    /// job.segment(value, Inst(3).normal(), Inst(5).normal(), Flags::NONE);
+    /// assert_eq!(build(&job).err(), Some(Refusal::BadSegment), "there are 4 instructions");
+    /// assert_eq!(job.block(BlockData::new(2, 0.5)), Block(1));
+    /// assert!(build(&job).is_ok());
+    /// ```
     pub fn block(&mut self, block: BlockData) -> Block {
         Block(self.blocks.add(block.row()))
     }
 
     /// The next value, which leads its set.
+    ///
+    /// ```
+    /// use cundzeli::Refusal;
+    /// # use cundzeli::build::{Book, ClassData, Job, Options, Remat, build};
+    /// # use cundzeli::{BlockData, Flags, Inst, RegBank, RegClass, RegClassMask, UseKind};
+    /// # let class = RegClass(0);
+    /// # let book = Book::new(class, ClassData::new(RegClassMask(1)));
+    /// # let mut job = Job::new(&book, Options::default(), BlockData::new(4, 1.0));
+    /// # let value = job.value(RegBank(0), Remat::None);
+    ///
+    /// assert_ne!(job.value(RegBank(0), Remat::CheaperThanMove), value);
+    /// assert!(build(&job).is_ok());
+    /// job.value(RegBank(1), Remat::None);
+    /// assert_eq!(build(&job).err(), Some(Refusal::BadBook), "there is no bank 1");
+    /// ```
     pub fn value(&mut self, bank: RegBank, remat: Remat) -> Value {
         self.value_led_by(Value(self.values.count()), bank, remat)
     }
 
     /// The next value, in the set of another one that leads itself. The segments of a set never overlap.
+    ///
+    /// Both have one register:
+    ///
+    /// ```
+    /// # use cundzeli::build::{Book, ClassData, Job, Options, Remat, build};
+    /// # use cundzeli::{BlockData, Flags, Inst, RegBank, RegClass, RegClassMask, UseKind};
+    /// # let class = RegClass(0);
+    /// # let book = Book::new(class, ClassData::new(RegClassMask(1)));
+    /// # let mut job = Job::new(&book, Options::default(), BlockData::new(4, 1.0));
+    /// # let value = job.value(RegBank(0), Remat::None);
+    /// let other = job.value_led_by(value, RegBank(0), Remat::None);
+    /// job.segment(value, Inst(0).normal(), Inst(1).normal(), Flags::NONE);
+    /// job.segment(other, Inst(1).normal(), Inst(3).normal(), Flags::NONE);
+    /// let tables = build(&job)?;
+    /// let pieces = tables.registers().map(|register| register.segments.len());
+    /// assert_eq!(pieces.collect::<Vec<_>>(), [2]);
+    /// # Ok::<(), cundzeli::Refusal>(())
+    /// ```
     pub fn value_led_by(&mut self, leader: Value, bank: RegBank, remat: Remat) -> Value {
         Value(self.values.add([bank.0, leader.0, remat as u32]))
     }
 
     /// The next value group, of 2 to 8 members. Of more, the first 8 and their number are written, and refused (4).
+    ///
+    /// ```
+    /// use cundzeli::Refusal;
+    /// # use cundzeli::build::{Book, ClassData, Job, Options, Remat, build};
+    /// # use cundzeli::{BlockData, Flags, Inst, RegBank, RegClass, RegClassMask, UseKind};
+    /// # let class = RegClass(0);
+    /// # let book = Book::new(class, ClassData::new(RegClassMask(1)));
+    /// # let mut job = Job::new(&book, Options::default(), BlockData::new(4, 1.0));
+    /// # let value = job.value(RegBank(0), Remat::None);
+    ///
+    /// for count in 0..12 {
+    ///     let mut job = job.clone();
+    ///     job.vgroup(&vec![value; count]);
+    ///     let refused = !(2..=8).contains(&count);
+    ///     assert_eq!(build(&job).err(), refused.then_some(Refusal::BadFunction));
+    /// }
+    /// ```
     pub fn vgroup(&mut self, members: &[Value]) -> ValueGroup {
         let mut row = [0; 1 + MEMBERS];
         row[0] = u32::try_from(members.len()).unwrap_or(u32::MAX);
@@ -173,6 +272,25 @@ impl Job {
     }
 
     /// An operand that is a value group. No two have the same instruction and slot.
+    ///
+    /// ```
+    /// use cundzeli::Refusal;
+    /// use cundzeli::build::Operand;
+    /// # use cundzeli::build::{Book, ClassData, Job, Options, Remat, build};
+    /// # use cundzeli::{BlockData, Flags, Inst, RegBank, RegClass, RegClassMask, UseKind};
+    /// # let mut book = Book::new(RegClass(0), ClassData::new(RegClassMask(0b11)));
+    /// # let pairs = book.class(ClassData { group_size: 2, ..ClassData::new(RegClassMask(0b10)) });
+    /// # let mut job = Job::new(&book, Options::default(), BlockData::new(4, 1.0));
+    /// # let members = [(); 2].map(|()| job.value(RegBank(0), Remat::None));
+    ///
+    /// let vgroup = job.vgroup(&members);
+    /// for slot in [0, 1] {
+    ///     job.operand(Operand { inst: Inst(1), slot, vgroup, class: pairs });
+    /// }
+    /// assert!(build(&job).is_ok());
+    /// job.operand(Operand { inst: Inst(1), slot: 0, vgroup, class: pairs });
+    /// assert_eq!(build(&job).err(), Some(Refusal::BadFunction));
+    /// ```
     pub fn operand(&mut self, operand: Operand) {
         let slot = u32::from(operand.slot);
         let (vgroup, class) = (operand.vgroup.0, operand.class.0);
@@ -180,12 +298,50 @@ impl Job {
     }
 
     /// A hint, behind those before it.
+    ///
+    /// Of the two pieces of a cut only that of the hint has the flag:
+    ///
+    /// ```
+    /// use cundzeli::build::Hint;
+    /// # use cundzeli::build::{Book, ClassData, Job, Options, Remat, build};
+    /// # use cundzeli::{BlockData, Flags, Inst, RegBank, RegClass, RegClassMask, UseKind};
+    /// # let mut book = Book::new(RegClass(0), ClassData::new(RegClassMask(0b111)));
+    /// # let left = book.class(ClassData::new(RegClassMask(0b010)));
+    /// # let right = book.class(ClassData::new(RegClassMask(0b100)));
+    /// # let mut job = Job::new(&book, Options::default(), BlockData::new(4, 1.0));
+    /// # let value = job.value(RegBank(0), Remat::None);
+    ///
+    /// job.hint(Hint { value, inst: Inst(0), incoming: true });
+    /// job.segment(value, Inst(0).normal(), Inst(3).normal(), Flags::FIXED_HINT)
+    ///     .add(Inst(0), UseKind::ClassDef { slot: 0, class: left })
+    ///     .add(Inst(3), UseKind::ClassUse { slot: 0, class: right });
+    /// let hints: Vec<bool> = build(&job)?.registers().map(|register| register.fixed_hint).collect();
+    /// assert_eq!(hints, [true, false]);
+    /// # Ok::<(), cundzeli::Refusal>(())
+    /// ```
     pub fn hint(&mut self, hint: Hint) {
         let incoming = u32::from(hint.incoming);
         self.hints.add([hint.value.0, hint.inst.0, incoming]);
     }
 
     /// Begins a segment, and gives what its uses are added by. Segments go by set, in a set by their points.
+    ///
+    /// ```
+    /// use cundzeli::Refusal;
+    /// # use cundzeli::build::{Book, ClassData, Job, Options, Remat, build};
+    /// # use cundzeli::{BlockData, Flags, Inst, RegBank, RegClass, RegClassMask, UseKind};
+    /// # let class = RegClass(0);
+    /// # let book = Book::new(class, ClassData::new(RegClassMask(1)));
+    /// # let mut job = Job::new(&book, Options::default(), BlockData::new(4, 1.0));
+    /// # let value = job.value(RegBank(0), Remat::None);
+    ///
+    /// job.segment(value, Inst(0).normal(), Inst(2).boundary(), Flags::LIVE_OUT);
+    /// job.segment(value, Inst(3).boundary(), Inst(3).normal(), Flags::LIVE_IN);
+    /// assert_eq!(build(&job)?.made().registers, 1);
+    /// job.segment(value, Inst(1).boundary(), Inst(2).boundary(), Flags::NONE);
+    /// assert_eq!(build(&job).err(), Some(Refusal::BadSegment), "it is behind the others");
+    /// # Ok::<(), cundzeli::Refusal>(())
+    /// ```
     pub fn segment(
         &mut self,
         value: Value,
@@ -215,6 +371,20 @@ impl Job {
     }
 
     /// The binary job (docs/TABLES.md).
+    ///
+    /// Fourteen words of header, then a bank, a class, a block and a value:
+    ///
+    /// ```
+    /// # use cundzeli::build::{Book, ClassData, Job, Options, Remat, build};
+    /// # use cundzeli::{BlockData, Flags, Inst, RegBank, RegClass, RegClassMask, UseKind};
+    /// # let class = RegClass(0);
+    /// # let book = Book::new(class, ClassData::new(RegClassMask(1)));
+    /// # let mut job = Job::new(&book, Options::default(), BlockData::new(4, 1.0));
+    /// # let value = job.value(RegBank(0), Remat::None);
+    /// let bytes = job.bytes();
+    /// assert_eq!(bytes.len(), 4 * (14 + 1 + 4 + 2 + 3));
+    /// assert_eq!(bytes[..16], [1, 0, 0, 0, 1, 0, 0, 0, 0, 0, 0, 0, 1, 0, 0, 0]);
+    /// ```
     pub fn bytes(&self) -> Vec<u8> {
         let mut bytes = Vec::new();
         self.write(&mut bytes);
@@ -222,6 +392,18 @@ impl Job {
     }
 
     /// The binary job in place of what the vector holds.
+    ///
+    /// ```
+    /// # use cundzeli::build::{Book, ClassData, Job, Options, Remat, build};
+    /// # use cundzeli::{BlockData, Flags, Inst, RegBank, RegClass, RegClassMask, UseKind};
+    /// # let class = RegClass(0);
+    /// # let book = Book::new(class, ClassData::new(RegClassMask(1)));
+    /// # let mut job = Job::new(&book, Options::default(), BlockData::new(4, 1.0));
+    /// # let value = job.value(RegBank(0), Remat::None);
+    /// let mut bytes = b"of another job".repeat(100);
+    /// job.write(&mut bytes);
+    /// assert_eq!(bytes, job.bytes());
+    /// ```
     pub fn write(&self, bytes: &mut Vec<u8>) {
         bytes.clear();
         let tables = self.tables();
@@ -237,7 +419,7 @@ impl Job {
 /// The uses of the segment that was begun last.
 ///
 /// ```
-/// use cundzeli::build::{Book, ClassData, Job, Options, Remat};
+/// use cundzeli::build::{Book, ClassData, Job, Options, Remat, build};
 /// use cundzeli::{BlockData, Flags, Inst, RegBank, RegClass, RegClassMask, UseKind};
 ///
 /// let book = Book::new(RegClass(0), ClassData::new(RegClassMask(1)));
@@ -247,6 +429,9 @@ impl Job {
 /// for inst in 0..8 {
 ///     uses.add(Inst(inst), UseKind::ClassUse { slot: 0, class: RegClass(0) });
 /// }
+/// let tables = build(&job)?;
+/// assert_eq!(tables.segment(0).uses, 0..8);
+/// # Ok::<(), cundzeli::Refusal>(())
 /// ```
 ///
 /// A job is given no conflict:
@@ -265,6 +450,26 @@ pub struct SegmentUses<'a>(&'a mut Table<6>);
 
 impl SegmentUses<'_> {
     /// A use behind those before it. They go by instruction; those of one instruction in any order, which counts.
+    ///
+    /// ```
+    /// use cundzeli::Refusal;
+    /// # use cundzeli::build::{Book, ClassData, Job, Options, Remat, build};
+    /// # use cundzeli::{BlockData, Flags, Inst, RegBank, RegClass, RegClassMask, UseKind};
+    /// # let class = RegClass(0);
+    /// # let book = Book::new(class, ClassData::new(RegClassMask(1)));
+    /// # let mut job = Job::new(&book, Options::default(), BlockData::new(4, 1.0));
+    /// # let value = job.value(RegBank(0), Remat::None);
+    ///
+    /// let refused = |first, second| {
+    ///     let mut job = job.clone();
+    ///     job.segment(value, Inst(0).boundary(), Inst(3).normal(), Flags::NONE)
+    ///         .add(first, UseKind::ClassUse { slot: 0, class })
+    ///         .add(second, UseKind::ClassUse { slot: 1, class });
+    ///     build(&job).err()
+    /// };
+    /// assert_eq!(refused(Inst(2), Inst(2)), None);
+    /// assert_eq!(refused(Inst(3), Inst(2)), Some(Refusal::BadUse));
+    /// ```
     pub fn add(&mut self, inst: Inst, kind: UseKind<Infallible>) -> &mut Self {
         let [a, b, c, d] = kind.words();
         self.0.add([kind.number(), inst.0, a, b, c, d]);

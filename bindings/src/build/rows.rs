@@ -36,9 +36,33 @@ pub struct Rows {
 
 impl Rows {
     /// No row: a job with a segment is then refused by 9.
+    ///
+    /// ```
+    /// use cundzeli::Refusal;
+    /// use cundzeli::build::{Rows, Tables, Work, build_in_rows};
+    /// # use cundzeli::build::{Book, ClassData, Job, Options, Remat, build};
+    /// # use cundzeli::{BlockData, Flags, Inst, RegBank, RegClass, RegClassMask, UseKind};
+    /// # let class = RegClass(0);
+    /// # let book = Book::new(class, ClassData::new(RegClassMask(1)));
+    /// # let mut job = Job::new(&book, Options::default(), BlockData::new(4, 1.0));
+    /// # let value = job.value(RegBank(0), Remat::None);
+    ///
+    /// let refused = |job: &Job| build_in_rows(&job.bytes(), Rows::NONE, &mut Tables::new(), &mut Work::new()).err();
+    /// assert_eq!(refused(&job), None);
+    /// job.segment(value, Inst(0).boundary(), Inst(1).boundary(), Flags::NONE);
+    /// assert_eq!(refused(&job), Some(Refusal::Full));
+    /// ```
     pub const NONE: Self = Self { registers: 0, segments: 0, uses: 0, groups: 0 };
 
     /// What the program `vregs` has.
+    ///
+    /// The greatest counts name them, and so no job's own rows are more:
+    ///
+    /// ```
+    /// use cundzeli::build::Rows;
+    ///
+    /// assert_eq!(Rows::for_job(&[0xff; 40]), Rows::USUAL);
+    /// ```
     pub const USUAL: Self = Self { registers: 4096, segments: 4096, uses: 8192, groups: 512 };
 
     /// Rows that are enough for a job wherever the [usual](Self::USUAL) ones are, and never more than these: with S
@@ -71,6 +95,31 @@ impl Rows {
     /// still be built in more rows by [`build_in_rows`](super::build_in_rows).
     ///
     /// The job is any bytes; of those that are no job the answer is 1 in any room.
+    ///
+    /// With one segment and two uses:
+    ///
+    /// ```
+    /// use cundzeli::build::{Rows, Tables, Work, build_in_rows};
+    /// # use cundzeli::build::{Book, ClassData, Job, Options, Remat, build};
+    /// # use cundzeli::{BlockData, Flags, Inst, RegBank, RegClass, RegClassMask, UseKind};
+    /// # let mut book = Book::new(RegClass(0), ClassData::new(RegClassMask(0b111)));
+    /// # let left = book.class(ClassData::new(RegClassMask(0b010)));
+    /// # let right = book.class(ClassData::new(RegClassMask(0b100)));
+    /// # let mut job = Job::new(&book, Options::default(), BlockData::new(4, 1.0));
+    /// # let value = job.value(RegBank(0), Remat::None);
+    /// # job.segment(value, Inst(0).normal(), Inst(3).normal(), Flags::NONE)
+    /// #     .add(Inst(0), UseKind::ClassDef { slot: 0, class: left })
+    /// #     .add(Inst(3), UseKind::ClassUse { slot: 0, class: right });
+    ///
+    /// let bytes = job.bytes();
+    /// let rows = Rows::for_job(&bytes);
+    /// assert_eq!(rows, Rows { registers: 3, segments: 3, uses: 6, groups: 0 });
+    /// let [own, usual] = [rows, Rows::USUAL]
+    ///     .map(|rows| build_in_rows(&bytes, rows, &mut Tables::new(), &mut Work::new()));
+    /// assert_eq!(own, usual);
+    /// assert!(own.is_ok());
+    /// assert_eq!(Rows::for_job(b"no job"), Rows::NONE);
+    /// ```
     pub fn for_job(job: &[u8]) -> Self {
         let [operands, segments, uses] = [OPERANDS, SEGMENTS, USES].map(|place| word(job, place));
         let pieces = segments.saturating_add(uses);
@@ -83,6 +132,13 @@ impl Rows {
     }
 
     /// The bytes of tables with this many rows.
+    ///
+    /// ```
+    /// use cundzeli::build::Rows;
+    ///
+    /// let rows = Rows { registers: 1, segments: 1, uses: 1, groups: 1 };
+    /// assert_eq!(rows.bytes(), 4 * (8 + 7 + 6 + 9));
+    /// ```
     pub fn bytes(self) -> usize {
         let words = self.registers as usize * REGISTER
             + self.segments as usize * SEGMENT

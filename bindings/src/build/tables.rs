@@ -7,6 +7,25 @@ use std::fmt;
 use std::ops::Range;
 
 /// A virtual register.
+///
+/// ```
+/// use cundzeli::{ValueSet, VirtReg};
+/// # use cundzeli::build::{Book, ClassData, Job, Options, Remat, build};
+/// # use cundzeli::{BlockData, Flags, Inst, RegBank, RegClass, RegClassMask, UseKind};
+/// # let class = RegClass(0);
+/// # let book = Book::new(class, ClassData::new(RegClassMask(1)));
+/// # let mut job = Job::new(&book, Options::default(), BlockData::new(4, 1.0));
+/// # let value = job.value(RegBank(0), Remat::None);
+///
+/// job.segment(value, Inst(0).normal(), Inst(3).normal(), Flags::NONE)
+///     .add(Inst(0), UseKind::ClassDef { slot: 0, class });
+/// let tables = build(&job)?;
+/// let register = tables.register(VirtReg(0));
+/// assert_eq!((register.number, register.set), (VirtReg(0), ValueSet::from(value)));
+/// assert_eq!((register.class, register.weight, register.group), (class, 0.25, None));
+/// assert_eq!((register.fixed_hint, register.segments), (false, 0..1));
+/// # Ok::<(), cundzeli::Refusal>(())
+/// ```
 #[derive(Clone, Debug, PartialEq)]
 pub struct Register {
     /// Its number.
@@ -26,6 +45,25 @@ pub struct Register {
 }
 
 /// Where a register stands in a group.
+///
+/// ```
+/// use cundzeli::VirtRegGroup;
+/// use cundzeli::build::{GroupPlace, Operand};
+/// # use cundzeli::build::{Book, ClassData, Job, Options, Remat, build};
+/// # use cundzeli::{BlockData, Flags, Inst, RegBank, RegClass, RegClassMask, UseKind};
+/// # let mut book = Book::new(RegClass(0), ClassData::new(RegClassMask(0b11)));
+/// # let pairs = book.class(ClassData { group_size: 2, ..ClassData::new(RegClassMask(0b10)) });
+/// # let mut job = Job::new(&book, Options::default(), BlockData::new(4, 1.0));
+/// # let members = [(); 2].map(|()| job.value(RegBank(0), Remat::None));
+///
+/// let vgroup = job.vgroup(&members);
+/// job.operand(Operand { inst: Inst(1), slot: 0, vgroup, class: pairs });
+/// job.segment(members[1], Inst(0).boundary(), Inst(1).normal(), Flags::NONE)
+///     .add(Inst(1), UseKind::GroupClassUse { slot: 0, class: pairs, group_index: 1 });
+/// let places: Vec<_> = build(&job)?.registers().map(|register| register.group).collect();
+/// assert_eq!(places, [Some(GroupPlace { group: VirtRegGroup(0), index: 1 })]);
+/// # Ok::<(), cundzeli::Refusal>(())
+/// ```
 #[derive(Clone, Copy, Debug, PartialEq, Eq)]
 pub struct GroupPlace {
     /// The group.
@@ -68,6 +106,30 @@ pub enum Origin {
 }
 
 /// A piece of a register: a live range segment of one value.
+///
+/// Two pieces of one segment, which was cut before instruction 1:
+///
+/// ```
+/// use cundzeli::build::Segment;
+/// # use cundzeli::build::{Book, ClassData, Job, Options, Remat, build};
+/// # use cundzeli::{BlockData, Flags, Inst, RegBank, RegClass, RegClassMask, UseKind};
+/// # let mut book = Book::new(RegClass(0), ClassData::new(RegClassMask(0b111)));
+/// # let left = book.class(ClassData::new(RegClassMask(0b010)));
+/// # let right = book.class(ClassData::new(RegClassMask(0b100)));
+/// # let mut job = Job::new(&book, Options::default(), BlockData::new(4, 1.0));
+/// # let value = job.value(RegBank(0), Remat::None);
+///
+/// job.segment(value, Inst(0).normal(), Inst(3).normal(), Flags::NONE)
+///     .add(Inst(0), UseKind::ClassDef { slot: 0, class: left })
+///     .add(Inst(3), UseKind::ClassUse { slot: 0, class: right });
+/// let tables = build(&job)?;
+/// let pieces: Vec<Segment> = tables.registers().flat_map(|register| tables.segments(&register)).collect();
+/// assert_eq!((pieces[0].from, pieces[0].to), (Inst(0).normal(), Inst(1).boundary()));
+/// assert_eq!((pieces[1].from, pieces[1].to), (Inst(1).boundary(), Inst(3).normal()));
+/// assert_eq!((pieces[0].flags, pieces[1].flags), (Flags::LIVE_OUT, Flags::LIVE_IN));
+/// assert_eq!((&pieces[0].uses, &pieces[1].uses), (&(0..1), &(1..2)));
+/// # Ok::<(), cundzeli::Refusal>(())
+/// ```
 #[derive(Clone, Debug, PartialEq, Eq)]
 pub struct Segment {
     /// Whose piece it is.
@@ -85,6 +147,23 @@ pub struct Segment {
 }
 
 /// A use: as in the job, or [turned](UseKind::ConstraintConflict).
+///
+/// ```
+/// use cundzeli::build::Use;
+/// # use cundzeli::build::{Book, ClassData, Job, Options, Remat, build};
+/// # use cundzeli::{BlockData, Flags, Inst, RegBank, RegClass, RegClassMask, UseKind};
+/// # let class = RegClass(0);
+/// # let book = Book::new(class, ClassData::new(RegClassMask(1)));
+/// # let mut job = Job::new(&book, Options::default(), BlockData::new(4, 1.0));
+/// # let value = job.value(RegBank(0), Remat::None);
+///
+/// job.segment(value, Inst(0).boundary(), Inst(3).normal(), Flags::NONE)
+///     .add(Inst(0), UseKind::BlockparamIn { blockparam_idx: 1 })
+///     .add(Inst(3), UseKind::ClassUse { slot: 2, class });
+/// let last = Use { inst: Inst(3), kind: UseKind::ClassUse { slot: 2, class } };
+/// assert_eq!(build(&job)?.a_use(1), last);
+/// # Ok::<(), cundzeli::Refusal>(())
+/// ```
 #[derive(Clone, Copy, Debug, PartialEq, Eq)]
 pub struct Use {
     /// Where it stands.
@@ -94,6 +173,27 @@ pub struct Use {
 }
 
 /// A group of registers.
+///
+/// A place stays empty where the value has no use in the operand:
+///
+/// ```
+/// use cundzeli::VirtReg;
+/// use cundzeli::build::Operand;
+/// # use cundzeli::build::{Book, ClassData, Job, Options, Remat, build};
+/// # use cundzeli::{BlockData, Flags, Inst, RegBank, RegClass, RegClassMask, UseKind};
+/// # let mut book = Book::new(RegClass(0), ClassData::new(RegClassMask(0b11)));
+/// # let pairs = book.class(ClassData { group_size: 2, ..ClassData::new(RegClassMask(0b10)) });
+/// # let mut job = Job::new(&book, Options::default(), BlockData::new(4, 1.0));
+/// # let members = [(); 2].map(|()| job.value(RegBank(0), Remat::None));
+///
+/// let vgroup = job.vgroup(&members);
+/// job.operand(Operand { inst: Inst(1), slot: 0, vgroup, class: pairs });
+/// job.segment(members[1], Inst(0).boundary(), Inst(1).normal(), Flags::NONE)
+///     .add(Inst(1), UseKind::GroupClassUse { slot: 0, class: pairs, group_index: 1 });
+/// let members = build(&job)?.groups().map(|group| group.members).collect::<Vec<_>>();
+/// assert_eq!(members, [[None, Some(VirtReg(0))]]);
+/// # Ok::<(), cundzeli::Refusal>(())
+/// ```
 #[derive(Clone, Debug, PartialEq, Eq)]
 pub struct Group {
     /// Its number.
@@ -147,6 +247,13 @@ impl Default for Tables {
 
 impl Tables {
     /// Tables without a row.
+    ///
+    /// ```
+    /// use cundzeli::build::{Rows, Tables};
+    ///
+    /// let tables = Tables::new();
+    /// assert_eq!((tables.rows(), tables.registers().len()), (Rows::NONE, 0));
+    /// ```
     pub fn new() -> Self {
         Self { bytes: Vec::new(), rows: Rows::NONE, made: Counts::default() }
     }
@@ -168,16 +275,70 @@ impl Tables {
     }
 
     /// All four tables as the last build left them (docs/TABLES.md), cut by [`rows`](Self::rows).
+    ///
+    /// The first row: set 0, class 0, and the weight's bits.
+    ///
+    /// ```
+    /// # use cundzeli::build::{Book, ClassData, Job, Options, Remat, build};
+    /// # use cundzeli::{BlockData, Flags, Inst, RegBank, RegClass, RegClassMask, UseKind};
+    /// # let class = RegClass(0);
+    /// # let book = Book::new(class, ClassData::new(RegClassMask(1)));
+    /// # let mut job = Job::new(&book, Options::default(), BlockData::new(4, 1.0));
+    /// # let value = job.value(RegBank(0), Remat::None);
+    /// job.segment(value, Inst(0).normal(), Inst(3).normal(), Flags::NONE)
+    ///     .add(Inst(0), UseKind::ClassDef { slot: 0, class });
+    /// let tables = build(&job)?;
+    /// assert_eq!(tables.bytes().len(), tables.rows().bytes());
+    /// assert_eq!(tables.bytes()[..8], [0; 8]);
+    /// assert_eq!(tables.bytes()[8..12], 0.25_f32.to_le_bytes());
+    /// # Ok::<(), cundzeli::Refusal>(())
+    /// ```
     pub fn bytes(&self) -> &[u8] {
         &self.bytes[..self.rows.bytes()]
     }
 
     /// The rows that the last build was lent.
+    ///
+    /// ```
+    /// use cundzeli::build::{Rows, Tables, Work, build_binary, build_in_rows};
+    /// # use cundzeli::build::{Book, ClassData, Job, Options, Remat, build};
+    /// # use cundzeli::{BlockData, Flags, Inst, RegBank, RegClass, RegClassMask, UseKind};
+    /// # let class = RegClass(0);
+    /// # let book = Book::new(class, ClassData::new(RegClassMask(1)));
+    /// # let mut job = Job::new(&book, Options::default(), BlockData::new(4, 1.0));
+    /// # let value = job.value(RegBank(0), Remat::None);
+    /// # job.segment(value, Inst(0).normal(), Inst(3).normal(), Flags::NONE);
+    ///
+    /// let (mut tables, mut work) = (Tables::new(), Work::new());
+    /// build_in_rows(&job.bytes(), Rows::USUAL, &mut tables, &mut work)?;
+    /// assert_eq!(tables.rows(), Rows::USUAL);
+    /// build_binary(&job.bytes(), &mut tables, &mut work)?;
+    /// assert_eq!(tables.rows(), Rows { registers: 1, segments: 1, ..Rows::NONE });
+    /// # Ok::<(), cundzeli::Refusal>(())
+    /// ```
     pub fn rows(&self) -> Rows {
         self.rows
     }
 
     /// How many registers and groups the last build made: none where it was refused.
+    ///
+    /// ```
+    /// use cundzeli::build::{Counts, Tables, Work, build_binary};
+    /// # use cundzeli::build::{Book, ClassData, Job, Options, Remat, build};
+    /// # use cundzeli::{BlockData, Flags, Inst, RegBank, RegClass, RegClassMask, UseKind};
+    /// # let class = RegClass(0);
+    /// # let book = Book::new(class, ClassData::new(RegClassMask(1)));
+    /// # let mut job = Job::new(&book, Options::default(), BlockData::new(4, 1.0));
+    /// # let value = job.value(RegBank(0), Remat::None);
+    /// # job.segment(value, Inst(0).normal(), Inst(3).normal(), Flags::NONE);
+    ///
+    /// let (mut tables, mut work) = (Tables::new(), Work::new());
+    /// let made = build_binary(&job.bytes(), &mut tables, &mut work)?;
+    /// assert_eq!((tables.made(), made.registers), (made, 1));
+    /// assert!(build_binary(b"no job", &mut tables, &mut work).is_err());
+    /// assert_eq!(tables.made(), Counts::default());
+    /// # Ok::<(), cundzeli::Refusal>(())
+    /// ```
     pub fn made(&self) -> Counts {
         self.made
     }
@@ -204,6 +365,30 @@ impl Tables {
     /// # Panics
     ///
     /// If it was not made.
+    ///
+    /// ```
+    /// use cundzeli::VirtReg;
+    /// # use cundzeli::build::{Book, ClassData, Job, Options, Remat, build};
+    /// # use cundzeli::{BlockData, Flags, Inst, RegBank, RegClass, RegClassMask, UseKind};
+    /// # let class = RegClass(0);
+    /// # let book = Book::new(class, ClassData::new(RegClassMask(1)));
+    /// # let mut job = Job::new(&book, Options::default(), BlockData::new(4, 1.0));
+    /// # let value = job.value(RegBank(0), Remat::None);
+    ///
+    /// // A register of one instruction can't be spilled.
+    /// job.segment(value, Inst(0).boundary(), Inst(1).boundary(), Flags::NONE);
+    /// let tables = build(&job)?;
+    /// assert_eq!(tables.register(VirtReg(0)).weight, f32::INFINITY);
+    /// # Ok::<(), cundzeli::Refusal>(())
+    /// ```
+    ///
+    /// A number is good for the tables that it came from:
+    ///
+    /// ```should_panic
+    /// # use cundzeli::VirtReg;
+    /// # use cundzeli::build::Tables;
+    /// Tables::new().register(VirtReg(0));
+    /// ```
     pub fn register(&self, number: VirtReg) -> Register {
         assert!(number.0 < self.made.registers, "no register {number}");
         let row = self.row::<REGISTER>(0, number.0);
@@ -222,6 +407,25 @@ impl Tables {
 
     /// All registers, by rising number: set by set, in a set those made by cuts by their points, then those made for
     /// conflicts.
+    ///
+    /// By their weights, the cheapest to spill first:
+    ///
+    /// ```
+    /// # use cundzeli::build::{Book, ClassData, Job, Options, Remat, build};
+    /// # use cundzeli::{BlockData, Flags, Inst, RegBank, RegClass, RegClassMask, UseKind};
+    /// # let class = RegClass(0);
+    /// # let book = Book::new(class, ClassData::new(RegClassMask(1)));
+    /// # let mut job = Job::new(&book, Options::default(), BlockData::new(4, 1.0));
+    /// for last in [3, 1] {
+    ///     let value = job.value(RegBank(0), Remat::None);
+    ///     let mut uses = job.segment(value, Inst(0).boundary(), Inst(4).boundary(), Flags::NONE);
+    ///     (0..=last).for_each(|inst| _ = uses.add(Inst(inst), UseKind::ClassUse { slot: 0, class }));
+    /// }
+    /// let mut registers: Vec<_> = build(&job)?.registers().collect();
+    /// registers.sort_by(|one, other| one.weight.total_cmp(&other.weight));
+    /// assert_eq!((registers[0].weight, registers[1].weight), (0.5, 1.0));
+    /// # Ok::<(), cundzeli::Refusal>(())
+    /// ```
     pub fn registers(&self) -> impl ExactSizeIterator<Item = Register> {
         (0..self.made.registers).map(|number| self.register(VirtReg(number)))
     }
@@ -231,6 +435,24 @@ impl Tables {
     /// # Panics
     ///
     /// If the table has no such row.
+    ///
+    /// ```
+    /// use cundzeli::VirtReg;
+    /// # use cundzeli::build::{Book, ClassData, Job, Options, Remat, build};
+    /// # use cundzeli::{BlockData, Flags, Inst, RegBank, RegClass, RegClassMask, UseKind};
+    /// # let class = RegClass(0);
+    /// # let book = Book::new(class, ClassData::new(RegClassMask(1)));
+    /// # let mut job = Job::new(&book, Options::default(), BlockData::new(4, 1.0));
+    /// # let value = job.value(RegBank(0), Remat::None);
+    ///
+    /// job.segment(value, Inst(0).normal(), Inst(1).normal(), Flags::LIVE_OUT);
+    /// job.segment(value, Inst(2).boundary(), Inst(3).normal(), Flags::LIVE_IN);
+    /// let tables = build(&job)?;
+    /// let register = tables.register(VirtReg(0));
+    /// let last = tables.segment(register.segments.end - 1);
+    /// assert_eq!((last.to, last.flags), (Inst(3).normal(), Flags::LIVE_IN));
+    /// # Ok::<(), cundzeli::Refusal>(())
+    /// ```
     pub fn segment(&self, place: u32) -> Segment {
         assert!(place < self.rows.segments, "no segment {place}");
         let [before, _, _] = self.before();
@@ -249,6 +471,26 @@ impl Tables {
     }
 
     /// The pieces of a register, by their points.
+    ///
+    /// How many points a register lives at:
+    ///
+    /// ```
+    /// # use cundzeli::build::{Book, ClassData, Job, Options, Remat, build};
+    /// # use cundzeli::{BlockData, Flags, Inst, RegBank, RegClass, RegClassMask, UseKind};
+    /// # let class = RegClass(0);
+    /// # let book = Book::new(class, ClassData::new(RegClassMask(1)));
+    /// # let mut job = Job::new(&book, Options::default(), BlockData::new(4, 1.0));
+    /// # let value = job.value(RegBank(0), Remat::None);
+    /// job.segment(value, Inst(0).normal(), Inst(1).normal(), Flags::LIVE_OUT);
+    /// job.segment(value, Inst(2).boundary(), Inst(3).normal(), Flags::LIVE_IN);
+    /// let tables = build(&job)?;
+    /// let points = tables.registers().map(|register| {
+    ///     let lengths = tables.segments(&register).map(|piece| piece.to.number() - piece.from.number());
+    ///     lengths.sum::<u32>()
+    /// });
+    /// assert_eq!(points.collect::<Vec<_>>(), [4 + 6]);
+    /// # Ok::<(), cundzeli::Refusal>(())
+    /// ```
     pub fn segments<'a>(
         &'a self,
         register: &Register,
@@ -262,6 +504,23 @@ impl Tables {
     /// # Panics
     ///
     /// If the table has no such row.
+    ///
+    /// ```
+    /// # use cundzeli::build::{Book, ClassData, Job, Options, Remat, build};
+    /// # use cundzeli::{BlockData, Flags, Inst, RegBank, RegClass, RegClassMask, UseKind};
+    /// # let class = RegClass(0);
+    /// # let book = Book::new(class, ClassData::new(RegClassMask(1)));
+    /// # let mut job = Job::new(&book, Options::default(), BlockData::new(4, 1.0));
+    /// # let value = job.value(RegBank(0), Remat::None);
+    /// job.segment(value, Inst(0).normal(), Inst(3).normal(), Flags::NONE)
+    ///     .add(Inst(0), UseKind::ClassDef { slot: 0, class })
+    ///     .add(Inst(3), UseKind::ClassUse { slot: 0, class });
+    /// let tables = build(&job)?;
+    /// let piece = tables.segment(0);
+    /// assert_eq!(tables.a_use(piece.uses.start).inst, Inst(0));
+    /// assert_eq!(tables.a_use(piece.uses.end - 1).inst, Inst(3));
+    /// # Ok::<(), cundzeli::Refusal>(())
+    /// ```
     pub fn a_use(&self, place: u32) -> Use {
         assert!(place < self.rows.uses, "no use {place}");
         let [_, before, _] = self.before();
@@ -270,6 +529,25 @@ impl Tables {
     }
 
     /// The uses of a piece, in their order.
+    ///
+    /// The instructions that a register is read by:
+    ///
+    /// ```
+    /// # use cundzeli::build::{Book, ClassData, Job, Options, Remat, build};
+    /// # use cundzeli::{BlockData, Flags, Inst, RegBank, RegClass, RegClassMask, UseKind};
+    /// # let class = RegClass(0);
+    /// # let book = Book::new(class, ClassData::new(RegClassMask(1)));
+    /// # let mut job = Job::new(&book, Options::default(), BlockData::new(4, 1.0));
+    /// # let value = job.value(RegBank(0), Remat::None);
+    /// job.segment(value, Inst(0).normal(), Inst(3).normal(), Flags::NONE)
+    ///     .add(Inst(0), UseKind::ClassDef { slot: 0, class })
+    ///     .add(Inst(1), UseKind::ClassUse { slot: 0, class })
+    ///     .add(Inst(3), UseKind::ClassUse { slot: 0, class });
+    /// let tables = build(&job)?;
+    /// let read = tables.uses(&tables.segment(0)).filter(|one| matches!(one.kind, UseKind::ClassUse { .. }));
+    /// assert_eq!(read.map(|one| one.inst).collect::<Vec<_>>(), [Inst(1), Inst(3)]);
+    /// # Ok::<(), cundzeli::Refusal>(())
+    /// ```
     pub fn uses<'a>(&'a self, segment: &Segment) -> impl ExactSizeIterator<Item = Use> + use<'a> {
         let rows = segment.uses.clone();
         rows.map(|place| self.a_use(place))
@@ -280,6 +558,32 @@ impl Tables {
     /// # Panics
     ///
     /// If it was not made.
+    ///
+    /// The class of a group is that of its registers:
+    ///
+    /// ```
+    /// use cundzeli::VirtReg;
+    /// # use cundzeli::build::Operand;
+    /// # use cundzeli::build::{Book, ClassData, Job, Options, Remat, build};
+    /// # use cundzeli::{BlockData, Flags, Inst, RegBank, RegClass, RegClassMask, UseKind};
+    /// # let mut book = Book::new(RegClass(0), ClassData::new(RegClassMask(0b11)));
+    /// # let pairs = book.class(ClassData { group_size: 2, ..ClassData::new(RegClassMask(0b10)) });
+    /// # let mut job = Job::new(&book, Options::default(), BlockData::new(4, 1.0));
+    /// # let members = [(); 2].map(|()| job.value(RegBank(0), Remat::None));
+    /// # let vgroup = job.vgroup(&members);
+    /// # job.operand(Operand { inst: Inst(1), slot: 0, vgroup, class: pairs });
+    /// # for (group_index, value) in (0..).zip(members) {
+    /// #     job.segment(value, Inst(0).boundary(), Inst(1).normal(), Flags::NONE)
+    /// #         .add(Inst(1), UseKind::GroupClassUse { slot: 0, class: pairs, group_index });
+    /// # }
+    ///
+    /// let tables = build(&job)?;
+    /// let place = tables.register(VirtReg(0)).group.expect("a group");
+    /// let members = tables.group(place.group).members.into_iter().flatten();
+    /// let classes = members.map(|member| tables.register(member).class);
+    /// assert_eq!(classes.collect::<Vec<_>>(), [pairs, pairs]);
+    /// # Ok::<(), cundzeli::Refusal>(())
+    /// ```
     pub fn group(&self, number: VirtRegGroup) -> Group {
         assert!(number.0 < self.made.groups, "no group {number}");
         let [_, _, before] = self.before();
@@ -290,6 +594,35 @@ impl Tables {
     }
 
     /// All groups, by rising number.
+    ///
+    /// Each register of a group names its place there:
+    ///
+    /// ```
+    /// use cundzeli::build::GroupPlace;
+    /// # use cundzeli::build::Operand;
+    /// # use cundzeli::build::{Book, ClassData, Job, Options, Remat, build};
+    /// # use cundzeli::{BlockData, Flags, Inst, RegBank, RegClass, RegClassMask, UseKind};
+    /// # let mut book = Book::new(RegClass(0), ClassData::new(RegClassMask(0b11)));
+    /// # let pairs = book.class(ClassData { group_size: 2, ..ClassData::new(RegClassMask(0b10)) });
+    /// # let mut job = Job::new(&book, Options::default(), BlockData::new(4, 1.0));
+    /// # let members = [(); 2].map(|()| job.value(RegBank(0), Remat::None));
+    /// # let vgroup = job.vgroup(&members);
+    /// # job.operand(Operand { inst: Inst(1), slot: 0, vgroup, class: pairs });
+    /// # for (group_index, value) in (0..).zip(members) {
+    /// #     job.segment(value, Inst(0).boundary(), Inst(1).normal(), Flags::NONE)
+    /// #         .add(Inst(1), UseKind::GroupClassUse { slot: 0, class: pairs, group_index });
+    /// # }
+    ///
+    /// let tables = build(&job)?;
+    /// assert_eq!(tables.groups().len(), 1);
+    /// for group in tables.groups() {
+    ///     for (index, member) in (0..).zip(group.members) {
+    ///         let register = tables.register(member.expect("a register"));
+    ///         assert_eq!(register.group, Some(GroupPlace { group: group.number, index }));
+    ///     }
+    /// }
+    /// # Ok::<(), cundzeli::Refusal>(())
+    /// ```
     pub fn groups(&self) -> impl ExactSizeIterator<Item = Group> {
         (0..self.made.groups).map(|number| self.group(VirtRegGroup(number)))
     }
