@@ -82,20 +82,25 @@ fn class_cost(job: &[u8], lay: Layout, c: RegClass) -> f32
     d.cost
 }
 
-// The cost of a use: fixed kinds by their register, class uses by their class.
+// The cost of a use, `spill_cost` in uses.rs: the kinds in the order of the enum `UseKind`, which is not that of
+// `spill_cost`. Quoted words are uses.rs's; its `SPILL_RELOAD_COST` is 1.0 and its `MOVE_COST` 0.5.
 pub fn use_cost(job: &[u8], lay: Layout, kind: UseKind) -> f32
     requires { ⌜ Fits (wordCount (now job)) lay × SmallBook (wordsOf (now job)) lay ⌝ }
     ensures { λ r. ⌜ (r ≡ costOf (jobOf (wordsOf (now (job .entry))) lay) kind) × T (small r) ⌝ }
 {
     match kind {
+        // "just pay the cost of the spill/reload, except if reg represents a memory location"
         UseKind::FixedDef { reg } => spill_weight::fixed_cost(in_memory(job, lay, reg)),
         UseKind::FixedUse { reg } => spill_weight::fixed_cost(in_memory(job, lay, reg)),
+        // "a move from one vreg to another": `SPILL_RELOAD_COST - MOVE_COST`
         UseKind::TiedUse { .. } => 0.5,
         UseKind::ConstraintConflict => 0.5,
+        // "Some instructions can directly accept stack operands": "the class spill cost"
         UseKind::ClassUse { class, .. } => class_cost(job, lay, class),
         UseKind::ClassDef { class, .. } => class_cost(job, lay, class),
         UseKind::GroupClassUse { class, .. } => class_cost(job, lay, class),
         UseKind::GroupClassDef { class, .. } => class_cost(job, lay, class),
+        // "Blockparams don't care about being in a spill slot or in a register": nothing
         UseKind::BlockparamIn { .. } => 0.0,
         UseKind::BlockparamOut => 0.0,
     }
