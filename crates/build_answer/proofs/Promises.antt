@@ -15,11 +15,12 @@ use Rattle.definition.specs.declared.ValueSet.{ValueSet}
 use Rattle.definition.specs.declared.RegClass.{RegClass}
 use Rattle.definition.specs.declared.Use.{Use}
 use Rattle.definition.specs.declared.Refusal.{Refusal}
-use Rattle.definition.specs.Types.{done, refused, numberOf}
+use Rattle.definition.specs.Types.{Job, done, refused, numberOf}
 use Rattle.definition.specs.RegInfo.{setOf}
 use Rattle.definition.specs.Uses.{classOf, isClassUse}
 use Rattle.definition.specs.Build.{Result}
 use Rattle.definition.specs.Lines.{printed}
+use Rattle.definition.specs.JobSheet.{jobOfSheet, sheetAnswer}
 use Rattle.definition.specs.Promised.{Follows, In, Listed, Transitive, addedIn, byFirst, classUsesAt, covered, had, liveAt, inputOf, marksAt, ownIn, ownOf, valued, markedFor}
 use Rattle.definition.proofs.Places.{All}
 use Rattle.definition.proofs.Promises as defined
@@ -27,9 +28,12 @@ use Rattle.job_shape.specs.Answer.{binaryJob, binaryAnswer}
 use Rattle.virt_regs.specs.declared.OutLayout.{OutLayout}
 use Rattle.virt_regs.specs.Encoding.{roomOf}
 use Rattle.virt_regs.specs.View.{registersIn, groupsIn}
+use Rattle.weight_truth.specs.Truth.{RankTrue, TrueWeight}
+use Rattle.weight_truth.proofs.Promises.{promise-weights, promise-ranks, promise-weights-sheet as sheet-weights}
 use Rattle.build_answer.specs.declared.BuildEnd.{BuildEnd}
 use Rattle.build_answer.specs.Answered.{Answered, resultIn}
-use Rattle.build_answer.proofs.Accepted.{end-done, end-refused, read-done, accepted, zeros-left}
+use Rattle.build_answer.proofs.Accepted.{end-done, end-refused, read-done, read-answer, accepted, zeros-left}
+use Rattle.build_answer.proofs.Floats.{binary-f32}
 
 -- ---- every job gets an answer
 
@@ -130,3 +134,24 @@ pub input-whole : (s : List ℕ) (v : Value)
     → ((q : ℕ) → liveAt v q (inputOf (binaryJob s) (setOf (binaryJob s) v)) ≡ liveAt v q (binaryJob s .segments))
     × ((w : Use) → had v w (inputOf (binaryJob s) (setOf (binaryJob s) v)) ≡ had v w (binaryJob s .segments))
 input-whole s v = defined.input-whole (binaryJob s) v
+
+-- ---- weights
+
+-- Weights: each register that is read back from the bytes x, without group and of finite weight and under change request 13's conditions (`Spoken`), has a weight that is within (n + 3) parts in 2 ^ 23 of
+-- the exact fraction of the job's own numbers (`NearExact`), n its uses whose exact product is not zero. The weight is the word of the register's row.
+-- Rules out: a member's weight, which is its group's least, taken as its own; n the uses of the whole set in place of those of the register's rows.
+pub promise-weights-left : (n : ℕ) (ol : OutLayout) (s : List ℕ) (r : BuildEnd) (x : List ℕ) → Answered n ol (binaryAnswer s (roomOf ol)) r x → r .number ≡ 0
+    → All (TrueWeight (binaryJob s)) (resultIn ol r x .registers)
+promise-weights-left n ol s r x a z = promise-weights (binaryJob s) (roomOf ol) (resultIn ol r x) (binary-f32 s) (accepted n ol s r x a z)
+
+-- Ranks: of each two such registers, weights that are far enough apart have their exact fractions in the same order.
+-- Rules out: a rank by the last digits; an allowance for one of the two alone.
+pub promise-ranks-left : (n : ℕ) (ol : OutLayout) (s : List ℕ) (r : BuildEnd) (x : List ℕ) → Answered n ol (binaryAnswer s (roomOf ol)) r x → r .number ≡ 0
+    → All (λ g. All (RankTrue (binaryJob s) g) (resultIn ol r x .registers)) (resultIn ol r x .registers)
+promise-ranks-left n ol s r x a z = promise-ranks (binaryJob s) (roomOf ol) (resultIn ol r x) (binary-f32 s) (accepted n ol s r x a z)
+
+-- The same of a job sheet: what `vregs` builds in its tables is `Answered` for the answer to the sheet bs (crates/vregs_answer/specs/Sheet.antt), and `job` is the sheet's.
+-- Rules out: the job of another sheet with the same registers; the result of a sheet that is refused.
+pub promise-weights-sheet : (n : ℕ) (ol : OutLayout) (bs : List ℕ) (job : Job) (r : BuildEnd) (x : List ℕ) → Answered n ol (sheetAnswer bs (roomOf ol)) r x → r .number ≡ 0
+    → jobOfSheet bs ≡ some job → All (TrueWeight job) (resultIn ol r x .registers)
+promise-weights-sheet n ol bs job r x a z j = sheet-weights bs (roomOf ol) job (resultIn ol r x) j (read-answer n ol (sheetAnswer bs (roomOf ol)) r x a z)

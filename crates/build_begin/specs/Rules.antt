@@ -23,10 +23,9 @@ use Rattle.definition.specs.Promised.{bitAt}
 use Rattle.definition.proofs.Places.{All, all-map, all-getD}
 use Rattle.definition.proofs.Tables.{operandAt, uses-are}
 use Rattle.definition.proofs.Classes.{Masks}
-use Rattle.definition.proofs.Entries.{and-both, conj-all, every-all, lowest-none, Good, segment-good}
+use Rattle.definition.proofs.Entries.{accepted-insts, and-both, conj-all, every-all, lowest-none, Good, segment-ends, segment-good}
 use Rattle.definition.proofs.Admission.{sizeOf, GroupUse, UseFits, Sizes, SegFits}
 use Rattle.definition.proofs.Accepted.{group-operand}
-use Rattle.use_costs.proofs.Accepted.{accepted-insts}
 
 -- ---- the register book
 
@@ -138,8 +137,7 @@ module _ (J : Job) (e : entry J ≡ none) where
       goods (s ∷ ss) g h = (segment-good J s (g .0) (h .0), goods ss (g .1) (h .1))
 
   ends-by : (s : Segment) → segmentOk J s ≡ true → s .to .0 ≤ 4 * 4096
-  unfolding segmentOk
-  ends-by s h = omega (arith, leb-true (s .to .0) (4 * insts J) (conj-all (segmentTests J s) h .1 .1 .1 .1 .0), accepted-insts J e)
+  ends-by s h = omega (arith, segment-ends J s h, accepted-insts J e)
 
   -- none goes past the last instruction
   pub accepted-ends : All (λ s. s .to .0 ≤ 4 * 4096) (J .segments)

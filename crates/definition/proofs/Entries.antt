@@ -6,14 +6,15 @@ use mathlib.Core.Bool.{Bool, true, false, cond, _&&_, _||_}
 use mathlib.Core.Option.{Option, none, some}
 use mathlib.Core.List.{List, [], _∷_}
 use lib.Dec.{leb, ltb}
+use lib.ListN.{length}
 use borrow.Author.Tests.{ltb-true, leb-true, eqb-true}
 use Rattle.definition.specs.Types.{Job, Refusal, Segment, Use}
 use Rattle.definition.specs.RegInfo.{setOf}
 use Rattle.definition.specs.Uses.{endPoint}
 use Rattle.definition.specs.Build.{onto, runs, sameSet}
-use Rattle.definition.specs.Entry.{inOrder, chained, conj, entry, entryTests, every, lowestOf, segmentOk, segmentTests, segmentsOk, useOk, useTests, usesOk}
+use Rattle.definition.specs.Entry.{inOrder, chained, conj, entry, entryTests, every, insts, limitTests, limitsOk, lowestOf, segmentOk, segmentTests, segmentsOk, useOk, useTests, usesOk}
 use Rattle.definition.proofs.Fits.{UsesFit, SegsFit}
-use Rattle.definition.proofs.Places.{All}
+use Rattle.definition.proofs.Places.{All, all-map}
 
 pub and-both : (a b : Bool) → (a && b) ≡ true → (a ≡ true) × (b ≡ true)
 and-both true b e = (refl, e)
@@ -130,3 +131,28 @@ unfolding entry
 accepted-fit job e =
     let a = lowest-none (entryTests job) e in
     sets-fit job (a .1 .1 .1 .1 .0) (a .1 .1 .1 .1 .1 .0)
+
+-- and ends within the instructions
+pub segment-ends : (job : Job) (s : Segment) → segmentOk job s ≡ true → s .to .0 ≤ 4 * insts job
+unfolding segmentOk
+segment-ends job s e = leb-true _ _ (conj-all (segmentTests job s) e .1 .1 .1 .1 .0)
+
+pub accepted-ends : (job : Job) → entry job ≡ none → All (λ s. s .to .0 ≤ 4 * insts job) (job .segments)
+unfolding entry segmentsOk
+accepted-ends job e =
+    all-map _ (λ s. s .to .0 ≤ 4 * insts job) (segment-ends job) (job .segments)
+    (every-all (segmentOk job) (job .segments) (and-both _ _ (lowest-none (entryTests job) e .1 .1 .1 .1 .0) .0))
+
+-- ---- the limits of an accepted job
+
+pub accepted-insts : (job : Job) → entry job ≡ none → insts job ≤ 4096
+unfolding entry limitsOk
+accepted-insts job e = leb-true _ _ (conj-all (limitTests job) (lowest-none (entryTests job) e .0) .0)
+
+pub accepted-blocks : (job : Job) → entry job ≡ none → length (job .blocks) ≤ 512
+unfolding entry limitsOk
+accepted-blocks job e = leb-true _ _ (conj-all (limitTests job) (lowest-none (entryTests job) e .0) .1 .0)
+
+pub accepted-adjust : (job : Job) → entry job ≡ none → job .options .adjust ≤ 65535
+unfolding entry limitsOk
+accepted-adjust job e = leb-true _ _ (conj-all (limitTests job) (lowest-none (entryTests job) e .0) .1 .1 .1 .1 .1 .1 .1 .1 .1 .1 .1 .0)

@@ -26,4 +26,5 @@ pub mod Owned
 pub mod Marks
 pub mod Promises
 pub mod Touched
+pub mod Weighed
 mod SheetCases

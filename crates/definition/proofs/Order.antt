@@ -129,7 +129,7 @@ module _ (hs : List Hint) where
   part-valued (all ss) = append-nil (valued ss)
   part-valued (before p ss) = cut-valued hs p ss
 
-  part-follows : {ss l r : List Segment} → Part hs ss l r → (made : List Segment) (q : ℕ) → SegsFit q ss → ((n : ℕ) → SegsFit n r → Follows n made) → Follows q (l ++ made)
+  pub part-follows : {ss l r : List Segment} → Part hs ss l r → (made : List Segment) (q : ℕ) → SegsFit q ss → ((n : ℕ) → SegsFit n r → Follows n made) → Follows q (l ++ made)
   part-follows (all ss) made q h f = go ss q h
     where
       go : (ss : List Segment) (q : ℕ) → SegsFit q ss → Follows q (ss ++ made)
@@ -160,7 +160,7 @@ made-kept job room set′ st₀ ss₀ = record {
         listed = rw (valued-append, append-assoc, part-valued (job .hints) p) (i .listed);
         led = λ u a.
             let c = i .led u a in
-            let d = part-all (λ s. setOf job (s .value) ≡ u) (job .hints) (λ p s a. (a, a)) p (c .1) in
+            let d = part-all (λ s. setOf job (s .value) ≡ u) (job .hints) (λ p s l a. (a, a)) p (c .1) in
             (all-append (λ s. setOf job (s .value) ≡ u) (i .pieces) l (c .0) (d .0), d .1);
         groups = g (λ _. 0) .1;
       };

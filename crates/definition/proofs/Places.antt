@@ -166,64 +166,79 @@ unfolding bind
 bind-some none k b e = let z : _≡_ {A = ℕ} 0 1 = cc in absurd (omega arith)
 bind-some (some a) k b e = (a, refl, e)
 
-module _ (job : Job) (st : State) (gs : Groups st) where
-  abbrev TargetOk : Held → Type 0
-  TargetOk h = Ok (length (st .registers)) (h .target)
+-- a fact on what is held that the two ways to admit a class use keep: every admission keeps it, and so does a scan
+module _ (job : Job) (st : State) (P : Held → Type 0)
+    (by-class : (h : Held) (c : RegClass) (g : Held) → P h → admitClass job h c ≡ some g → P g)
+    (by-group : (h : Held) (p : Inst) (s : ℕ) (c : RegClass) (i : ℕ) (g : Held) → P h → admitGroup job st h p s c i ≡ some g → P g) where
+  same-held : (h g : Held) → P h → some h ≡ some g → P g
+  same-held h g k e = subst P (Option·some-injective h g e) k
 
-  -- at a pair's second part
-  abbrev SecondOk : RegClass × Option VirtReg → Type 0
-  SecondOk n = Ok (length (st .registers)) (n .1)
-
-  same-held : (h g : Held) → TargetOk h → some h ≡ some g → TargetOk g
-  same-held h g k e = subst TargetOk (Option·some-injective h g e) k
-
-  place-target : (h : Held) (k : RegClass) (ms : List (Option VirtReg)) (o : Option VirtReg) (n : RegClass × Option VirtReg) → TargetOk h → Ok (length (st .registers)) o
-      → atPlace job st h k ms o ≡ some n → SecondOk n
-  unfolding atPlace
-  place-target h k ms none n a b e =
-      let r = bind-some (narrowed job st ms k) _ n e in subst SecondOk (Option·some-injective _ _ (r .2)) a
-  place-target h k ms (some v) n a b e =
-      let r = bind-some (commonSubclass job (h .class) (registerAt st v .class)) _ n e in subst SecondOk (Option·some-injective _ _ (r .2)) b
-
-  group-target : (h : Held) (k : RegClass) (i : ℕ) (m : Option VirtRegGroup) (n : RegClass × Option VirtReg) → TargetOk h → inGroup job st h k i m ≡ some n → SecondOk n
-  unfolding inGroup
-  group-target h k i none n a e = subst SecondOk (Option·some-injective _ _ e) a
-  group-target h k i (some g) n a e =
-      place-target h k (membersAt st g) (getD (membersAt st g) i none) n a
-      (all-getD (Ok (length (st .registers))) (membersAt st g) i none (members-ok st g gs) tt) e
-
-  admit-class : (h : Held) (c : RegClass) (g : Held) → TargetOk h → admitClass job h c ≡ some g → TargetOk g
-  unfolding admitClass
-  admit-class h c g k e = let r = bind-some (commonSubclass job (h .class) c) _ g e in same-held _ g k (r .2)
-
-  admit-group : (h : Held) (p : Inst) (s : ℕ) (c : RegClass) (i : ℕ) (g : Held) → TargetOk h → admitGroup job st h p s c i ≡ some g → TargetOk g
-  unfolding admitGroup
-  admit-group h p s c i g k e =
-      let r = bind-some (commonSubclass job (h .class) c) _ g e in
-      let t = bind-some (guard (groupFits (h .group) i (mappedAt (st .mapping) p s) (setsAt job p s))) _ g (r .2) in
-      let n = bind-some (inGroup job st h (r .0) i (mappedAt (st .mapping) p s)) _ g (t .2) in
-      let o = group-target h (r .0) i (mappedAt (st .mapping) p s) (n .0) k (n .1) in
-      same-held _ g o (n .2)
-
-  admit-kind : (h : Held) (p : Inst) (k : UseKind) (g : Held) → TargetOk h → admitKind job st h p k ≡ some g → TargetOk g
+  admit-kind : (h : Held) (p : Inst) (k : UseKind) (g : Held) → P h → admitKind job st h p k ≡ some g → P g
   unfolding admitKind
   admit-kind h p (FixedDef r) g o e = same-held h g o e
   admit-kind h p (FixedUse r) g o e = same-held h g o e
   admit-kind h p (TiedUse u d c i) g o e = same-held h g o e
   admit-kind h p ConstraintConflict g o e = same-held h g o e
-  admit-kind h p (ClassUse s c) g o e = admit-class h c g o e
-  admit-kind h p (ClassDef s c) g o e = admit-class h c g o e
-  admit-kind h p (GroupClassUse s c i) g o e = admit-group h p s c i g o e
-  admit-kind h p (GroupClassDef s c i) g o e = admit-group h p s c i g o e
+  admit-kind h p (ClassUse s c) g o e = by-class h c g o e
+  admit-kind h p (ClassDef s c) g o e = by-class h c g o e
+  admit-kind h p (GroupClassUse s c i) g o e = by-group h p s c i g o e
+  admit-kind h p (GroupClassDef s c i) g o e = by-group h p s c i g o e
   admit-kind h p (BlockparamIn q) g o e = same-held h g o e
   admit-kind h p BlockparamOut g o e = same-held h g o e
 
-  pub admit-target : (h : Held) (u : Use) (g : Held) → TargetOk h → admit job st h u ≡ some g → TargetOk g
+  pub admit-held : (h : Held) (u : Use) (g : Held) → P h → admit job st h u ≡ some g → P g
   unfolding admit
-  admit-target h u g o e = admit-kind h (u .pos) (u .kind) g o e
+  admit-held h u g o e = admit-kind h (u .pos) (u .kind) g o e
+
+  pub scan-held : (us : List Use) (h g : Held) → P h → scan job st us h ≡ through g → P g
+  scan-held us h g o e = scan-keeps job st P (λ l k u p a. admit-held l u k p a) us h g o e
+
+-- a fact on the register to merge into: it is kept if what each place of each group has in it has the fact
+module _ (job : Job) (st : State) (P : Option VirtReg → Type 0) (at-places : (g : VirtRegGroup) (i : ℕ) → P (getD (membersAt st g) i none)) where
+  place-target : (h : Held) (k : RegClass) (ms : List (Option VirtReg)) (o : Option VirtReg) (n : RegClass × Option VirtReg) → P (h .target) → P o → atPlace job st h k ms o ≡ some n → P (n .1)
+  unfolding atPlace
+  place-target h k ms none n a b e =
+      let r = bind-some (narrowed job st ms k) _ n e in subst (λ (m : RegClass × Option VirtReg). P (m .1)) (Option·some-injective _ _ (r .2)) a
+  place-target h k ms (some v) n a b e =
+      let r = bind-some (commonSubclass job (h .class) (registerAt st v .class)) _ n e in subst (λ (m : RegClass × Option VirtReg). P (m .1)) (Option·some-injective _ _ (r .2)) b
+
+  group-target : (h : Held) (k : RegClass) (i : ℕ) (m : Option VirtRegGroup) (n : RegClass × Option VirtReg) → P (h .target) → inGroup job st h k i m ≡ some n → P (n .1)
+  unfolding inGroup
+  group-target h k i none n a e = subst (λ (m : RegClass × Option VirtReg). P (m .1)) (Option·some-injective _ _ e) a
+  group-target h k i (some g) n a e = place-target h k (membersAt st g) (getD (membersAt st g) i none) n a (at-places g i) e
+
+  by-class : (h : Held) (c : RegClass) (g : Held) → P (h .target) → admitClass job h c ≡ some g → P (g .target)
+  unfolding admitClass
+  by-class h c g k e =
+      let r = bind-some (commonSubclass job (h .class) c) _ g e in subst (λ (l : Held). P (l .target)) (Option·some-injective _ g (r .2)) k
+
+  by-group : (h : Held) (p : Inst) (s : ℕ) (c : RegClass) (i : ℕ) (g : Held) → P (h .target) → admitGroup job st h p s c i ≡ some g → P (g .target)
+  unfolding admitGroup
+  by-group h p s c i g k e =
+      let r = bind-some (commonSubclass job (h .class) c) _ g e in
+      let t = bind-some (guard (groupFits (h .group) i (mappedAt (st .mapping) p s) (setsAt job p s))) _ g (r .2) in
+      let n = bind-some (inGroup job st h (r .0) i (mappedAt (st .mapping) p s)) _ g (t .2) in
+      subst (λ (l : Held). P (l .target)) (Option·some-injective _ g (n .2)) (group-target h (r .0) i (mappedAt (st .mapping) p s) (n .0) k (n .1))
+
+  pub admit-merged : (h : Held) (u : Use) (g : Held) → P (h .target) → admit job st h u ≡ some g → P (g .target)
+  admit-merged = admit-held job st (λ h. P (h .target)) by-class by-group
+
+  pub scan-merged : (us : List Use) (h g : Held) → P (h .target) → scan job st us h ≡ through g → P (g .target)
+  scan-merged = scan-held job st (λ h. P (h .target)) by-class by-group
+
+-- it names a register
+module _ (job : Job) (st : State) (gs : Groups st) where
+  abbrev TargetOk : Held → Type 0
+  TargetOk h = Ok (length (st .registers)) (h .target)
+
+  places-ok : (g : VirtRegGroup) (i : ℕ) → Ok (length (st .registers)) (getD (membersAt st g) i none)
+  places-ok g i = all-getD (Ok (length (st .registers))) (membersAt st g) i none (members-ok st g gs) tt
+
+  pub admit-target : (h : Held) (u : Use) (g : Held) → TargetOk h → admit job st h u ≡ some g → TargetOk g
+  admit-target = admit-merged job st (Ok (length (st .registers))) places-ok
 
   pub scan-target : (us : List Use) (h g : Held) → TargetOk h → scan job st us h ≡ through g → TargetOk g
-  scan-target us h g o e = scan-keeps job st TargetOk (λ l k u p a. admit-target l u k p a) us h g o e
+  scan-target = scan-merged job st (Ok (length (st .registers))) places-ok
 
 -- ---- and after a round over turned uses
 
@@ -243,6 +258,35 @@ try-target job (suc f) st h taken (t ∷ us) left gs o =
     go (some g) a yes′ no′ = rw (a, try) (yes′ g (admit-target job st gs h (t .use′) g o a))
 
 -- ---- placing
+
+-- a placing that is done leaves one of four states
+module _ (job : Job) (room : Room) (set′ : ValueSet) (h : Held) (new : List Piece) (st : State) (P : State → Type 0) where
+  abbrev theMapping : Option (List Mapped)
+  theMapping = mapUses (vrgroup (length (st .groups))) (usesOf (segsOf new)) (st .mapping)
+
+  abbrev Leads : Type 0
+  Leads = (hg : HeldGroup) → P (leadState job set′ h hg new st (orElse theMapping []))
+
+  abbrev Joins : Type 0
+  Joins = (hg : HeldGroup) (g : VirtRegGroup) → P (joinState job set′ h hg g new st)
+
+  abbrev Merges : Option VirtReg → Type 0
+  Merges t = (hg : HeldGroup) (g : VirtRegGroup) (v : VirtReg) → t ≡ some v → P (mergeState job h hg g v new st)
+
+  group-cases : (hg : HeldGroup) (m : Option VirtRegGroup) (t : Option VirtReg) → Leads → Joins → Merges t → (st′ : State) → placeGroup job room set′ h new st hg m t ≡ done st′ → P st′
+  unfolding placeGroup lead join merge
+  group-cases hg none t l j m st′ e = subst P (gate-done (isNone theMapping) (hasRoom room st 1 1 new) MappedTwice (leadState job set′ h hg new st (orElse theMapping [])) st′ e) (l hg)
+  group-cases hg (some g) none l j m st′ e = subst P (room-done (hasRoom room st 1 0 new) (joinState job set′ h hg g new st) st′ e) (j hg g)
+  group-cases hg (some g) (some v) l j m st′ e =
+      subst P (gate-done (overlaps (firstFrom new) (lastTo new) (registerAt st v .pieces)) (hasRoom room st 0 0 new) Overlap (mergeState job h hg g v new st) st′ e) (m hg g v refl)
+
+  pub place-cases : P (aloneState job set′ h new st) → Leads → Joins → Merges (h .target) → (st′ : State) → place job room set′ h new st ≡ done st′ → P st′
+  unfolding place placeBy alone
+  place-cases a l j m st′ e = go (h .group) e
+    where
+      go : (o : Option HeldGroup) → placeBy job room set′ h new st o ≡ done st′ → P st′
+      go none f = subst P (room-done (hasRoom room st 1 0 new) (aloneState job set′ h new st) st′ f) a
+      go (some hg) f = group-cases hg (hg .mapped) (h .target) l j m st′ f
 
 abbrev pub Placed : (Piece → ℕ) → List Piece → State → State → Type 0
 Placed μ new st st′ = (counted μ (st′ .registers) ≡ counted μ (st .registers) + total μ new) × Groups st′
@@ -313,38 +357,8 @@ module _ (μ : Piece → ℕ) (job : Job) (room : Room) (set′ : ValueSet) (h :
       spread-length (h .class) w (membersAt st g) rs ∙ update-length (withPieces ps) (v .0) (st .registers) in
       (omega arith, kept (spread (h .class) w (membersAt st g) rs) (st .groups) (omega arith) gs)
 
-  -- a placing that is done gives the state that it was to give
-  alone-done : (st′ : State) → alone job room set′ h new st ≡ done st′ → aloneState job set′ h new st ≡ st′
-  unfolding alone
-  alone-done st′ e = room-done (hasRoom room st 1 0 new) (aloneState job set′ h new st) st′ e
-
-  join-done : (hg : HeldGroup) (g : VirtRegGroup) (st′ : State) → join job room set′ h hg g new st ≡ done st′ → joinState job set′ h hg g new st ≡ st′
-  unfolding join
-  join-done hg g st′ e = room-done (hasRoom room st 1 0 new) (joinState job set′ h hg g new st) st′ e
-
-  abbrev theMapping : Option (List Mapped)
-  theMapping = mapUses (vrgroup (length (st .groups))) (usesOf (segsOf new)) (st .mapping)
-
-  lead-done : (hg : HeldGroup) (st′ : State) → lead job room set′ h hg new st ≡ done st′ → leadState job set′ h hg new st (orElse theMapping []) ≡ st′
-  unfolding lead
-  lead-done hg st′ e = gate-done (isNone theMapping) (hasRoom room st 1 1 new) MappedTwice (leadState job set′ h hg new st (orElse theMapping [])) st′ e
-
-  merge-done : (hg : HeldGroup) (g : VirtRegGroup) (v : VirtReg) (st′ : State) → merge job room h hg g v new st ≡ done st′ → mergeState job h hg g v new st ≡ st′
-  unfolding merge
-  merge-done hg g v st′ e =
-      gate-done (overlaps (firstFrom new) (lastTo new) (registerAt st v .pieces)) (hasRoom room st 0 0 new) Overlap (mergeState job h hg g v new st) st′ e
-
-  group-placed : (hg : HeldGroup) (m : Option VirtRegGroup) (t : Option VirtReg) (st′ : State) → Ok (length (st .registers)) t → placeGroup job room set′ h new st hg m t ≡ done st′ → Placed μ new st st′
-  unfolding placeGroup
-  group-placed hg none t st′ o e = subst (Placed μ new st) (lead-done hg st′ e) (lead-placed hg (orElse theMapping []))
-  group-placed hg (some g) none st′ o e = subst (Placed μ new st) (join-done hg g st′ e) (join-placed hg g)
-  group-placed hg (some g) (some v) st′ o e = subst (Placed μ new st) (merge-done hg g v st′ e) (merge-placed hg g v o)
-
-  by-placed : (m : Option HeldGroup) (st′ : State) → Ok (length (st .registers)) (h .target) → placeBy job room set′ h new st m ≡ done st′ → Placed μ new st st′
-  unfolding placeBy
-  by-placed none st′ o e = subst (Placed μ new st) (alone-done st′ e) alone-placed
-  by-placed (some hg) st′ o e = group-placed hg (hg .mapped) (h .target) st′ o e
+  merge-target : (hg : HeldGroup) (g : VirtRegGroup) (v : VirtReg) → Ok (length (st .registers)) (h .target) → h .target ≡ some v → Placed μ new st (mergeState job h hg g v new st)
+  merge-target hg g v o e = merge-placed hg g v (subst (Ok (length (st .registers))) e o)
 
   pub placed : (st′ : State) → Ok (length (st .registers)) (h .target) → place job room set′ h new st ≡ done st′ → Placed μ new st st′
-  unfolding place
-  placed st′ o e = by-placed (h .group) st′ o e
+  placed st′ o e = place-cases job room set′ h new st (Placed μ new st) alone-placed (λ hg. lead-placed hg _) join-placed (λ hg g v. merge-target hg g v o) st′ e

@@ -14,7 +14,7 @@ use Rattle.definition.specs.Place.{total}
 use Rattle.definition.specs.Build.{Result, build, one, runs, sameSet}
 use Rattle.definition.specs.Entry.{answer, entry, entryTests, every, usesOk}
 use Rattle.definition.specs.Lines.{Line, printed}
-use Rattle.definition.specs.Promised.{Follows, In, Listed, Transitive, addedIn, byFirst, classUsesAt, covered, had, liveAt, inputOf, isMark, marksAt, ofSet, ownIn, ownOf, sameUse, valued, markedFor}
+use Rattle.definition.specs.Promised.{Follows, In, Listed, Transitive, addedIn, byFirst, classUsesAt, covered, had, liveAt, inputOf, isMark, marksAt, OwnWeight, ofSet, ownIn, ownOf, sameUse, valued, markedFor}
 use Rattle.definition.proofs.Places.{All}
 use Rattle.definition.proofs.Points.{Additive, points-additive, ofOwn, ownUses, built-same}
 use Rattle.definition.proofs.Entries.{lowest-none}
@@ -25,6 +25,7 @@ use Rattle.definition.proofs.Same.{class-test, other-test, first-total,
 use Rattle.definition.proofs.Printed.{readPoint, readUse, pieceUses, points-read, uses-read}
 use Rattle.definition.proofs.Sets.{InSet, built-in-set, runs-in}
 use Rattle.definition.proofs.Marks.{valued-had, listed-marked}
+use Rattle.definition.proofs.Weighed.{built-weighed}
 use Rattle.definition.proofs.Owned.{both-counted, led-counted, led-additive, covered-additive, covered-once, live-covered, counted-same, of-led, own-led, accepted-rise, no-mark-had, marks-turned}
 
 -- ---- what an accepted job is known to be
@@ -196,3 +197,11 @@ all-nth P (r ∷ rs) f = (f (vreg 0) (omega arith), all-nth P rs (λ v l. f (vre
 pub promise-classes : (job : Job) (room : Room) (res : Result) → answer job room ≡ done res → Transitive job
     → All (λ r. All (λ p. All (λ u. (c : RegClass) → classOf (u .kind) ≡ some c → In job (r .class) c) (p .seg .uses)) (r .pieces)) (res .registers)
 promise-classes job room res e t = all-nth _ (res .registers) (kept job room res e .classes t)
+
+-- ---- weights
+
+-- A register without group has the weight of its own pieces, whatever was placed after it, and these touch at most 4,096 instructions.
+-- Rules out: a merge that spreads its weight over registers of no group; a weight that is kept from before a register was cut.
+pub promise-weighed : (job : Job) (room : Room) (res : Result) → answer job room ≡ done res → All (OwnWeight job) (res .registers)
+unfolding answer
+promise-weighed job room res e = let a = accepted (entry job) job room res refl e in built-weighed job room res (a .0) (a .1)

@@ -8,8 +8,7 @@ use mathlib.Core.List.{List}
 use Rattle.definition.specs.Types.{BlockparamIn, BlockparamOut, ClassDef, ClassUse, ConstraintConflict, FixedDef, FixedUse, GroupClassDef, GroupClassUse, Held, HeldGroup, Inst, Job, RegClass, State, TiedUse, Use, UseKind, ValueSet, VirtReg, VirtRegGroup}
 use Rattle.definition.specs.RegInfo.{commonSubclass}
 use Rattle.definition.specs.Admit.{admit, admitClass, admitGroup, admitKind, fresh, groupFits, guard, inGroup, mappedAt, mappingFits, scan, setsAt, through}
-use Rattle.definition.proofs.Places.{bind-some}
-use Rattle.definition.proofs.Scans.{scan-keeps}
+use Rattle.definition.proofs.Places.{bind-some, scan-held}
 use Rattle.definition.proofs.Tables.{fits-parts, guarded}
 
 -- where no group is held, or an unmapped one, there is no register to merge into
@@ -30,12 +29,9 @@ unmapped-before t (some hg) i sets a e = go (hg .mapped) refl (fits-parts hg i n
     go (some g) q f = let z : _≡_ {A = ℕ} 0 1 = cc in absurd (omega arith)
 
 module _ (job : Job) (st : State) where
-  same-held : (h g : Held) → HeldUnmerged h → some h ≡ some g → HeldUnmerged g
-  same-held h g k e = subst HeldUnmerged (Option·some-injective h g e) k
-
   admit-class : (h : Held) (c : RegClass) (g : Held) → HeldUnmerged h → admitClass job h c ≡ some g → HeldUnmerged g
   unfolding admitClass
-  admit-class h c g k e = let r = bind-some (commonSubclass job (h .class) c) _ g e in same-held _ g k (r .2)
+  admit-class h c g k e = let r = bind-some (commonSubclass job (h .class) c) _ g e in subst HeldUnmerged (Option·some-injective _ g (r .2)) k
 
   -- by the group that the operand is mapped to
   group-target : (h : Held) (k : RegClass) (i : ℕ) (m : Option VirtRegGroup) (sets : List ValueSet) (n : RegClass × Option VirtReg) → HeldUnmerged h
@@ -51,22 +47,9 @@ module _ (job : Job) (st : State) where
       let r = bind-some (commonSubclass job (h .class) c) _ g e in
       let t = bind-some (guard (groupFits (h .group) i (mappedAt (st .mapping) p s) (setsAt job p s))) _ g (r .2) in
       let n = bind-some (inGroup job st h (r .0) i (mappedAt (st .mapping) p s)) _ g (t .2) in
-      same-held _ g (group-target h (r .0) i (mappedAt (st .mapping) p s) (setsAt job p s) (n .0) k (guarded _ (t .0) (t .1)) (n .1)) (n .2)
-
-  admit-kind : (h : Held) (p : Inst) (k : UseKind) (g : Held) → HeldUnmerged h → admitKind job st h p k ≡ some g → HeldUnmerged g
-  unfolding admitKind
-  admit-kind h p (FixedDef r) g o e = same-held h g o e
-  admit-kind h p (FixedUse r) g o e = same-held h g o e
-  admit-kind h p (TiedUse u d c i) g o e = same-held h g o e
-  admit-kind h p ConstraintConflict g o e = same-held h g o e
-  admit-kind h p (ClassUse s c) g o e = admit-class h c g o e
-  admit-kind h p (ClassDef s c) g o e = admit-class h c g o e
-  admit-kind h p (GroupClassUse s c i) g o e = admit-group h p s c i g o e
-  admit-kind h p (GroupClassDef s c i) g o e = admit-group h p s c i g o e
-  admit-kind h p (BlockparamIn q) g o e = same-held h g o e
-  admit-kind h p BlockparamOut g o e = same-held h g o e
+      subst HeldUnmerged (Option·some-injective _ g (n .2)) (group-target h (r .0) i (mappedAt (st .mapping) p s) (setsAt job p s) (n .0) k (guarded _ (t .0) (t .1)) (n .1))
 
   -- after a scan from the top class
   pub scan-unmapped : (top : RegClass) (us : List Use) (g : Held) → scan job st us (fresh top) ≡ through g → HeldUnmerged g
-  unfolding admit fresh
-  scan-unmapped top us g e = scan-keeps job st HeldUnmerged (λ h k u a b. admit-kind h (u .pos) (u .kind) k a b) us (fresh top) g refl e
+  unfolding fresh
+  scan-unmapped top us g e = scan-held job st HeldUnmerged admit-class admit-group us (fresh top) g refl e

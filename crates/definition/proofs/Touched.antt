@@ -122,6 +122,19 @@ pub live-insts-counts : (n : ℕ) (ss : List Segment) → Follows 0 ss → All (
 unfolding liveInsts
 live-insts-counts n ss h a = touched-from n 0 0 ss (omega arith) h a ∙ from-zero n ss
 
+-- so they are n at most
+at-most-one : (b : Bool) → one b ≤ 1
+at-most-one true = omega arith
+at-most-one false = omega arith
+
+below-most : (n : ℕ) (ss : List Segment) → touchedBelow n ss ≤ n
+unfolding touchedBelow
+below-most zero ss = omega arith
+below-most (suc i) ss = omega (arith, at-most-one (some-is (touches i) ss), below-most i ss)
+
+pub live-insts-most : (n : ℕ) (ss : List Segment) → Follows 0 ss → All (λ s. s .to .0 ≤ 4 * n) ss → liveInsts ss ≤ n
+live-insts-most n ss h a = omega (arith, live-insts-counts n ss h a, below-most n ss)
+
 -- ---- "[2,4),[4,6) gives 2; [0,1),[1,2) gives 1."
 
 abbrev two : ℕ → ℕ → ℕ → ℕ → List Segment

@@ -1,17 +1,19 @@
--- The words of the promises on accepted jobs: a value's points and uses, a set's ranges and own pieces, their order, classes.
+-- The words of the promises on accepted jobs: a value's points and uses, a set's ranges and own pieces, their order, classes, weights.
 -- Assumes nothing.
 use mathlib.Core.Path.{_≡_}
 use mathlib.Core.Logic.{_⊎_}
 use Prim.Native.Nat.{ℕ, zero, suc, _+_, _/_, _%_, _≤_, _<_}
 use mathlib.Core.Bool.{Bool, true, false, cond, _&&_}
-use mathlib.Core.Option.{Option}
+use mathlib.Core.Option.{Option, none}
 use mathlib.Core.List.{List, [], _∷_, _++_, map}
 use lib.ListN.{length}
 use lib.Dec.{leb, ltb, eqb}
 use Rattle.definition.specs.Types.{Inst, Value, ValueSet, RegClass, UseKind, FixedDef, FixedUse, TiedUse, ConstraintConflict, ClassUse, ClassDef, GroupClassUse, GroupClassDef, BlockparamIn, BlockparamOut, Use, ClassData, Segment, Job, Own, Conflict, Piece, Register}
 use Rattle.definition.specs.RegInfo.{classAt, setOf}
 use Rattle.definition.specs.Uses.{isClassUse}
-use Rattle.definition.specs.Place.{total}
+use Rattle.definition.specs.LiveRange.{liveInsts}
+use Rattle.definition.specs.Weights.{weightOf}
+use Rattle.definition.specs.Place.{segsOf, total}
 use Rattle.definition.specs.Lines.{useNumbers}
 use Rattle.definition.specs.Text.{same}
 use Rattle.definition.specs.Build.{one, turnedUse}
@@ -157,3 +159,9 @@ In job k c = bitAt (k .0) (classAt job c .mask) ≡ 1
 -- "subclassing is *transitive* if every class's mask contains its members' masks" (a term that document 01 coins)
 abbrev pub Transitive : Job → Type 0
 Transitive job = (c k j : RegClass) → In job k c → In job j k → In job j c
+
+-- ---- weights
+
+-- a register without group has the weight of its class and its own pieces, and these touch no more instructions than a job may have
+abbrev pub OwnWeight : Job → Register → Type 0
+OwnWeight job r = r .group ≡ none → (r .weight ≡ weightOf job (r .class) (segsOf (r .pieces))) × (liveInsts (segsOf (r .pieces)) ≤ 4096)

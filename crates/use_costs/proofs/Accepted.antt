@@ -5,15 +5,15 @@ use mathlib.Core.Option.{none}
 use mathlib.Core.List.{List}
 use Prim.Native.Nat.{ℕ, _+_, _*_, _≤_, _<_}
 use lib.Dec.{T}
-use lib.ListN.{length, getD}
+use lib.ListN.{getD}
 use lib.Ieee.{binary32, ofBits}
 use borrow.Author.Tests.{leb-true}
 use Rattle.rows.specs.RowsAt.{getD-rows-at}
 use Rattle.definition.specs.declared.ClassData.{ClassData}
 use Rattle.definition.specs.Types.{Job, cls}
 use Rattle.definition.specs.RegInfo.{noClass, classAt}
-use Rattle.definition.specs.Entry.{small, limitsOk, limitTests, insts, entry, entryTests}
-use Rattle.definition.proofs.Entries.{lowest-none, conj-all}
+use Rattle.definition.specs.Entry.{small, entry}
+use Rattle.definition.proofs.Entries.{accepted-adjust}
 use Rattle.floats.proofs.Bits.{small-test}
 use Rattle.spill_weight.specs.Costs.{PlainJob}
 use Rattle.spill_weight.proofs.Sums.{accepted-plain}
@@ -29,19 +29,6 @@ is-true false t = absurd t
 
 small-bits : (b : ℕ) → b < 4294967296 → T (small (ofBits binary32 b)) → b ≤ 0x4980_0000
 small-bits b h t = leb-true b 0x4980_0000 (small-test b h ∙ is-true (small (ofBits binary32 b)) t)
-
--- the limits
-pub accepted-insts : (J : Job) → entry J ≡ none → insts J ≤ 4096
-unfolding entry limitsOk
-accepted-insts J e = leb-true _ _ (conj-all (limitTests J) (lowest-none (entryTests J) e .0) .0)
-
-pub accepted-blocks : (J : Job) → entry J ≡ none → length (J .blocks) ≤ 512
-unfolding entry limitsOk
-accepted-blocks J e = leb-true _ _ (conj-all (limitTests J) (lowest-none (entryTests J) e .0) .1 .0)
-
-pub accepted-adjust : (J : Job) → entry J ≡ none → J .options .adjust ≤ 65535
-unfolding entry limitsOk
-accepted-adjust J e = leb-true _ _ (conj-all (limitTests J) (lowest-none (entryTests J) e .0) .1 .1 .1 .1 .1 .1 .1 .1 .1 .1 .1 .0)
 
 -- costs, scales and k; the words are u32
 pub book-small : (W : List ℕ) (lay : Layout) → ((i : ℕ) → getD W i 0 < 4294967296) → PlainJob (jobOf W lay) → jobOf W lay .options .adjust ≤ 65535 → SmallBook W lay

@@ -11,7 +11,8 @@ use Rattle.definition.specs.Entry.{entry}
 use Rattle.function.specs.Blocks.{Starts}
 use Rattle.layout.specs.declared.Layout.{Layout}
 use Rattle.layout.specs.Layout.{Fits}
-use Rattle.use_costs.proofs.Accepted.{accepted-blocks, accepted-book}
+use Rattle.definition.proofs.Entries.{accepted-blocks}
+use Rattle.use_costs.proofs.Accepted.{accepted-book}
 use Rattle.vreg_weight.specs.Weighed.{jobIn, Weighable}
 use Rattle.vreg_weight.proofs.Sums.{blocks-long}
 

@@ -7,17 +7,17 @@ use mathlib.Core.List.{List, [], _∷_, map}
 use native.Mathlib.Omega.{arith}
 use lib.Dec.{leb, ltb}
 use lib.ListN.{length}
-use borrow.Author.Tests.{ltb-true, leb-true, leb-false}
+use borrow.Author.Tests.{ltb-true, leb-false}
 use Rattle.definition.specs.declared.Hint.{Hint}
 use Rattle.definition.specs.declared.Inst.{Inst}
 use Rattle.definition.specs.Types.{Segment, Job}
 use Rattle.definition.specs.Cuts.{leftCut, leftOf, rightCut, rightOf}
 use Rattle.definition.specs.Build.{turnAt, runs, sameSet}
-use Rattle.definition.specs.Entry.{insts, segmentOk, segmentTests, segmentsOk, entry, entryTests}
+use Rattle.definition.specs.Entry.{insts, entry}
 use Rattle.definition.specs.LiveRange.{touched, liveInsts}
 use Rattle.definition.proofs.Fits.{SegsFit}
-use Rattle.definition.proofs.Entries.{and-both, conj-all, every-all, lowest-none, accepted-fit}
-use Rattle.definition.proofs.Places.{All, all-map}
+use Rattle.definition.proofs.Entries.{accepted-ends, accepted-fit}
+use Rattle.definition.proofs.Places.{All}
 use Rattle.definition.proofs.Runs.{runs-all}
 use Rattle.live_insts.specs.Ranges.{rangeOf}
 use Rattle.live_insts.specs.Laws.{RangesFit, ranges-within, live-insts-ranges}
@@ -105,14 +105,7 @@ both-sorted : (m : ℕ) (rs : List (List Segment)) → All (SegsFit 0) rs → Al
 both-sorted m [] f h = tt
 both-sorted m (r ∷ rs) f h = (fit-sorted 0 m r (f .0) (all-ends m r (h .0)), both-sorted m rs (f .1) (h .1))
 
-segment-ends : (J : Job) (s : Segment) → segmentOk J s ≡ true → s .to .0 ≤ 4 * insts J
-unfolding segmentOk
-segment-ends J s e = leb-true _ _ (conj-all (segmentTests J s) e .1 .1 .1 .1 .0)
-
 pub accepted-sorted : (J : Job) → entry J ≡ none → All (Sorted 0 (insts J)) (runs (sameSet J) (J .segments))
-unfolding entry segmentsOk
 accepted-sorted J e =
     both-sorted (insts J) (runs (sameSet J) (J .segments)) (accepted-fit J e)
-    (runs-all (λ s. s .to .0 ≤ 4 * insts J) (sameSet J) (J .segments)
-    (all-map (λ s. segmentOk J s ≡ true) (λ s. s .to .0 ≤ 4 * insts J) (λ s h. segment-ends J s h) (J .segments)
-    (every-all (segmentOk J) (J .segments) (and-both _ _ (lowest-none (entryTests J) e .1 .1 .1 .1 .0) .0))))
+    (runs-all (λ s. s .to .0 ≤ 4 * insts J) (sameSet J) (J .segments) (accepted-ends J e))
