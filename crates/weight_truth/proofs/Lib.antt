@@ -9,3 +9,4 @@ pub mod Truth
 pub mod Floats
 pub mod Rank
 pub mod Promises
+pub mod Instance
