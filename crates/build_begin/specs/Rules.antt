@@ -18,7 +18,7 @@ use Rattle.definition.specs.declared.Use.{Use}
 use Rattle.definition.specs.Types.{Segment, Job}
 use Rattle.definition.specs.RegInfo.{classAt, noClass}
 use Rattle.definition.specs.Build.{withUses}
-use Rattle.definition.specs.Entry.{bookOk, bookTests, chained, classOk, classTests, entry, entryTests, every, functionOk, groupUseOk, insts, limitTests, limitsOk, vgroupValues, segmentOk, segmentTests, segmentsOk, sized, useOk, usesOk}
+use Rattle.definition.specs.Entry.{bookOk, bookTests, chained, classOk, classTests, entry, entryTests, every, functionOk, groupUseOk, limitTests, limitsOk, vgroupValues, segmentOk, segmentsOk, sized, useOk, usesOk}
 use Rattle.definition.specs.Promised.{bitAt}
 use Rattle.definition.proofs.Places.{All, all-map, all-getD}
 use Rattle.definition.proofs.Tables.{operandAt, uses-are}

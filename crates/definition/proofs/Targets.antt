@@ -5,9 +5,9 @@ use native.Mathlib.Omega.{arith}
 use mathlib.Core.Bool.{true}
 use mathlib.Core.Option.{Option, none, some, Option·some-injective}
 use mathlib.Core.List.{List}
-use Rattle.definition.specs.Types.{BlockparamIn, BlockparamOut, ClassDef, ClassUse, ConstraintConflict, FixedDef, FixedUse, GroupClassDef, GroupClassUse, Held, HeldGroup, Inst, Job, RegClass, State, TiedUse, Use, UseKind, ValueSet, VirtReg, VirtRegGroup}
+use Rattle.definition.specs.Types.{Held, HeldGroup, Inst, Job, RegClass, State, Use, ValueSet, VirtReg, VirtRegGroup}
 use Rattle.definition.specs.RegInfo.{commonSubclass}
-use Rattle.definition.specs.Admit.{admit, admitClass, admitGroup, admitKind, fresh, groupFits, guard, inGroup, mappedAt, mappingFits, scan, setsAt, through}
+use Rattle.definition.specs.Admit.{admitClass, admitGroup, fresh, groupFits, guard, inGroup, mappedAt, mappingFits, scan, setsAt, through}
 use Rattle.definition.proofs.Places.{bind-some, scan-held}
 use Rattle.definition.proofs.Tables.{fits-parts, guarded}
 

@@ -10,7 +10,7 @@ use lib.Ieee.{binary32, ofBits}
 use borrow.Author.Tests.{leb-true}
 use Rattle.rows.specs.RowsAt.{getD-rows-at}
 use Rattle.definition.specs.declared.ClassData.{ClassData}
-use Rattle.definition.specs.Types.{Job, cls}
+use Rattle.definition.specs.Types.{cls}
 use Rattle.definition.specs.RegInfo.{noClass, classAt}
 use Rattle.definition.specs.Entry.{small, entry}
 use Rattle.definition.proofs.Entries.{accepted-adjust}

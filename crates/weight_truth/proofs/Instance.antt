@@ -2,18 +2,17 @@
 -- Assumes nothing.
 use mathlib.Core.Path.{_≡_, refl}
 use mathlib.Core.Logic.{_⊎_, inl, inr}
-use mathlib.Core.Bool.{Bool, true, false, not}
+use mathlib.Core.Bool.{true, false}
 use mathlib.Core.Option.{none}
 use mathlib.Core.List.{List, [], _∷_}
 use Prim.Native.Nat.{ℕ, _+_, _*_, _^_, _≤_, _<_}
 use native.Mathlib.Nat.{not-le-of-lt}
 use native.Mathlib.Omega.{arith}
-use lib.Dec.{T, leb, lit≤, lit<}
-use lib.Ieee.{Float, inf, binary32, ofBits, toBits, add, mul, div, lt, ofInt}
+use lib.Dec.{T, lit≤, lit<}
+use lib.Ieee.{Float, binary32, ofBits, toBits, add, mul, div, lt, ofInt}
 use lib.Ieee.Positive.{num, den}
 use Rattle.definition.specs.declared.BlockData.{BlockData}
 use Rattle.definition.specs.declared.ClassData.{ClassData}
-use Rattle.definition.specs.declared.Origin.the-variants.{Own}
 use Rattle.definition.specs.declared.Remat.{Remat}
 use Rattle.definition.specs.declared.Remat.the-variants.{Never, CheaperThanMove}
 use Rattle.definition.specs.declared.Use.{Use}
@@ -27,10 +26,9 @@ use Rattle.definition.specs.Uses.{costOf}
 use Rattle.definition.specs.LiveRange.{liveInsts, touched}
 use Rattle.definition.specs.SplitPlacement.{freqAt}
 use Rattle.definition.specs.Weights.{scaled, addCost, sumUses, sumSegs, minF, normalized, weightOf}
-use Rattle.definition.specs.Place.{segsOf}
 use Rattle.definition.specs.Build.{asOwn}
 use Rattle.definition.specs.Entry.{answer}
-use Rattle.weight_truth.specs.Truth.{FineSegs, FineUses, FineQuotient, FineWeight, Near, NearExact, Spoken, exactSum, exactUses, exactUse, exactScale, units, nonzeros, nonzeroUses, distance}
+use Rattle.weight_truth.specs.Truth.{FineSegs, FineUses, FineWeight, Near, NearExact, Spoken, exactSum, exactUses, exactUse, exactScale, units, nonzeros, nonzeroUses, distance}
 
 -- ---- records as the sheets write them
 

@@ -1,14 +1,14 @@
 -- Change request 13 of every accepted result, and of every sheet's. Assumes nothing.
-use mathlib.Core.Path.{_≡_, refl, sym, ap, _∙_, subst}
+use mathlib.Core.Path.{_≡_, refl, sym, subst}
 use mathlib.Core.Option.{none, some}
 use mathlib.Core.List.{List}
 use Prim.Native.Nat.{ℕ, _+_, _≤_, _<_}
 use native.Mathlib.Omega.{arith}
-use lib.Ieee.{Float, inf}
-use Rattle.definition.specs.Types.{Job, Register, Room, Out, done}
+use lib.Ieee.{Float}
+use Rattle.definition.specs.Types.{Job, Register, Room, done}
 use Rattle.definition.specs.RegInfo.{zeroF}
 use Rattle.definition.specs.LiveRange.{liveInsts}
-use Rattle.definition.specs.Weights.{sumSegs, weightOf}
+use Rattle.definition.specs.Weights.{sumSegs}
 use Rattle.definition.specs.Place.{segsOf}
 use Rattle.definition.specs.Build.{Result}
 use Rattle.definition.specs.Entry.{answer, entry}
@@ -18,9 +18,8 @@ use Rattle.definition.proofs.Accepted.{accepted}
 use Rattle.definition.proofs.Entries.{accepted-adjust}
 use Rattle.definition.proofs.Places.{All, all-map}
 use Rattle.definition.proofs.Promises.{promise-weighed}
-use Rattle.spill_weight.specs.Costs.{PlainJob}
 use Rattle.spill_weight.proofs.Sums.{accepted-plain}
-use Rattle.weight_truth.specs.Truth.{FineWeight, F32Job, NearExact, Spoken, TrueWeight, RankTrue, nonzeros, exactSum}
+use Rattle.weight_truth.specs.Truth.{FineWeight, F32Job, NearExact, TrueWeight, RankTrue, nonzeros, exactSum}
 use Rattle.weight_truth.proofs.Sums.{sum-near}
 use Rattle.weight_truth.proofs.Truth.{fine-count, weight-true}
 use Rattle.weight_truth.proofs.Rank.{rank-true}

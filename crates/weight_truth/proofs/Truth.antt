@@ -1,5 +1,5 @@
 -- Change request 13: how true a weight is. Assumes nothing.
-use mathlib.Core.Path.{_≡_, refl, sym, ap, _∙_, subst}
+use mathlib.Core.Path.{_≡_, refl, sym, ap, subst}
 use mathlib.Core.Logic.{inl, inr}
 use mathlib.Core.Bool.{Bool, true, false, not, cond, _&&_}
 use mathlib.Core.List.{List}
@@ -8,7 +8,7 @@ use native.Mathlib.Nat.{le-trans, mul-one, mul-pos, mul-le-mul-right}
 use native.Mathlib.Omega.{arith}
 use lib.Dec.{T, leb, eqb, ltb→lt}
 use lib.IntN.{pos}
-use lib.Ieee.{Float, nan, inf, fin, binary32, up, div, lt, ofInt}
+use lib.Ieee.{Float, nan, inf, fin, binary32, up, div, ofInt}
 use lib.Ieee.Fits.{up-pos, div-fits}
 use lib.Ieee.Positive.{num, den, den-pos, positive}
 use Rattle.definition.specs.declared.RegClass.{RegClass}
