@@ -2,7 +2,8 @@
 use mathlib.Core.List.{List}
 use Prim.Native.Nat.{ℕ, zero, suc, _+_, _*_}
 use lib.ListN.{getD}
-use lib.Ieee.{binary32}
+use lib.Dec.{T}
+use lib.Ieee.{binary32, ofBits, fits}
 use lib.Ieee.Bits.{ofBits-fits}
 use Rattle.rows.specs.Tab.{tab}
 use Rattle.rows.specs.RowsAt.{rowsAt}
@@ -29,10 +30,11 @@ words-f32 W lay =
     let o = lay .opts in
     let c = lay .classes in
     let b = lay .blocks in
+    let fit : (i : ℕ) → T (fits binary32 (ofBits binary32 (word i))) = λ i. ofBits-fits binary32 (word i) in
     f32-job (rawJob W lay)
-    (record { move = ofBits-fits binary32 (word (o + 1)); load = ofBits-fits binary32 (word (o + 2)); indirect = ofBits-fits binary32 (word (o + 3)) })
-    (tab-all CostFits (λ k. classRow W (c .at + k * 4)) (λ k. ofBits-fits binary32 (word (c .at + k * 4 + 1))) 0 (c .n))
-    (tab-all FreqFits (λ k. blockRow W (b .at + k * 2)) (λ k. ofBits-fits binary32 (word (b .at + k * 2 + 1))) 0 (b .n))
+    (record { move = fit (o + 1); load = fit (o + 2); indirect = fit (o + 3) })
+    (tab-all CostFits (λ k. classRow W (c .at + k * 4)) (λ k. fit (c .at + k * 4 + 1)) 0 (c .n))
+    (tab-all FreqFits (λ k. blockRow W (b .at + k * 2)) (λ k. fit (b .at + k * 2 + 1)) 0 (b .n))
 
 pub binary-f32 : (s : List ℕ) → F32Job (binaryJob s)
 unfolding binaryJob

@@ -137,21 +137,29 @@ input-whole s v = defined.input-whole (binaryJob s) v
 
 -- ---- weights
 
--- Weights: each register that is read back from the bytes x, without group and of finite weight and under change request 13's conditions (`Spoken`), has a weight that is within (n + 3) parts in 2 ^ 23 of
--- the exact fraction of the job's own numbers (`NearExact`), n its uses whose exact product is not zero. The weight is the word of the register's row.
--- Rules out: a member's weight, which is its group's least, taken as its own; n the uses of the whole set in place of those of the register's rows.
-pub promise-weights-left : (n : ℕ) (ol : OutLayout) (s : List ℕ) (r : BuildEnd) (x : List ℕ) → Answered n ol (binaryAnswer s (roomOf ol)) r x → r .number ≡ 0
+-- Weights: each register that is read back from the bytes x, without group and of finite weight and under the conditions
+-- of change request 13 (`Spoken`), has a weight within (n + 3) parts in 2 ^ 23 of the exact fraction (`NearExact`) of the
+-- job's own numbers; n are the uses of its own pieces whose exact product is not zero. The weight is the word of its row.
+-- Rules out, as readings: a group member's weight, which is its group's least; n as the uses of the whole set.
+pub promise-weights-left : (n : ℕ) (ol : OutLayout) (s : List ℕ) (r : BuildEnd) (x : List ℕ)
+    → Answered n ol (binaryAnswer s (roomOf ol)) r x → r .number ≡ 0
     → All (TrueWeight (binaryJob s)) (resultIn ol r x .registers)
-promise-weights-left n ol s r x a z = promise-weights (binaryJob s) (roomOf ol) (resultIn ol r x) (binary-f32 s) (accepted n ol s r x a z)
+promise-weights-left n ol s r x a z =
+    promise-weights (binaryJob s) (roomOf ol) (resultIn ol r x) (binary-f32 s) (accepted n ol s r x a z)
 
 -- Ranks: of each two such registers, weights that are far enough apart have their exact fractions in the same order.
--- Rules out: a rank by the last digits; an allowance for one of the two alone.
-pub promise-ranks-left : (n : ℕ) (ol : OutLayout) (s : List ℕ) (r : BuildEnd) (x : List ℕ) → Answered n ol (binaryAnswer s (roomOf ol)) r x → r .number ≡ 0
+-- Rules out, as readings: that the greater weight is enough; that one of the two allowances is.
+pub promise-ranks-left : (n : ℕ) (ol : OutLayout) (s : List ℕ) (r : BuildEnd) (x : List ℕ)
+    → Answered n ol (binaryAnswer s (roomOf ol)) r x → r .number ≡ 0
     → All (λ g. All (RankTrue (binaryJob s) g) (resultIn ol r x .registers)) (resultIn ol r x .registers)
-promise-ranks-left n ol s r x a z = promise-ranks (binaryJob s) (roomOf ol) (resultIn ol r x) (binary-f32 s) (accepted n ol s r x a z)
+promise-ranks-left n ol s r x a z =
+    promise-ranks (binaryJob s) (roomOf ol) (resultIn ol r x) (binary-f32 s) (accepted n ol s r x a z)
 
--- The same of a job sheet: what `vregs` builds in its tables is `Answered` for the answer to the sheet bs (crates/vregs_answer/specs/Sheet.antt), and `job` is the sheet's.
--- Rules out: the job of another sheet with the same registers; the result of a sheet that is refused.
-pub promise-weights-sheet : (n : ℕ) (ol : OutLayout) (bs : List ℕ) (job : Job) (r : BuildEnd) (x : List ℕ) → Answered n ol (sheetAnswer bs (roomOf ol)) r x → r .number ≡ 0
+-- The same of a job sheet bs, whose job is `job`: what `vregs` leaves in its tables is `Answered` for the answer to the
+-- sheet (crates/vregs_answer: `Answers`, `promise-weights-vregs`).
+-- Rules out, as readings: the job that the reader's table stands for, in place of the sheet's; a sheet that is refused.
+pub promise-weights-sheet : (n : ℕ) (ol : OutLayout) (bs : List ℕ) (job : Job) (r : BuildEnd) (x : List ℕ)
+    → Answered n ol (sheetAnswer bs (roomOf ol)) r x → r .number ≡ 0
     → jobOfSheet bs ≡ some job → All (TrueWeight job) (resultIn ol r x .registers)
-promise-weights-sheet n ol bs job r x a z j = sheet-weights bs (roomOf ol) job (resultIn ol r x) j (read-answer n ol (sheetAnswer bs (roomOf ol)) r x a z)
+promise-weights-sheet n ol bs job r x a z j =
+    sheet-weights bs (roomOf ol) job (resultIn ol r x) j (read-answer n ol (sheetAnswer bs (roomOf ol)) r x a z)

@@ -132,7 +132,8 @@ pub data Part (hs : List Hint) : List Segment → List Segment → List Segment 
 
 -- a fact on segments that both halves of a cut one have, and one with a use turned
 module _ (P : Segment → Type 0) where
-  pub part-all : (hs : List Hint) → ((p : Inst) (s : Segment) → 4 * p .0 < s .to .0 → P s → P (leftOf hs p s) × P (rightOf hs p s)) → {ss l r : List Segment} → Part hs ss l r → All P ss → All P l × All P r
+  pub part-all : (hs : List Hint) → ((p : Inst) (s : Segment) → 4 * p .0 < s .to .0 → P s → P (leftOf hs p s) × P (rightOf hs p s))
+      → {ss l r : List Segment} → Part hs ss l r → All P ss → All P l × All P r
   unfolding leftCut rightCut
   part-all hs f (all ss) a = (a, tt)
   part-all hs f (before p ss) a = cut-all ss a

@@ -145,14 +145,15 @@ accepted-ends job e =
 
 -- ---- the limits of an accepted job
 
-pub accepted-insts : (job : Job) → entry job ≡ none → insts job ≤ 4096
+limits-pass : (job : Job) → entry job ≡ none → All (λ b. b ≡ true) (limitTests job)
 unfolding entry limitsOk
-accepted-insts job e = leb-true _ _ (conj-all (limitTests job) (lowest-none (entryTests job) e .0) .0)
+limits-pass job e = conj-all (limitTests job) (lowest-none (entryTests job) e .0)
+
+pub accepted-insts : (job : Job) → entry job ≡ none → insts job ≤ 4096
+accepted-insts job e = leb-true _ _ (limits-pass job e .0)
 
 pub accepted-blocks : (job : Job) → entry job ≡ none → length (job .blocks) ≤ 512
-unfolding entry limitsOk
-accepted-blocks job e = leb-true _ _ (conj-all (limitTests job) (lowest-none (entryTests job) e .0) .1 .0)
+accepted-blocks job e = leb-true _ _ (limits-pass job e .1 .0)
 
 pub accepted-adjust : (job : Job) → entry job ≡ none → job .options .adjust ≤ 65535
-unfolding entry limitsOk
-accepted-adjust job e = leb-true _ _ (conj-all (limitTests job) (lowest-none (entryTests job) e .0) .1 .1 .1 .1 .1 .1 .1 .1 .1 .1 .1 .0)
+accepted-adjust job e = leb-true _ _ (limits-pass job e .1 .1 .1 .1 .1 .1 .1 .1 .1 .1 .1 .0)

@@ -169,7 +169,8 @@ bind-some (some a) k b e = (a, refl, e)
 -- a fact on what is held that the two ways to admit a class use keep: every admission keeps it, and so does a scan
 module _ (job : Job) (st : State) (P : Held → Type 0)
     (by-class : (h : Held) (c : RegClass) (g : Held) → P h → admitClass job h c ≡ some g → P g)
-    (by-group : (h : Held) (p : Inst) (s : ℕ) (c : RegClass) (i : ℕ) (g : Held) → P h → admitGroup job st h p s c i ≡ some g → P g) where
+    (by-group : (h : Held) (p : Inst) (s : ℕ) (c : RegClass) (i : ℕ) (g : Held) → P h
+    → admitGroup job st h p s c i ≡ some g → P g) where
   same-held : (h g : Held) → P h → some h ≡ some g → P g
   same-held h g k e = subst P (Option·some-injective h g e) k
 
@@ -194,39 +195,54 @@ module _ (job : Job) (st : State) (P : Held → Type 0)
   scan-held us h g o e = scan-keeps job st P (λ l k u p a. admit-held l u k p a) us h g o e
 
 -- a fact on the register to merge into: it is kept if what each place of each group has in it has the fact
-module _ (job : Job) (st : State) (P : Option VirtReg → Type 0) (at-places : (g : VirtRegGroup) (i : ℕ) → P (getD (membersAt st g) i none)) where
-  place-target : (h : Held) (k : RegClass) (ms : List (Option VirtReg)) (o : Option VirtReg) (n : RegClass × Option VirtReg) → P (h .target) → P o → atPlace job st h k ms o ≡ some n → P (n .1)
+module _ (job : Job) (st : State) (P : Option VirtReg → Type 0)
+    (at-places : (g : VirtRegGroup) (i : ℕ) → P (getD (membersAt st g) i none)) where
+  abbrev Second : RegClass × Option VirtReg → Type 0
+  Second n = P (n .1)
+
+  abbrev Target : Held → Type 0
+  Target h = P (h .target)
+
+  place-target : (h : Held) (k : RegClass) (ms : List (Option VirtReg)) (o : Option VirtReg) (n : RegClass × Option VirtReg)
+      → Target h → P o → atPlace job st h k ms o ≡ some n → Second n
   unfolding atPlace
   place-target h k ms none n a b e =
-      let r = bind-some (narrowed job st ms k) _ n e in subst (λ (m : RegClass × Option VirtReg). P (m .1)) (Option·some-injective _ _ (r .2)) a
+      let r = bind-some (narrowed job st ms k) _ n e in
+      subst Second (Option·some-injective _ _ (r .2)) a
   place-target h k ms (some v) n a b e =
-      let r = bind-some (commonSubclass job (h .class) (registerAt st v .class)) _ n e in subst (λ (m : RegClass × Option VirtReg). P (m .1)) (Option·some-injective _ _ (r .2)) b
+      let r = bind-some (commonSubclass job (h .class) (registerAt st v .class)) _ n e in
+      subst Second (Option·some-injective _ _ (r .2)) b
 
-  group-target : (h : Held) (k : RegClass) (i : ℕ) (m : Option VirtRegGroup) (n : RegClass × Option VirtReg) → P (h .target) → inGroup job st h k i m ≡ some n → P (n .1)
+  group-target : (h : Held) (k : RegClass) (i : ℕ) (m : Option VirtRegGroup) (n : RegClass × Option VirtReg) → Target h
+      → inGroup job st h k i m ≡ some n → Second n
   unfolding inGroup
-  group-target h k i none n a e = subst (λ (m : RegClass × Option VirtReg). P (m .1)) (Option·some-injective _ _ e) a
-  group-target h k i (some g) n a e = place-target h k (membersAt st g) (getD (membersAt st g) i none) n a (at-places g i) e
+  group-target h k i none n a e = subst Second (Option·some-injective _ _ e) a
+  group-target h k i (some g) n a e =
+      place-target h k (membersAt st g) (getD (membersAt st g) i none) n a (at-places g i) e
 
-  by-class : (h : Held) (c : RegClass) (g : Held) → P (h .target) → admitClass job h c ≡ some g → P (g .target)
+  by-class : (h : Held) (c : RegClass) (g : Held) → Target h → admitClass job h c ≡ some g → Target g
   unfolding admitClass
   by-class h c g k e =
-      let r = bind-some (commonSubclass job (h .class) c) _ g e in subst (λ (l : Held). P (l .target)) (Option·some-injective _ g (r .2)) k
+      let r = bind-some (commonSubclass job (h .class) c) _ g e in
+      subst Target (Option·some-injective _ g (r .2)) k
 
-  by-group : (h : Held) (p : Inst) (s : ℕ) (c : RegClass) (i : ℕ) (g : Held) → P (h .target) → admitGroup job st h p s c i ≡ some g → P (g .target)
+  by-group : (h : Held) (p : Inst) (s : ℕ) (c : RegClass) (i : ℕ) (g : Held) → Target h
+      → admitGroup job st h p s c i ≡ some g → Target g
   unfolding admitGroup
   by-group h p s c i g k e =
       let r = bind-some (commonSubclass job (h .class) c) _ g e in
       let t = bind-some (guard (groupFits (h .group) i (mappedAt (st .mapping) p s) (setsAt job p s))) _ g (r .2) in
-      let n = bind-some (inGroup job st h (r .0) i (mappedAt (st .mapping) p s)) _ g (t .2) in
-      subst (λ (l : Held). P (l .target)) (Option·some-injective _ g (n .2)) (group-target h (r .0) i (mappedAt (st .mapping) p s) (n .0) k (n .1))
+      let m = mappedAt (st .mapping) p s in
+      let n = bind-some (inGroup job st h (r .0) i m) _ g (t .2) in
+      subst Target (Option·some-injective _ g (n .2)) (group-target h (r .0) i m (n .0) k (n .1))
 
-  pub admit-merged : (h : Held) (u : Use) (g : Held) → P (h .target) → admit job st h u ≡ some g → P (g .target)
-  admit-merged = admit-held job st (λ h. P (h .target)) by-class by-group
+  pub admit-merged : (h : Held) (u : Use) (g : Held) → Target h → admit job st h u ≡ some g → Target g
+  admit-merged = admit-held job st Target by-class by-group
 
-  pub scan-merged : (us : List Use) (h g : Held) → P (h .target) → scan job st us h ≡ through g → P (g .target)
-  scan-merged = scan-held job st (λ h. P (h .target)) by-class by-group
+  pub scan-merged : (us : List Use) (h g : Held) → Target h → scan job st us h ≡ through g → Target g
+  scan-merged = scan-held job st Target by-class by-group
 
--- it names a register
+-- that it names a register
 module _ (job : Job) (st : State) (gs : Groups st) where
   abbrev TargetOk : Held → Type 0
   TargetOk h = Ok (length (st .registers)) (h .target)
@@ -260,7 +276,8 @@ try-target job (suc f) st h taken (t ∷ us) left gs o =
 -- ---- placing
 
 -- a placing that is done leaves one of four states
-module _ (job : Job) (room : Room) (set′ : ValueSet) (h : Held) (new : List Piece) (st : State) (P : State → Type 0) where
+module _ (job : Job) (room : Room) (set′ : ValueSet) (h : Held) (new : List Piece) (st : State)
+    (P : State → Type 0) where
   abbrev theMapping : Option (List Mapped)
   theMapping = mapUses (vrgroup (length (st .groups))) (usesOf (segsOf new)) (st .mapping)
 
@@ -273,14 +290,20 @@ module _ (job : Job) (room : Room) (set′ : ValueSet) (h : Held) (new : List Pi
   abbrev Merges : Option VirtReg → Type 0
   Merges t = (hg : HeldGroup) (g : VirtRegGroup) (v : VirtReg) → t ≡ some v → P (mergeState job h hg g v new st)
 
-  group-cases : (hg : HeldGroup) (m : Option VirtRegGroup) (t : Option VirtReg) → Leads → Joins → Merges t → (st′ : State) → placeGroup job room set′ h new st hg m t ≡ done st′ → P st′
+  group-cases : (hg : HeldGroup) (m : Option VirtRegGroup) (t : Option VirtReg) → Leads → Joins → Merges t
+      → (st′ : State) → placeGroup job room set′ h new st hg m t ≡ done st′ → P st′
   unfolding placeGroup lead join merge
-  group-cases hg none t l j m st′ e = subst P (gate-done (isNone theMapping) (hasRoom room st 1 1 new) MappedTwice (leadState job set′ h hg new st (orElse theMapping [])) st′ e) (l hg)
-  group-cases hg (some g) none l j m st′ e = subst P (room-done (hasRoom room st 1 0 new) (joinState job set′ h hg g new st) st′ e) (j hg g)
+  group-cases hg none t l j m st′ e =
+      let s = leadState job set′ h hg new st (orElse theMapping []) in
+      subst P (gate-done (isNone theMapping) (hasRoom room st 1 1 new) MappedTwice s st′ e) (l hg)
+  group-cases hg (some g) none l j m st′ e =
+      subst P (room-done (hasRoom room st 1 0 new) (joinState job set′ h hg g new st) st′ e) (j hg g)
   group-cases hg (some g) (some v) l j m st′ e =
-      subst P (gate-done (overlaps (firstFrom new) (lastTo new) (registerAt st v .pieces)) (hasRoom room st 0 0 new) Overlap (mergeState job h hg g v new st) st′ e) (m hg g v refl)
+      let o = overlaps (firstFrom new) (lastTo new) (registerAt st v .pieces) in
+      subst P (gate-done o (hasRoom room st 0 0 new) Overlap (mergeState job h hg g v new st) st′ e) (m hg g v refl)
 
-  pub place-cases : P (aloneState job set′ h new st) → Leads → Joins → Merges (h .target) → (st′ : State) → place job room set′ h new st ≡ done st′ → P st′
+  pub place-cases : P (aloneState job set′ h new st) → Leads → Joins → Merges (h .target)
+      → (st′ : State) → place job room set′ h new st ≡ done st′ → P st′
   unfolding place placeBy alone
   place-cases a l j m st′ e = go (h .group) e
     where
@@ -357,8 +380,7 @@ module _ (μ : Piece → ℕ) (job : Job) (room : Room) (set′ : ValueSet) (h :
       spread-length (h .class) w (membersAt st g) rs ∙ update-length (withPieces ps) (v .0) (st .registers) in
       (omega arith, kept (spread (h .class) w (membersAt st g) rs) (st .groups) (omega arith) gs)
 
-  merge-target : (hg : HeldGroup) (g : VirtRegGroup) (v : VirtReg) → Ok (length (st .registers)) (h .target) → h .target ≡ some v → Placed μ new st (mergeState job h hg g v new st)
-  merge-target hg g v o e = merge-placed hg g v (subst (Ok (length (st .registers))) e o)
-
   pub placed : (st′ : State) → Ok (length (st .registers)) (h .target) → place job room set′ h new st ≡ done st′ → Placed μ new st st′
-  placed st′ o e = place-cases job room set′ h new st (Placed μ new st) alone-placed (λ hg. lead-placed hg _) join-placed (λ hg g v. merge-target hg g v o) st′ e
+  placed st′ o e =
+      place-cases job room set′ h new st (Placed μ new st) alone-placed (λ hg. lead-placed hg _) join-placed
+      (λ hg g v q. merge-placed hg g v (subst (Ok (length (st .registers))) q o)) st′ e

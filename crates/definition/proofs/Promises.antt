@@ -200,8 +200,13 @@ promise-classes job room res e t = all-nth _ (res .registers) (kept job room res
 
 -- ---- weights
 
--- A register without group has the weight of its own pieces, whatever was placed after it, and these touch at most 4,096 instructions.
--- Rules out: a merge that spreads its weight over registers of no group; a weight that is kept from before a register was cut.
-pub promise-weighed : (job : Job) (room : Room) (res : Result) → answer job room ≡ done res → All (OwnWeight job) (res .registers)
+-- A register without group has the weight of its class and its own pieces, whatever was placed after it, and these
+-- touch at most 4,096 instructions.
+-- Rules out: a join or merge that writes its group's least weight into registers of no group; a weight of all segments
+-- of the set in a register that was cut off.
+pub promise-weighed : (job : Job) (room : Room) (res : Result) → answer job room ≡ done res
+    → All (OwnWeight job) (res .registers)
 unfolding answer
-promise-weighed job room res e = let a = accepted (entry job) job room res refl e in built-weighed job room res (a .0) (a .1)
+promise-weighed job room res e =
+    let a = accepted (entry job) job room res refl e in
+    built-weighed job room res (a .0) (a .1)

@@ -1,5 +1,5 @@
--- The words of the promises on accepted jobs: a value's points and uses, a set's ranges and own pieces, their order, classes, weights.
--- Assumes nothing.
+-- The words of the promises on accepted jobs: a value's points and uses, a set's ranges and own pieces, their order,
+-- classes, weights. Assumes nothing.
 use mathlib.Core.Path.{_≡_}
 use mathlib.Core.Logic.{_⊎_}
 use Prim.Native.Nat.{ℕ, zero, suc, _+_, _/_, _%_, _≤_, _<_}
@@ -162,6 +162,9 @@ Transitive job = (c k j : RegClass) → In job k c → In job j k → In job j c
 
 -- ---- weights
 
--- a register without group has the weight of its class and its own pieces, and these touch no more instructions than a job may have
+-- a register without group has the weight of its class and its own pieces, and these touch no more instructions than a
+-- job may have
 abbrev pub OwnWeight : Job → Register → Type 0
-OwnWeight job r = r .group ≡ none → (r .weight ≡ weightOf job (r .class) (segsOf (r .pieces))) × (liveInsts (segsOf (r .pieces)) ≤ 4096)
+OwnWeight job r =
+    let ss = segsOf (r .pieces) in
+    r .group ≡ none → (r .weight ≡ weightOf job (r .class) ss) × (liveInsts ss ≤ 4096)

@@ -17,9 +17,11 @@ use Rattle.build_answer.specs.Answered.{resultIn}
 use Rattle.build_answer.proofs.Promises.{promise-weights-sheet}
 use Rattle.vregs_answer.specs.Sheet.{vregsTables, Answers}
 
--- The contract of `answer_table` gives `Answers`: so each register that it leaves for a sheet has a true weight, of the sheet's own job.
--- Rules out: the job of the reader's table, whose value groups may be longer, in place of the sheet's; a result that was left by another sheet.
-pub promise-weights-vregs : (n : ℕ) (cur : Next) (W : List ℕ) (r : BuildEnd) (x : List ℕ) → Answers n cur W r x → r .number ≡ 0
-    → (sheet : List ℕ) → Bytes sheet → fed cur W ≡ runOf (openOf tableWords) sheet
+-- The contract of `answer_table` gives `Answers`: so each register that it leaves for a sheet has a true weight, by the
+-- numbers of the sheet's own job.
+-- Rules out, as readings: the job that the reader's table stands for, in place of the sheet's; a sheet that is refused.
+pub promise-weights-vregs : (n : ℕ) (cur : Next) (W : List ℕ) (r : BuildEnd) (x : List ℕ) → Answers n cur W r x
+    → r .number ≡ 0 → (sheet : List ℕ) → Bytes sheet → fed cur W ≡ runOf (openOf tableWords) sheet
     → (job : Job) → jobOfSheet sheet ≡ some job → All (TrueWeight job) (resultIn vregsTables r x .registers)
-promise-weights-vregs n cur W r x a z sheet b e job j = promise-weights-sheet n vregsTables sheet job r x (a sheet b e) z j
+promise-weights-vregs n cur W r x a z sheet b e job j =
+    promise-weights-sheet n vregsTables sheet job r x (a sheet b e) z j

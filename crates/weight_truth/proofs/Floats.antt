@@ -46,7 +46,8 @@ pub record ScalesFit (o : Options) : Type 0 where
   pub indirect : T (fits binary32 (o .indirect))
 
 -- a job is of f32 if its three tables of floats are
-pub f32-job : (job : Job) → ScalesFit (job .options) → All CostFits (job .classes) → All FreqFits (job .blocks) → F32Job job
+pub f32-job : (job : Job) → ScalesFit (job .options) → All CostFits (job .classes) → All FreqFits (job .blocks)
+    → F32Job job
 unfolding classAt
 f32-job job s cs bs = record {
   move-fits = s .move;
@@ -82,7 +83,8 @@ records-f32 : (rs : List Record) → F32Job (jobOfRecords rs)
 unfolding jobOfRecords
 records-f32 rs =
     f32-job (jobOfRecords rs) (options-fit (getD (only opt rs) 0 []))
-    (map-all CostFits classDataOf cost-fits (only class rs)) (map-all FreqFits blockDataOf frequency-fits (only block rs))
+    (map-all CostFits classDataOf cost-fits (only class rs))
+    (map-all FreqFits blockDataOf frequency-fits (only block rs))
 
 pub sheet-f32 : (bs : List ℕ) (job : Job) → jobOfSheet bs ≡ some job → F32Job job
 unfolding jobOfSheet

@@ -1,10 +1,10 @@
--- Jobs by computing: one that meets the conditions and whose weight is not exact, one use that 2 ^ 25 is too much for, and a job outside the conditions, for which the bound fails.
--- Assumes nothing.
+-- Jobs by computing: one that meets the conditions and whose weight is not exact; one use that 2 ^ 25 would be too much
+-- for; a job outside the conditions, for which the bound fails; ranks that weights alone turn round. Assumes nothing.
 use mathlib.Core.Path.{_≡_, refl}
 use mathlib.Core.Logic.{_⊎_, inl, inr}
 use mathlib.Core.Bool.{true, false}
 use mathlib.Core.Option.{none}
-use mathlib.Core.List.{List, [], _∷_}
+use mathlib.Core.List.{List, [], _∷_, _++_}
 use Prim.Native.Nat.{ℕ, _+_, _*_, _^_, _≤_, _<_}
 use native.Mathlib.Nat.{not-le-of-lt}
 use native.Mathlib.Omega.{arith}
@@ -28,7 +28,7 @@ use Rattle.definition.specs.SplitPlacement.{freqAt}
 use Rattle.definition.specs.Weights.{scaled, addCost, sumUses, sumSegs, minF, normalized, weightOf}
 use Rattle.definition.specs.Build.{asOwn}
 use Rattle.definition.specs.Entry.{answer}
-use Rattle.weight_truth.specs.Truth.{FineSegs, FineUses, FineWeight, Near, NearExact, Spoken, exactSum, exactUses, exactUse, exactScale, units, nonzeros, nonzeroUses, distance}
+use Rattle.weight_truth.specs.Truth.{FarAbove, FineSegs, FineUses, FineWeight, MoreExact, Near, NearExact, Spoken, exactSum, exactUses, exactUse, exactScale, units, nonzeros, nonzeroUses, distance}
 
 -- ---- records as the sheets write them
 
@@ -53,14 +53,18 @@ class m c = record { mask = m; cost = f32 c; size = 1; spillslots = false }
 block : ℕ → ℕ → BlockData
 block n f = record { insts = n; frequency = f32 f }
 
--- a value of bank 0 that is led by value 0
-led : Remat → ValueData
-led r = record { bank = record { 0 = 0 }; leader = val 0; remat = r }
+-- a value of bank 0 that is led by value n
+led : ℕ → Remat → ValueData
+led n r = record { bank = record { 0 = 0 }; leader = val n; remat = r }
 
--- k is 7, the scale of the first remat kind s; one register, which is in memory
-job : ℕ → List ClassData → List BlockData → List ValueData → List Segment → Job
-job s cs bs vs ss = record {
-  options = record { adjust = 7; «cheaper_than_move» = f32 s; «cheaper_than_load» = zeroF; indirect = zeroF };
+-- a register without group
+alone : ℕ → ℕ → ℕ → List Segment → Register
+alone n c w ss = record { set = vset n; class = cls c; weight = f32 w; group = none; index = 0; pieces = asOwn ss }
+
+-- s is the scale of the first remat kind; one register, which is in memory
+job : ℕ → ℕ → List ClassData → List BlockData → List ValueData → List Segment → Job
+job k s cs bs vs ss = record {
+  options = record { adjust = k; «cheaper_than_move» = f32 s; «cheaper_than_load» = zeroF; indirect = zeroF };
   banks = cls 0 ∷ [];
   classes = cs;
   memory = true ∷ [];
@@ -72,38 +76,43 @@ job s cs bs vs ss = record {
   segments = ss;
 }
 
--- ---- the conditions can be met: a scale of 1/3, costs 1.9 and 2 ^ 20, frequencies 1.5, 0 and 2 ^ -127, which is subnormal
+-- ---- the conditions can be met: costs 1.9, 0 and 2 ^ 20, a scale of 1/3, frequencies 1.5, 0 and 2 ^ -127, which is
+-- subnormal, and its product, of cost 2 ^ 20, normal
+
+-- of value 1, which is scaled
+first-uses : List Use
+unfolding use′
+first-uses = use′ 0 (ClassUse 0 (cls 0)) ∷ []
+
+-- of value 0: a register in memory, which costs 0; in the first block; in the block of frequency 0; in the last block
+other-uses : List Use
+unfolding use′
+other-uses =
+    use′ 1 (FixedUse (record { 0 = 0 })) ∷ use′ 1 (ClassUse 0 (cls 0)) ∷ use′ 2 (ClassUse 0 (cls 0))
+    ∷ use′ 4 (ClassUse 0 (cls 1)) ∷ []
 
 fine-segs : List Segment
-unfolding seg use′
-fine-segs =
-    seg 1 0 6 (use′ 0 (ClassUse 0 (cls 0)) ∷ [])
-    ∷ seg 0 6 20 (use′ 1 (FixedUse (record { 0 = 0 })) ∷ use′ 1 (ClassUse 0 (cls 0)) ∷ use′ 2 (ClassUse 0 (cls 0)) ∷ use′ 4 (ClassUse 0 (cls 1)) ∷ []) ∷ []
+unfolding seg first-uses other-uses
+fine-segs = seg 1 0 6 first-uses ∷ seg 0 6 20 other-uses ∷ []
 
 fine-job : Job
 unfolding job class block led fine-segs
 fine-job =
-    job 0x3eaaaaab (class 3 0x3ff33333 ∷ class 2 0x49800000 ∷ []) (block 2 0x3fc00000 ∷ block 2 0 ∷ block 2 0x00400000 ∷ [])
-    (led Never ∷ led CheaperThanMove ∷ []) fine-segs
+    job 7 0x3eaaaaab (class 3 0x3ff33333 ∷ class 2 0x49800000 ∷ [])
+    (block 2 0x3fc00000 ∷ block 2 0 ∷ block 2 0x00400000 ∷ []) (led 0 Never ∷ led 0 CheaperThanMove ∷ []) fine-segs
 
 fine-register : Register
-fine-register = record {
-  set = vset 0;
-  class = cls 1;
-  weight = f32 0x3ea22222;
-  group = none;
-  index = 0;
-  pieces = asOwn fine-segs;
-}
+unfolding alone
+fine-register = alone 0 1 0x3ea22222 fine-segs
 
 -- it is accepted, and its one register is without group
 fine-answer : answer fine-job vregsRoom ≡ done (record { registers = fine-register ∷ []; groups = [] })
-unfolding answer fine-job fine-register fine-segs job class block led seg use′ ofBits
+unfolding answer fine-job fine-register alone fine-segs first-uses other-uses job class block led seg use′ ofBits
 fine-answer = refl
 
 -- three of its five uses count, and every product, sum and quotient is fine
 fine-spoken : Spoken fine-job fine-register
-unfolding fine-job fine-register fine-segs job class block led seg use′ FineSegs FineUses nonzeros nonzeroUses
+unfolding fine-job fine-register alone fine-segs first-uses other-uses job class block led seg use′ FineSegs FineUses nonzeros nonzeroUses
     exactUse exactScale units valueAt classAt costOf scaled addCost sumUses sumSegs liveInsts touched freqAt ofBits
     toBits add mul div ofInt
 fine-spoken = (
@@ -126,19 +135,19 @@ fine-spoken = (
 )
 
 fine-count : nonzeros fine-job fine-segs ≡ 3
-unfolding fine-job fine-segs job class block led seg use′ nonzeros nonzeroUses exactUse exactScale units valueAt
+unfolding fine-job fine-segs first-uses other-uses job class block led seg use′ nonzeros nonzeroUses exactUse exactScale units valueAt
     classAt costOf freqAt ofBits toBits
 fine-count = refl
 
 -- the bound, by computing
 fine-near : NearExact fine-job fine-segs (f32 0x3ea22222)
-unfolding fine-job fine-segs job class block led seg use′ nonzeros nonzeroUses exactSum exactUses exactUse exactScale
+unfolding fine-job fine-segs first-uses other-uses job class block led seg use′ nonzeros nonzeroUses exactSum exactUses exactUse exactScale
     units liveInsts touched valueAt classAt costOf freqAt ofBits toBits
 fine-near = lit≤ tt
 
 -- and W is not E: over 5 instructions and k, which is 7
 fine-inexact : 0 < distance (num (f32 0x3ea22222) * (2 ^ 447 * 12)) (exactSum fine-job fine-segs * den (f32 0x3ea22222))
-unfolding fine-job fine-segs job class block led seg use′ exactSum exactUses exactUse exactScale units valueAt classAt
+unfolding fine-job fine-segs first-uses other-uses job class block led seg use′ exactSum exactUses exactUse exactScale units valueAt classAt
     costOf freqAt ofBits toBits
 fine-inexact = lit< tt
 
@@ -150,7 +159,7 @@ one-segs = seg 0 0 16 (use′ 0 (ClassUse 0 (cls 0)) ∷ []) ∷ []
 
 one-job : Job
 unfolding job class block led one-segs
-one-job = job 0x3f8ccccd (class 1 0x3ff33333 ∷ []) (block 4 0x3fc00000 ∷ []) (led CheaperThanMove ∷ []) one-segs
+one-job = job 7 0x3f8ccccd (class 1 0x3ff33333 ∷ []) (block 4 0x3fc00000 ∷ []) (led 0 CheaperThanMove ∷ []) one-segs
 
 one-weight : Float
 one-weight = weightOf one-job (cls 0) one-segs
@@ -173,7 +182,8 @@ unfolding one-job one-segs one-weight job class block led seg use′ exactSum ex
 one-near = lit≤ tt
 
 -- with 2 ^ 25 in place of 2 ^ 23 the bound is false
-one-not-nearer : (1 + 3) * (exactSum one-job one-segs * den one-weight) < distance (num one-weight * (2 ^ 447 * 11)) (exactSum one-job one-segs * den one-weight) * 2 ^ 25
+one-not-nearer : (1 + 3) * (exactSum one-job one-segs * den one-weight)
+    < distance (num one-weight * (2 ^ 447 * 11)) (exactSum one-job one-segs * den one-weight) * 2 ^ 25
 unfolding one-job one-segs one-weight job class block led seg use′ exactSum exactUses exactUse exactScale units
     valueAt classAt costOf scaled addCost sumUses sumSegs liveInsts touched freqAt weightOf normalized minF ofBits
     toBits add mul div lt ofInt
@@ -187,13 +197,14 @@ low-segs = seg 0 0 16 (use′ 0 (ClassUse 0 (cls 0)) ∷ []) ∷ []
 
 low-job : Job
 unfolding job class block led low-segs
-low-job = job 0x3f8ccccd (class 1 0x3ff33333 ∷ []) (block 4 1 ∷ []) (led CheaperThanMove ∷ []) low-segs
+low-job = job 7 0x3f8ccccd (class 1 0x3ff33333 ∷ []) (block 4 1 ∷ []) (led 0 CheaperThanMove ∷ []) low-segs
 
 low-register : Register
-low-register = record { set = vset 0; class = cls 0; weight = zeroF; group = none; index = 0; pieces = asOwn low-segs }
+unfolding alone
+low-register = alone 0 0 0 low-segs
 
 low-answer : answer low-job vregsRoom ≡ done (record { registers = low-register ∷ []; groups = [] })
-unfolding answer low-job low-register low-segs job class block led seg use′ ofBits
+unfolding answer low-job low-register alone low-segs job class block led seg use′ ofBits
 low-answer = refl
 
 -- the conditions fail
@@ -208,6 +219,74 @@ not-fine g = go (g .0 .0 .1 refl .0)
 
 -- and so does the bound
 not-near : NearExact low-job low-segs (low-register .weight) → ⊥
-unfolding low-job low-segs low-register job class block led seg use′ nonzeros nonzeroUses exactSum exactUses exactUse
+unfolding low-job low-segs low-register alone job class block led seg use′ nonzeros nonzeroUses exactSum exactUses exactUse
     exactScale units liveInsts touched valueAt classAt costOf freqAt ofBits toBits
 not-near h = not-le-of-lt (lit< tt) h
+
+-- ---- ranks: four registers over 6 instructions and k, which is 2; cost 1, frequencies 2 ^ 24, 1, 1, 1.5, 40, 2 ^ 24
+
+at : ℕ → Use
+unfolding use′
+at p = use′ p (ClassUse 0 (cls 0))
+
+rank-segs : ℕ → List Use → List Segment
+unfolding seg
+rank-segs v us = seg v 0 24 us ∷ []
+
+-- 2 ^ 24 + 1 + 1, 2 ^ 24 + 1.5, 2 ^ 24 + 40 and 1 + 1 + 2 ^ 24
+segs₀ : List Segment
+unfolding rank-segs at
+segs₀ = rank-segs 0 (at 0 ∷ at 1 ∷ at 2 ∷ [])
+
+segs₁ : List Segment
+unfolding rank-segs at
+segs₁ = rank-segs 1 (at 0 ∷ at 3 ∷ [])
+
+segs₂ : List Segment
+unfolding rank-segs at
+segs₂ = rank-segs 2 (at 0 ∷ at 4 ∷ [])
+
+segs₃ : List Segment
+unfolding rank-segs at
+segs₃ = rank-segs 3 (at 1 ∷ at 2 ∷ at 5 ∷ [])
+
+rank-blocks : List BlockData
+unfolding block
+rank-blocks =
+    block 1 0x4b800000 ∷ block 1 0x3f800000 ∷ block 1 0x3f800000 ∷ block 1 0x3fc00000 ∷ block 1 0x42200000
+    ∷ block 1 0x4b800000 ∷ []
+
+rank-job : Job
+unfolding job class led rank-blocks segs₀ segs₁ segs₂ segs₃
+rank-job =
+    job 2 0x3f800000 (class 1 0x3f800000 ∷ []) rank-blocks (led 0 Never ∷ led 1 Never ∷ led 2 Never ∷ led 3 Never ∷ [])
+    (segs₀ ++ segs₁ ++ segs₂ ++ segs₃)
+
+ranked : List Register
+unfolding alone segs₀ segs₁ segs₂ segs₃
+ranked =
+    alone 0 0 0x4a000000 segs₀ ∷ alone 1 0 0x4a000001 segs₁ ∷ alone 2 0 0x4a000014 segs₂
+    ∷ alone 3 0 0x4a000001 segs₃ ∷ []
+
+rank-answer : answer rank-job vregsRoom ≡ done (record { registers = ranked; groups = [] })
+unfolding answer rank-job rank-blocks ranked alone segs₀ segs₁ segs₂ segs₃ rank-segs at job class block led seg use′
+    ofBits
+rank-answer = refl
+
+-- the second has the greater weight and the lesser exact fraction: the rule does not rank it above the first
+swapped : (num (f32 0x4a000000) * den (f32 0x4a000001) < num (f32 0x4a000001) * den (f32 0x4a000000))
+    × MoreExact (exactSum rank-job segs₀) 8 (exactSum rank-job segs₁) 8 × (FarAbove 2 (f32 0x4a000001) 3 (f32 0x4a000000) → ⊥)
+unfolding rank-job rank-blocks segs₀ segs₁ segs₂ segs₃ rank-segs at job class block led seg use′ exactSum exactUses
+    exactUse exactScale units valueAt classAt costOf freqAt ofBits toBits
+swapped = (lit< tt, lit< tt, (λ h. not-le-of-lt h (lit≤ tt)))
+
+-- the third is ranked above the first
+above : FarAbove 2 (f32 0x4a000014) 3 (f32 0x4a000000)
+unfolding ofBits
+above = lit< tt
+
+-- the fourth has the first's uses in another order: one exact fraction, two weights
+reordered : exactSum rank-job segs₃ ≡ exactSum rank-job segs₀
+unfolding rank-job rank-blocks segs₀ segs₁ segs₂ segs₃ rank-segs at job class block led seg use′ exactSum exactUses
+    exactUse exactScale units valueAt classAt costOf freqAt ofBits toBits
+reordered = refl

@@ -46,32 +46,37 @@ module _ (job : Job) (e : entry job ≡ none) (f : F32Job job) where
       let ss = segsOf (r .pieces) in
       let ts = segsOf (q .pieces) in
       let k = job .options .adjust in
-      rank-true (nonzeros job ss) (nonzeros job ts) (r .weight) (q .weight) (exactSum job ss) (exactSum job ts) (liveInsts ss + k)
-      (liveInsts ts + k) (count-above ss (r .weight) (a .1)) (count-above ts (q .weight) (b .1)) (t a) (u b) far
+      rank-true (nonzeros job ss) (nonzeros job ts) (r .weight) (q .weight) (exactSum job ss) (exactSum job ts)
+      (liveInsts ss + k) (liveInsts ts + k) (count-above ss (r .weight) (a .1)) (count-above ts (q .weight) (b .1))
+      (t a) (u b) far
 
 no-number : (job : Job) (room : Room) (res : Result) → answer job room ≡ done res → entry job ≡ none
 unfolding answer
 no-number job room res e = accepted (entry job) job room res refl e .0
 
--- "Then the distance of W and E times 2^23 is at most (n + 3) × E": of each register of an accepted result that is without group and of finite weight, under the conditions.
--- Rules out, as readings: a member's weight, which is its group's least; n as the uses of the whole set.
-pub promise-weights : (job : Job) (room : Room) (res : Result) → F32Job job → answer job room ≡ done res → All (TrueWeight job) (res .registers)
+-- "Then the distance of W and E times 2^23 is at most (n + 3) × E": of each register of an accepted result that is
+-- without group and of finite weight, under the conditions, with the uses of its own pieces.
+-- Rules out, as readings: a group member's weight, which is its group's least; n as the uses of the whole set.
+pub promise-weights : (job : Job) (room : Room) (res : Result) → F32Job job → answer job room ≡ done res
+    → All (TrueWeight job) (res .registers)
 promise-weights job room res f e =
-    all-map (OwnWeight job) (TrueWeight job) (register-true job (no-number job room res e) f) (res .registers) (promise-weighed job room res e)
+    all-map (OwnWeight job) (TrueWeight job) (register-true job (no-number job room res e) f) (res .registers)
+    (promise-weighed job room res e)
 
 -- The rule for ranks, of each two registers of one result.
--- Rules out: registers of two jobs, whose k differ; a rank by the bits alone, where they differ in the last digits.
+-- Rules out, as readings: that the greater weight is enough; that one of the two allowances is.
 pub promise-ranks : (job : Job) (room : Room) (res : Result) → F32Job job → answer job room ≡ done res
     → All (λ r. All (RankTrue job r) (res .registers)) (res .registers)
 promise-ranks job room res f e =
     let a = promise-weights job room res f e in
     let n = no-number job room res e in
-    all-map (TrueWeight job) (λ r. All (RankTrue job r) (res .registers))
-    (λ r t. all-map (TrueWeight job) (RankTrue job r) (λ q u. ranked job n f r q t u) (res .registers) a) (res .registers) a
+    let others : (r : Register) → TrueWeight job r → All (RankTrue job r) (res .registers) =
+    λ r t. all-map (TrueWeight job) (RankTrue job r) (λ q u. ranked job n f r q t u) (res .registers) a in
+    all-map (TrueWeight job) (λ r. All (RankTrue job r) (res .registers)) others (res .registers) a
 
--- The same of a job sheet's job, which `vregs` answers.
-pub promise-weights-sheet : (bs : List ℕ) (room : Room) (job : Job) (res : Result) → jobOfSheet bs ≡ some job → sheetAnswer bs room ≡ done res
-    → All (TrueWeight job) (res .registers)
+-- The same of a job sheet's job.
+pub promise-weights-sheet : (bs : List ℕ) (room : Room) (job : Job) (res : Result) → jobOfSheet bs ≡ some job
+    → sheetAnswer bs room ≡ done res → All (TrueWeight job) (res .registers)
 unfolding sheetAnswer
 promise-weights-sheet bs room job res j e =
     promise-weights job room res (sheet-f32 bs job j) (subst (λ o. answerOrOne o room ≡ done res) j e)

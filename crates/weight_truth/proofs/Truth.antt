@@ -80,8 +80,9 @@ fine-count t (suc d) p f = omega arith
 module _ (job : Job) (p : PlainJob job) (f : F32Job job) (c : RegClass) (ss : List Segment)
     (l : liveInsts ss + job .options .adjust ≤ 16777216) (g : FineWeight job ss (weightOf job c ss)) where
   -- HOW TRUE A WEIGHT IS: |W - E| * 2 ^ 23 ≤ (n + 3) * E, W the weight, E the exact fraction, n the uses that count.
-  -- `PlainJob` is what the entry rules say of costs, scales and frequencies: finite, none negative.
-  -- Rules out: E summed in f32, which is W itself over the count; the conditions asked of the exact values alone.
+  -- `PlainJob` is what the entry rules say of costs, scales and frequencies: finite, and none is negative.
+  -- Rules out, as readings: E summed in f32, in the weight's own roundings; the conditions asked of the exact values
+  -- in place of the rounded ones.
   pub weight-true : NearExact job ss (weightOf job c ss)
   unfolding weightOf normalized
   weight-true =
@@ -95,7 +96,8 @@ module _ (job : Job) (p : PlainJob job) (f : F32Job job) (c : RegClass) (ss : Li
       (quotient-near (sumSegs job zeroF ss) n S d s h l (g .few) (g .quotient))
 
   -- the same with n as the uses that the rule does not skip: weaker, since they are at least as many
-  pub weight-true-unskipped : Near (unskippedIn job ss) (weightOf job c ss) (exactSum job ss) (liveInsts ss + job .options .adjust)
+  pub weight-true-unskipped : Near (unskippedIn job ss) (weightOf job c ss) (exactSum job ss)
+      (liveInsts ss + job .options .adjust)
   weight-true-unskipped =
       let more : nonzeros job ss + 3 ≤ unskippedIn job ss + 3 = omega (arith, skips-more job p f zeroF ss (g .sums)) in
       le-trans weight-true (mul-le-mul-right (exactSum job ss * den (weightOf job c ss)) more)
