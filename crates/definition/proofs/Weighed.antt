@@ -9,13 +9,17 @@ use mathlib.Core.Option.{Option, none, some}
 use mathlib.Core.List.{List, [], _∷_, _++_, append-nil}
 use lib.ListN.{length, getD, replicate}
 use lib.Ieee.{Float}
-use Rattle.definition.specs.Types.{Held, HeldGroup, Hint, Inst, Job, Mapped, Piece, RegClass, Register, Room, Segment, State, Turned, Value, ValueSet, VirtReg, VirtRegGroup, done, vreg, vrgroup}
+use Rattle.definition.specs.Types.{Held, HeldGroup, Hint, Inst, Job, Mapped, Piece, RegClass, Register, Room}
+use Rattle.definition.specs.Types.{Segment, State, Turned, Value, ValueSet, VirtReg, VirtRegGroup, done, vreg}
+use Rattle.definition.specs.Types.{vrgroup}
 use Rattle.definition.specs.RegInfo.{classAt, setOf}
 use Rattle.definition.specs.LiveRange.{liveInsts, touched}
 use Rattle.definition.specs.Weights.{weightOf}
 use Rattle.definition.specs.Cuts.{leftOf, rightCut, rightOf}
 use Rattle.definition.specs.Admit.{fresh, membersAt, noRegister, registerAt}
-use Rattle.definition.specs.Place.{aloneState, firstFrom, groupWeight, inserted, isNone, joinState, leadState, made, mergeState, place, segsOf, spread, update, usesOf, withPieces, withWeight}
+use Rattle.definition.specs.Place.{aloneState, firstFrom, groupWeight, inserted, isNone, joinState, leadState}
+use Rattle.definition.specs.Place.{made, mergeState, place, segsOf, spread, update, usesOf, withPieces}
+use Rattle.definition.specs.Place.{withWeight}
 use Rattle.definition.specs.Build.{Result, asOwn, build, buildSet, conflictPiece, runs, sameSet}
 use Rattle.definition.specs.Entry.{entry}
 use Rattle.definition.specs.Promised.{Follows, OwnWeight}
@@ -23,7 +27,8 @@ use Rattle.definition.proofs.Places.{All, all-map, all-append, all-getD
 use Rattle.definition.proofs.Fits.{SegsFit, right-fit, turn-fit}
 use Rattle.definition.proofs.Tables.{nth, nth-last, spread-len}
 use Rattle.definition.proofs.Entries.{accepted-ends, accepted-fit, accepted-insts}
-use Rattle.definition.proofs.Builder.{Part, Placing, Keeps, all, before, built-kept, part-all, set-kept, turn-all}
+use Rattle.definition.proofs.Builder.{Part, Placing, Keeps, all, before, built-kept, part-all, set-kept}
+use Rattle.definition.proofs.Builder.{turn-all}
 use Rattle.definition.proofs.Order.{part-follows}
 use Rattle.definition.proofs.Runs.{runs-all}
 use Rattle.definition.proofs.Touched.{live-insts-most}

@@ -16,7 +16,8 @@ use Rattle.definition.specs.Types.{Job}
 use Rattle.definition.specs.RegInfo.{zeroF, noClass, classAt}
 use Rattle.definition.specs.SplitPlacement.{freqAt}
 use Rattle.definition.specs.Text.{_>>=_}
-use Rattle.definition.specs.JobSheet.{Record, opt, class, block, at, float, optionsOf, classDataOf, blockDataOf, only, jobOfRecords, jobOfSheet, sheetOf}
+use Rattle.definition.specs.JobSheet.{Record, opt, class, block, at, float, optionsOf, classDataOf, blockDataOf, only}
+use Rattle.definition.specs.JobSheet.{jobOfRecords, jobOfSheet, sheetOf}
 use Rattle.definition.proofs.Places.{All, all-getD}
 use Rattle.weight_truth.specs.Truth.{F32Job}
 

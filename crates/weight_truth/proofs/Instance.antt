@@ -1,14 +1,13 @@
 -- Jobs by computing: one that meets the conditions and whose weight is not exact; one use that 2 ^ 25 would be too much
 -- for; a job outside the conditions, for which the bound fails; ranks that weights alone turn round. Assumes nothing.
 use mathlib.Core.Path.{_≡_, refl}
-use mathlib.Core.Logic.{_⊎_, inl, inr}
 use mathlib.Core.Bool.{true, false}
 use mathlib.Core.Option.{none}
 use mathlib.Core.List.{List, [], _∷_, _++_}
 use Prim.Native.Nat.{ℕ, _+_, _*_, _^_, _≤_, _<_}
 use native.Mathlib.Nat.{not-le-of-lt}
 use native.Mathlib.Omega.{arith}
-use lib.Dec.{T, lit≤, lit<}
+use lib.Dec.{lit≤, lit<}
 use lib.Ieee.{Float, binary32, ofBits, toBits, add, mul, div, lt, ofInt}
 use lib.Ieee.Positive.{num, den}
 use Rattle.definition.specs.declared.BlockData.{BlockData}
@@ -28,7 +27,9 @@ use Rattle.definition.specs.SplitPlacement.{freqAt}
 use Rattle.definition.specs.Weights.{scaled, addCost, sumUses, sumSegs, minF, normalized, weightOf}
 use Rattle.definition.specs.Build.{asOwn}
 use Rattle.definition.specs.Entry.{answer}
-use Rattle.weight_truth.specs.Truth.{FarAbove, FineSegs, FineUses, FineWeight, MoreExact, Near, NearExact, Spoken, exactSum, exactUses, exactUse, exactScale, units, nonzeros, nonzeroUses, distance}
+use Rattle.weight_truth.specs.Truth.{FarAbove, FineSegs, fineSegs, fineUses, FineWeight, MoreExact, Near}
+use Rattle.weight_truth.specs.Truth.{NearExact, Spoken, exactSum, exactUses, exactUse, exactScale, units}
+use Rattle.weight_truth.specs.Truth.{nonzeros, nonzeroUses, distance}
 
 -- ---- records as the sheets write them
 
@@ -112,7 +113,8 @@ fine-answer = refl
 
 -- three of its five uses count, and every product, sum and quotient is fine
 fine-spoken : Spoken fine-job fine-register
-unfolding fine-job fine-register alone fine-segs first-uses other-uses job class block led seg use′ FineSegs FineUses nonzeros nonzeroUses
+unfolding fine-job fine-register alone fine-segs first-uses other-uses job class block led seg use′ fineSegs fineUses
+    nonzeros nonzeroUses
     exactUse exactScale units valueAt classAt costOf scaled addCost sumUses sumSegs liveInsts touched freqAt ofBits
     toBits add mul div ofInt
 fine-spoken = (
@@ -120,34 +122,28 @@ fine-spoken = (
   record {
     not-infinite = λ e. absurd (let z : _≡_ {A = ℕ} 0 1 = cc in omega arith);
     few = lit≤ tt;
-    sums = (
-      ((inl tt, (λ e. (inl tt, inl tt))), tt),
-      (
-        (
-          (tt, (λ e. absurd (let z : _≡_ {A = ℕ} 0 1 = cc in omega arith))),
-          ((tt, (λ e. (inl tt, inl tt))), ((tt, (λ e. (inr (tt, refl), inl tt))), ((tt, (λ e. (inl tt, inl tt))), tt))),
-        ),
-        tt,
-      ),
-    );
-    quotient = inl tt;
+    sums = tt;
+    quotient = tt;
   },
 )
 
 fine-count : nonzeros fine-job fine-segs ≡ 3
-unfolding fine-job fine-segs first-uses other-uses job class block led seg use′ nonzeros nonzeroUses exactUse exactScale units valueAt
+unfolding fine-job fine-segs first-uses other-uses job class block led seg use′ nonzeros nonzeroUses exactUse
+    exactScale units valueAt
     classAt costOf freqAt ofBits toBits
 fine-count = refl
 
 -- the bound, by computing
 fine-near : NearExact fine-job fine-segs (f32 0x3ea22222)
-unfolding fine-job fine-segs first-uses other-uses job class block led seg use′ nonzeros nonzeroUses exactSum exactUses exactUse exactScale
+unfolding fine-job fine-segs first-uses other-uses job class block led seg use′ nonzeros nonzeroUses exactSum
+    exactUses exactUse exactScale
     units liveInsts touched valueAt classAt costOf freqAt ofBits toBits
 fine-near = lit≤ tt
 
 -- and W is not E: over 5 instructions and k, which is 7
 fine-inexact : 0 < distance (num (f32 0x3ea22222) * (2 ^ 447 * 12)) (exactSum fine-job fine-segs * den (f32 0x3ea22222))
-unfolding fine-job fine-segs first-uses other-uses job class block led seg use′ exactSum exactUses exactUse exactScale units valueAt classAt
+unfolding fine-job fine-segs first-uses other-uses job class block led seg use′ exactSum exactUses exactUse exactScale
+    units valueAt classAt
     costOf freqAt ofBits toBits
 fine-inexact = lit< tt
 
@@ -165,14 +161,14 @@ one-weight : Float
 one-weight = weightOf one-job (cls 0) one-segs
 
 one-fine : FineWeight one-job one-segs one-weight
-unfolding one-job one-segs one-weight job class block led seg use′ FineSegs FineUses nonzeros nonzeroUses exactUse
+unfolding one-job one-segs one-weight job class block led seg use′ fineSegs fineUses nonzeros nonzeroUses exactUse
     exactScale units valueAt classAt costOf scaled addCost sumUses sumSegs liveInsts touched freqAt weightOf
     normalized minF ofBits toBits add mul div lt ofInt
 one-fine = record {
   not-infinite = λ e. absurd (let z : _≡_ {A = ℕ} 0 1 = cc in omega arith);
   few = lit≤ tt;
-  sums = (((inl tt, (λ e. (inl tt, inl tt))), tt), tt);
-  quotient = inl tt;
+  sums = tt;
+  quotient = tt;
 }
 
 one-near : Near 1 one-weight (exactSum one-job one-segs) 11
@@ -209,17 +205,14 @@ low-answer = refl
 
 -- the conditions fail
 not-fine : FineSegs low-job zeroF low-segs → ⊥
-unfolding low-job low-segs job class block led seg use′ FineSegs FineUses valueAt classAt costOf scaled freqAt ofBits
+unfolding low-job low-segs job class block led seg use′ fineSegs fineUses valueAt classAt costOf scaled freqAt ofBits
     add mul
-not-fine g = go (g .0 .0 .1 refl .0)
-  where
-    go : {A : Type 0} → T false ⊎ (T false × A) → ⊥
-    go (inl h) = h
-    go (inr h) = h .0
+not-fine g = g
 
 -- and so does the bound
 not-near : NearExact low-job low-segs (low-register .weight) → ⊥
-unfolding low-job low-segs low-register alone job class block led seg use′ nonzeros nonzeroUses exactSum exactUses exactUse
+unfolding low-job low-segs low-register alone job class block led seg use′ nonzeros nonzeroUses exactSum exactUses
+    exactUse
     exactScale units liveInsts touched valueAt classAt costOf freqAt ofBits toBits
 not-near h = not-le-of-lt (lit< tt) h
 
@@ -275,7 +268,8 @@ rank-answer = refl
 
 -- the second has the greater weight and the lesser exact fraction: the rule does not rank it above the first
 swapped : (num (f32 0x4a000000) * den (f32 0x4a000001) < num (f32 0x4a000001) * den (f32 0x4a000000))
-    × MoreExact (exactSum rank-job segs₀) 8 (exactSum rank-job segs₁) 8 × (FarAbove 2 (f32 0x4a000001) 3 (f32 0x4a000000) → ⊥)
+    × MoreExact (exactSum rank-job segs₀) 8 (exactSum rank-job segs₁) 8
+    × (FarAbove 2 (f32 0x4a000001) 3 (f32 0x4a000000) → ⊥)
 unfolding rank-job rank-blocks segs₀ segs₁ segs₂ segs₃ rank-segs at job class block led seg use′ exactSum exactUses
     exactUse exactScale units valueAt classAt costOf freqAt ofBits toBits
 swapped = (lit< tt, lit< tt, (λ h. not-le-of-lt h (lit≤ tt)))

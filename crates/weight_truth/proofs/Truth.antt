@@ -1,6 +1,5 @@
 -- Change request 13: how true a weight is. Assumes nothing.
 use mathlib.Core.Path.{_≡_, refl, sym, ap, subst}
-use mathlib.Core.Logic.{inl, inr}
 use mathlib.Core.Bool.{Bool, true, false, not, cond, _&&_}
 use mathlib.Core.List.{List}
 use Prim.Native.Nat.{ℕ, zero, suc, _+_, _-_, _*_, _^_, _≤_, _<_}
@@ -19,7 +18,8 @@ use Rattle.definition.specs.Entry.{plain}
 use Rattle.definition.specs.Weights.{sumSegs, minF, maxF, normalized, weightOf}
 use Rattle.floats.proofs.Nonneg.{plain-nonneg, div-nonneg, count-positive}
 use Rattle.spill_weight.specs.Costs.{PlainJob}
-use Rattle.weight_truth.specs.Truth.{Fine, FineQuotient, FineWeight, exactSum, nonzeros, unskippedIn, distance, Near, NearExact, F32Job}
+use Rattle.weight_truth.specs.Truth.{Fine, FineQuotient, FineWeight, exactSum, nonzeros, unskippedIn, distance}
+use Rattle.weight_truth.specs.Truth.{Near, NearExact, F32Job}
 use Rattle.weight_truth.proofs.Close.{Close, close-trans, close-mul, close-bound}
 use Rattle.weight_truth.proofs.Ops.{div-close, count-value}
 use Rattle.weight_truth.proofs.Largest.{at-most-max}
@@ -68,10 +68,8 @@ zero-count (fin true m e) p f = p
 zero-count (fin false m e) p f = go (eqb m 0) f
   where
     go : (b : Bool) → Fine (cond b nan (inf false)) (m * up e) → ⊥
-    go true (inl h) = h
-    go true (inr h) = h .0
-    go false (inl h) = h
-    go false (inr h) = h .0
+    go true h = h
+    go false h = h
 
 pub fine-count : (t : Float) (d : ℕ) → T (plain t) → FineQuotient t d → 0 < d
 fine-count t zero p f = absurd (zero-count t p f)

@@ -1,8 +1,7 @@
 -- Change request 13, "How true the weights are": what its sentences say, in their order. Assumes nothing.
 use Prim.Native.Nat.{ℕ, _+_, _-_, _*_, _^_, _≤_, _<_}
 use mathlib.Core.Path.{_≡_}
-use mathlib.Core.Logic.{_⊎_}
-use mathlib.Core.Bool.{Bool, false, cond}
+use mathlib.Core.Bool.{Bool, true, false, cond, _&&_, _||_}
 use mathlib.Core.Option.{none}
 use mathlib.Core.List.{List, [], _∷_}
 use lib.IntN.{pos}
@@ -96,57 +95,65 @@ normal nan = false
 normal (inf s) = false
 normal (fin s m e) = leb (down e) (m * up e * 2 ^ 126)
 
-abbrev pub isZero : Float → Bool
-isZero nan = false
-isZero (inf s) = false
-isZero (fin s m e) = eqb m 0
-
 -- x is the rounded value of a fraction whose numerator is a: x is normal, or it is zero, and so is a
-abbrev pub Fine : Float → ℕ → Type 0
-Fine x a = T (normal x) ⊎ (T (isZero x) × (a ≡ 0))
+abbrev pub fine : Float → ℕ → Bool
+fine x a = normal x || (isZeroF x && eqb a 0)
 
-abbrev pub FineMul : Float → Float → Type 0
-FineMul x y = Fine (mul binary32 x y) (num x * num y)
+abbrev pub fineMul : Float → Float → Bool
+fineMul x y = fine (mul binary32 x y) (num x * num y)
 
-abbrev pub FineAdd : Float → Float → Type 0
-FineAdd x y = Fine (add binary32 x y) (num x + num y)
+abbrev pub fineAdd : Float → Float → Bool
+fineAdd x y = fine (add binary32 x y) (num x + num y)
 
-abbrev pub FineDiv : Float → Float → Type 0
-FineDiv x y = Fine (div binary32 x y) (num x)
+abbrev pub fineDiv : Float → Float → Bool
+fineDiv x y = fine (div binary32 x y) (num x)
 
 -- ---- "let every product, sum and quotient be" so: along the sum, in its order
 
 -- cost × scale, where there is a scale
-abbrev pub FineScale : Options → Remat → Float → Type 0
-FineScale o Never x = Unit {0}
-FineScale o CheaperThanMove x = FineMul x (o .«cheaper_than_move»)
-FineScale o CheaperThanLoad x = FineMul x (o .«cheaper_than_load»)
-FineScale o Indirect x = FineMul x (o .indirect)
+abbrev pub fineScale : Options → Remat → Float → Bool
+fineScale o Never x = true
+fineScale o CheaperThanMove x = fineMul x (o .«cheaper_than_move»)
+fineScale o CheaperThanLoad x = fineMul x (o .«cheaper_than_load»)
+fineScale o Indirect x = fineMul x (o .indirect)
 
 -- x, the scaled cost, times the frequency; and the new sum, t being the sum so far
-abbrev pub FineTerm : Float → Float → Float → Type 0
-FineTerm t x freq = FineMul x freq × FineAdd t (mul binary32 x freq)
+abbrev pub fineTerm : Float → Float → Float → Bool
+fineTerm t x freq = fineMul x freq && fineAdd t (mul binary32 x freq)
 
 -- of one use: the first product, and, where it is not zero, the second and the new sum
-abbrev pub FineUse : Job → Remat → Float → Use → Type 0
-FineUse job r t u =
-    FineScale (job .options) r (costOf job (u .kind))
-    × (isZeroF (scaledCost job r u) ≡ false → FineTerm t (scaledCost job r u) (freqOf job u))
+abbrev pub fineUse : Job → Remat → Float → Use → Bool
+fineUse job r t u =
+    fineScale (job .options) r (costOf job (u .kind))
+    && (isZeroF (scaledCost job r u) || fineTerm t (scaledCost job r u) (freqOf job u))
 
-unfoldable pub FineUses : Job → Remat → Float → List Use → Type 0
-FineUses job r t [] = Unit {0}
-FineUses job r t (u ∷ us) = FineUse job r t u × FineUses job r (addCost t (scaledCost job r u) (freqOf job u)) us
+unfoldable pub fineUses : Job → Remat → Float → List Use → Bool
+fineUses job r t [] = true
+fineUses job r t (u ∷ us) = fineUse job r t u && fineUses job r (addCost t (scaledCost job r u) (freqOf job u)) us
 
-unfoldable pub FineSegs : Job → Float → List Segment → Type 0
-unfolding FineUses
-FineSegs job t [] = Unit {0}
-FineSegs job t (s ∷ ss) =
+unfoldable pub fineSegs : Job → Float → List Segment → Bool
+unfolding fineUses
+fineSegs job t [] = true
+fineSegs job t (s ∷ ss) =
     let r = valueAt job (s .value) .remat in
-    FineUses job r t (s .uses) × FineSegs job (sumUses job r t (s .uses)) ss
+    fineUses job r t (s .uses) && fineSegs job (sumUses job r t (s .uses)) ss
 
 -- of the sum t over n, the instructions and k
+abbrev pub fineQuotient : Float → ℕ → Bool
+fineQuotient t n = fineDiv t (ofInt binary32 (pos n))
+
+-- the same as facts
+abbrev pub Fine : Float → ℕ → Type 0
+Fine x a = T (fine x a)
+
+abbrev pub FineUses : Job → Remat → Float → List Use → Type 0
+FineUses job r t us = T (fineUses job r t us)
+
+abbrev pub FineSegs : Job → Float → List Segment → Type 0
+FineSegs job t ss = T (fineSegs job t ss)
+
 abbrev pub FineQuotient : Float → ℕ → Type 0
-FineQuotient t n = FineDiv t (ofInt binary32 (pos n))
+FineQuotient t n = T (fineQuotient t n)
 
 -- ---- "Then the distance of W and E times 2^23 is at most (n + 3) × E."
 
