@@ -139,7 +139,8 @@ class Case:
 
 def lemma(name, cases):
     table = '\n    ∷ '.join([c.term() for c in cases] + ['[]'])
-    return (f'\n{name} : List Case\nunfolding room\n{name} =\n    {table}\n'
+    rooms = 'unfolding room\n' if any(getattr(c, 'room', '-') != '-' for c in cases) else ''
+    return (f'\n{name} : List Case\n{rooms}{name} =\n    {table}\n'
             f'\n{name}-holds : map got {name} ≡ map want {name}\nunfolding got want {name}\n{name}-holds = refl\n')
 
 
@@ -157,6 +158,8 @@ def grouped(cases, size):
 
 
 class Checker:
+    crate, head = 'definition', HEAD
+
     def __init__(self, root):
         self.folder = tempfile.mkdtemp(prefix='eval-')
         crate = os.path.join(self.folder, 'crates', 'definition')
@@ -172,11 +175,11 @@ class Checker:
         """For each group that is not proved its number, and whether it stopped at a limit; None where the check itself failed."""
         with open(os.path.join(self.proofs, 'Lib.antt'), 'w') as f:
             f.write('mod Eval\n')
-        module = HEAD + ''.join(lemma(f'c{i}', g) for i, g in enumerate(groups))
+        module = self.head + ''.join(lemma(f'c{i}', g) for i, g in enumerate(groups))
         with open(os.path.join(self.proofs, 'Eval.antt'), 'w') as f:
             f.write(module)
         start = time.time()
-        run = subprocess.run(['rt', 'dev', 'definition'], cwd=self.folder, capture_output=True, text=True,
+        run = subprocess.run(['rt', 'dev', self.crate], cwd=self.folder, capture_output=True, text=True,
                              env=dict(os.environ, RT_CUT='400'))
         self.seconds += time.time() - start
         self.log = run.stdout + run.stderr
@@ -208,6 +211,22 @@ def hold(checker, groups, found):
         hold(checker, alone, found)
 
 
+def hold_all(checker, cases, in_module, in_lemma):
+    """Whether all agree; prints the counts, and the paths of those that don't."""
+    found = {'agrees': [], 'differs': [], 'no verdict': []}
+    try:
+        for chunk in grouped(cases, in_module):
+            hold(checker, list(grouped(chunk, in_lemma)), found)
+            counts = [len(found[word]) for word in ('agrees', 'differs', 'no verdict')]
+            print('{} agreed, {} differed, {} without a verdict ({:.0f} s)'.format(*counts, checker.seconds), flush=True)
+    finally:
+        checker.close()
+    for word in ('differs', 'no verdict'):
+        for c in found[word]:
+            print(word, c.path, sep='\t')
+    return len(found['agrees']) == len(cases)
+
+
 def main():
     args = argparse.ArgumentParser(description='Holds the definition to expected answers.')
     args.add_argument('manifest')
@@ -216,19 +235,7 @@ def main():
     args = args.parse_args()
     with open(args.manifest) as f:
         cases = [Case(l.rstrip('\n').split('\t')) for l in f if l.strip()]
-    found = {'agrees': [], 'differs': [], 'no verdict': []}
-    checker = Checker(os.path.dirname(HERE))
-    try:
-        for chunk in grouped(cases, args.bytes):
-            hold(checker, list(grouped(chunk, args.lemma)), found)
-            counts = [len(found[word]) for word in ('agrees', 'differs', 'no verdict')]
-            print('{} agreed, {} differed, {} without a verdict ({:.0f} s)'.format(*counts, checker.seconds), flush=True)
-    finally:
-        checker.close()
-    for word in ('differs', 'no verdict'):
-        for c in found[word]:
-            print(word, c.path, sep='\t')
-    sys.exit(0 if len(found['agrees']) == len(cases) else 1)
+    sys.exit(0 if hold_all(Checker(os.path.dirname(HERE)), cases, args.bytes, args.lemma) else 1)
 
 
 if __name__ == '__main__':
