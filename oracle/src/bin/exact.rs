@@ -7,7 +7,7 @@ use std::process::exit;
 
 use oracle::exact::survey::Survey;
 
-const PER_PROFILE: u64 = 20_000;
+const PER_PROFILE: u64 = 10_000;
 
 fn main() {
     let args: Vec<String> = std::env::args().skip(1).collect();

@@ -1,13 +1,22 @@
 //! Weights put to the conditions and to the bound, and counted.
 
+use std::fmt::Display;
 use std::iter::Sum;
 
 use super::bound::{Exact, MOST_USES, POWER, SHARE_PARTS};
 use super::weighing::Weighing;
 
-/// The head of the lines that `Counts::line` gives.
-pub const HEAD: &str =
-    "weights    within  failed  worst share   outside    fail there   by 2^25  less a use";
+/// What stands above the lines that `Counts::line` gives.
+pub const HEAD: [&str; 8] = [
+    "weights",
+    "within",
+    "failed",
+    "worst share",
+    "outside",
+    "fail there",
+    "by 2^25",
+    "less a use",
+];
 
 #[derive(Clone, Default)]
 pub struct Counts {
@@ -90,18 +99,25 @@ impl Counts {
     }
 
     pub fn line(&self) -> String {
-        format!(
-            "{:>7}{:>10}{:>8}{:>13}{:>10}{:>14}{:>10}{:>12}",
-            self.weights,
-            self.within,
-            self.failed,
+        row([
+            self.weights.to_string(),
+            self.within.to_string(),
+            self.failed.to_string(),
             share_text(self.worst_share()),
-            self.outside(),
-            self.failed_outside,
-            self.failed_by_25,
-            self.failed_less_a_use,
-        )
+            self.outside().to_string(),
+            self.failed_outside.to_string(),
+            self.failed_by_25.to_string(),
+            self.failed_less_a_use.to_string(),
+        ])
     }
+}
+
+/// Cells of one width, each with its end at the right.
+pub fn row<T: Display>(cells: impl IntoIterator<Item = T>) -> String {
+    cells
+        .into_iter()
+        .map(|cell| format!("{cell:>12}"))
+        .collect()
 }
 
 impl<'a> Sum<&'a Counts> for Counts {
@@ -178,8 +194,14 @@ mod tests {
             11,
         ));
         let worst = many.worst_share();
+        let one = (0x3f80_0000, None, 0x3f80_0000);
+        few.keep_smallest(&weighing(&[one; 3], 1));
+        many.keep_smallest(&weighing(&[one; 2], 7));
+        many.keep_smallest(&weighing(&[one; 5], 1));
         let all: Counts = [few, many].iter().sum();
         assert_eq!((all.weights, all.within), (2, 2));
         assert_eq!((all.worst_share(), all.failed_by_25), (worst, 1));
+        let smallest = all.smallest.unwrap();
+        assert_eq!((smallest.terms.len(), smallest.insts), (2, 7));
     }
 }

@@ -6,7 +6,7 @@ use crate::answer::{Room, answer_job, tested};
 use crate::job::Job;
 use crate::make::make;
 
-use super::counts::Counts;
+use super::counts::{Counts, row};
 use super::registers::{Register, read};
 
 /// The profiles that make accepted jobs; of the last four a tenth as many sheets are made.
@@ -94,12 +94,63 @@ impl Results {
     }
 
     pub fn line(&self) -> String {
-        format!(
-            "{:>7}{:>10}{:>11}{:>11}{:>10}{:>8}",
-            self.sheets, self.accepted, self.registers, self.in_groups, self.infinite, self.differ,
-        )
+        row([
+            self.sheets,
+            self.accepted,
+            self.registers,
+            self.in_groups,
+            self.infinite,
+            self.differ,
+        ])
     }
 }
 
-/// The head of the lines that `Results::line` gives.
-pub const HEAD: &str = " sheets  accepted  registers  in groups  infinite  differ";
+/// What stands above the lines that `Results::line` gives.
+pub const HEAD: [&str; 6] = [
+    "sheets",
+    "accepted",
+    "registers",
+    "in groups",
+    "infinite",
+    "differ",
+];
+
+#[cfg(test)]
+mod tests {
+    use super::*;
+
+    /// One register of 1.0 and 1.0 over two instructions, and one that has only one instruction.
+    const SHEET: &[u8] = b"opt\t0\t3f800000\t3f800000\t3f800000\nbank\t0\n\
+        class\t00000001\t3f800000\t1\t0\nblock\t2\t3f800000\nvalue\t0\t0\t0\nvalue\t0\t1\t0\n\
+        seg\t0\t2\t6\t0\nuse\t5\t0\t0\t0\nuse\t4\t1\t0\t0\nseg\t1\t0\t2\t0\nend\n";
+
+    fn registers() -> (Job, Vec<Register>) {
+        let job = tested(SHEET).unwrap();
+        let found = answer_job(&job, Room::default());
+        (job, read(&found.text))
+    }
+
+    #[test]
+    fn a_sheet_is_counted() {
+        let mut results = Results::default();
+        results.add(SHEET);
+        results.add(b"end\n");
+        assert_eq!((results.sheets, results.accepted), (2, 1));
+        assert_eq!((results.registers, results.infinite), (2, 1));
+        assert_eq!((results.in_groups, results.differ), (0, 0));
+        assert_eq!((results.counts.weights, results.counts.within), (1, 1));
+    }
+
+    #[test]
+    fn another_weight_differs_but_in_a_group() {
+        let (job, mut registers) = registers();
+        registers[0].weight += 1;
+        registers[1].weight = 0x3f80_0000;
+        let mut results = Results::default();
+        registers.iter().for_each(|r| results.add_register(&job, r));
+        assert_eq!(results.differ, 2);
+        registers[0].in_group = true;
+        results.add_register(&job, &registers[0]);
+        assert_eq!((results.differ, results.in_groups), (2, 1));
+    }
+}

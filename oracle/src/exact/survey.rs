@@ -3,7 +3,7 @@
 use std::io::{self, Write};
 
 use super::adverse::{KINDS, climbed, counted};
-use super::counts::{self, Counts, share_text};
+use super::counts::{self, Counts, row, share_text};
 use super::results::{self, PROFILES, Results, share_of};
 
 /// The most uses of the weights that are climbed over.
@@ -57,42 +57,94 @@ impl Survey {
     }
 
     pub fn write(&self, out: &mut impl Write) -> io::Result<()> {
-        writeln!(out, "{:<24}{}", "results", results::HEAD)?;
+        write_row(out, "results", row(results::HEAD))?;
         for (profile, results) in &self.results {
-            writeln!(out, "{profile:<24}{}", results.line())?;
+            write_row(out, profile, results.line())?;
         }
-        writeln!(out, "\n{:<24}{}", "results", counts::HEAD)?;
+        writeln!(out)?;
+        write_row(out, "results", row(counts::HEAD))?;
         for (profile, results) in &self.results {
-            writeln!(out, "{profile:<24}{}", results.counts.line())?;
+            write_row(out, profile, results.counts.line())?;
         }
-        writeln!(out, "\n{:<24}{}", "made directly", counts::HEAD)?;
-        for (kind, counts) in &self.made {
-            writeln!(out, "{kind:<24}{}", counts.line())?;
-        }
-        for (uses, counts) in &self.climbed {
-            writeln!(out, "climbing, uses: {uses:<8}{}", counts.line())?;
-        }
-        self.write_end(out)
-    }
-
-    fn write_end(&self, out: &mut impl Write) -> io::Result<()> {
-        let sum = self.sum();
-        writeln!(out, "\n{:<24}{}", "", counts::HEAD)?;
-        writeln!(out, "{:<24}{}\n", "all", sum.line())?;
-        for (uses, counts) in &self.climbed {
-            if let Some((share, weighing)) = &counts.worst {
-                let (share, weighing) = (share_text(*share), weighing.text());
-                writeln!(out, "worst of uses: {uses}  {share}  {weighing}")?;
-            }
-        }
-        if let Some(weighing) = &sum.smallest {
-            writeln!(out, "smallest that failed: {}", weighing.text())?;
-        }
-        let verdict = if self.held() {
+        writeln!(out)?;
+        self.write_made(out)?;
+        self.write_worst(out)?;
+        let held = if self.held() {
             "all held"
         } else {
             "not all held"
         };
-        writeln!(out, "{verdict}")
+        writeln!(out, "{held}")
+    }
+
+    fn write_made(&self, out: &mut impl Write) -> io::Result<()> {
+        write_row(out, "made directly", row(counts::HEAD))?;
+        for (kind, counts) in &self.made {
+            write_row(out, kind, counts.line())?;
+        }
+        for (uses, counts) in &self.climbed {
+            write_row(out, &format!("climbing, uses: {uses}"), counts.line())?;
+        }
+        writeln!(out)?;
+        write_row(out, "", row(counts::HEAD))?;
+        write_row(out, "all", self.sum().line())?;
+        writeln!(out)
+    }
+
+    fn write_worst(&self, out: &mut impl Write) -> io::Result<()> {
+        for (uses, counts) in &self.climbed {
+            if let Some((share, weighing)) = &counts.worst {
+                writeln!(out, "worst of uses: {uses}, share {}", share_text(*share))?;
+                writeln!(out, "    {}", weighing.text())?;
+            }
+        }
+        let sum = self.sum();
+        if let Some((share, weighing)) = &sum.worst {
+            let (uses, share) = (weighing.terms.len(), share_text(*share));
+            writeln!(out, "worst of all: uses: {uses}, share {share}")?;
+        }
+        match &sum.smallest {
+            Some(weighing) => writeln!(out, "smallest that failed: {}", weighing.text()),
+            None => Ok(()),
+        }
+    }
+}
+
+fn write_row(out: &mut impl Write, name: &str, cells: String) -> io::Result<()> {
+    writeln!(out, "{name:<22}{cells}")
+}
+
+#[cfg(test)]
+mod tests {
+    use super::*;
+
+    fn survey(differ: u64, counts: Counts) -> Survey {
+        let results = Results {
+            differ,
+            ..Results::default()
+        };
+        Survey {
+            results: vec![("small", results)],
+            made: vec![("zeros", counts)],
+            climbed: Vec::new(),
+        }
+    }
+
+    fn counts(failed: u64, by_25: u64, less_a_use: u64) -> Counts {
+        Counts {
+            failed,
+            failed_by_25: by_25,
+            failed_less_a_use: less_a_use,
+            ..Counts::default()
+        }
+    }
+
+    #[test]
+    fn each_finding_is_one() {
+        assert!(survey(0, counts(0, 1, 1)).held());
+        assert!(!survey(1, counts(0, 1, 1)).held());
+        assert!(!survey(0, counts(1, 1, 1)).held());
+        assert!(!survey(0, counts(0, 0, 1)).held());
+        assert!(!survey(0, counts(0, 1, 0)).held());
     }
 }

@@ -6,9 +6,9 @@ use crate::exact::weighing::{Term, Weighing};
 use crate::make::rng::Rng;
 
 /// Steps from each start.
-const STEPS: u64 = 3_000;
+const STEPS: u64 = 5_000;
 /// Steps in all, for each number of uses, where one sheet of each profile is asked for.
-const TIMES: u64 = 30;
+const TIMES: u64 = 150;
 
 /// All weights of so many uses that were climbed over.
 pub fn climbed(uses: u32, seed: u64, per_profile: u64) -> Counts {
@@ -73,8 +73,8 @@ fn moved(rng: &mut Rng, float: f32, most: u32) -> f32 {
     let bits = float.to_bits();
     let bits = match rng.below(3) {
         0 => bits ^ 1 << rng.below(31),
-        1 => bits.saturating_add(1 << rng.below(12)),
-        _ => bits.saturating_sub(1 << rng.below(12)),
+        1 => bits.saturating_add(1 << rng.below(20)),
+        _ => bits.saturating_sub(1 << rng.below(20)),
     };
     f32::from_bits(bits.min(most))
 }

@@ -8,12 +8,17 @@ use crate::make::rng::Rng;
 
 const LEAST: f32 = f32::MIN_POSITIVE;
 
+/// A float below 2^-126, zero in a few cases.
+fn subnormal(rng: &mut Rng) -> f32 {
+    f32::from_bits(rng.within((1, 0x007f_ffff)) >> rng.below(23))
+}
+
 /// A subnormal frequency, and a scaled cost that often lifts it above 2^-126.
 pub fn subnormal_frequency(rng: &mut Rng) -> Weighing {
     let terms = some_terms(rng, 6, |rng| Term {
         cost: between(rng, 8, 19),
         scale: scale_between(rng, 0, 19),
-        frequency: f32::from_bits(rng.within((1, 0x007f_ffff))),
+        frequency: subnormal(rng),
     });
     let (insts, adjust) = (rng.within((1, 16)), 0);
     Weighing {
@@ -99,9 +104,8 @@ pub fn sums_near_overflow(rng: &mut Rng) -> Weighing {
 
 /// Outside on purpose: a product below 2^-126, alone, or among others.
 pub fn subnormal_products(rng: &mut Rng) -> Weighing {
-    let size = |rng: &mut Rng| f32::from_bits(rng.within((1, 0x007f_ffff)) >> rng.below(23));
     let mut terms = some_terms(rng, 3, |rng| {
-        let size = size(rng);
+        let size = subnormal(rng);
         if rng.chance(50) {
             scaled_near(rng, size)
         } else {

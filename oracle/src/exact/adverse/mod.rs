@@ -26,15 +26,15 @@ pub struct Kind {
 }
 
 pub const KINDS: [Kind; 9] = [
-    kind("all one way", 4, one_way::make),
-    kind("any patterns", 40, plain::any),
-    kind("alike in size", 40, plain::alike),
-    kind("subnormal frequency", 20, edges::subnormal_frequency),
-    kind("zeros", 20, edges::zeros),
-    kind("products near 2^-126", 20, edges::products_near_least),
-    kind("quotients near 2^-126", 20, edges::quotients_near_least),
-    kind("sums near overflow", 20, edges::sums_near_overflow),
-    kind("subnormal products", 20, edges::subnormal_products),
+    kind("all one way", 6, one_way::make),
+    kind("any patterns", 80, plain::any),
+    kind("alike in size", 80, plain::alike),
+    kind("subnormal frequency", 40, edges::subnormal_frequency),
+    kind("zeros", 40, edges::zeros),
+    kind("products near 2^-126", 40, edges::products_near_least),
+    kind("quotients near 2^-126", 40, edges::quotients_near_least),
+    kind("sums near overflow", 40, edges::sums_near_overflow),
+    kind("subnormal products", 40, edges::subnormal_products),
 ];
 
 const fn kind(name: &'static str, times: u64, make: fn(&mut Rng) -> Weighing) -> Kind {

@@ -11,7 +11,8 @@ const TRIES: usize = 48;
 pub fn make(rng: &mut Rng) -> Weighing {
     let up = rng.chance(50);
     let most = 1 << rng.below(13);
-    let uses = rng.within((1, most)) as usize;
+    let least = if rng.chance(20) { most } else { 1 };
+    let uses = rng.within((least, most)) as usize;
     let mut terms = vec![first(rng, up)];
     let mut sum = Rounded::of(0.0).with(&terms[0]);
     while terms.len() < uses {
