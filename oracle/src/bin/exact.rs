@@ -32,10 +32,8 @@ fn usage() -> ! {
     exit(2)
 }
 
-/// A number from 1 on.
 fn number(word: &str) -> u64 {
-    let number = word.parse().ok().filter(|&number| number > 0);
-    number.unwrap_or_else(|| usage())
+    word.parse().unwrap_or_else(|_| usage())
 }
 
 fn run(per_profile: u64, seed: u64) -> io::Result<bool> {

@@ -90,7 +90,7 @@ impl Rounded {
 
     /// `zero`: whether the operation's exact value is zero.
     fn after(fine: bool, value: f32, zero: bool) -> Self {
-        let fine = fine && (value.is_normal() || (zero && value == 0.0));
+        let fine = fine && (value.is_normal() || zero);
         Self { value, fine }
     }
 }
