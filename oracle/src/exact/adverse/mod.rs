@@ -25,8 +25,11 @@ pub struct Kind {
     make: fn(&mut Rng) -> Weighing,
 }
 
-pub const KINDS: [Kind; 9] = [
-    kind("all one way", 6, one_way::make),
+pub const KINDS: [Kind; 12] = [
+    kind("one way, to 16 uses", 10, one_way::make::<1, 16>),
+    kind("one way, to 256 uses", 4, one_way::make::<17, 256>),
+    kind("one way, to 4095 uses", 1, one_way::make::<257, 4095>),
+    kind("one way, 4096 uses", 1, one_way::make::<4096, 4096>),
     kind("any patterns", 80, plain::any),
     kind("alike in size", 80, plain::alike),
     kind("subnormal frequency", 40, edges::subnormal_frequency),
@@ -113,7 +116,7 @@ mod tests {
     fn all_kinds_keep_the_entry_rules() {
         for (place, kind) in KINDS.iter().enumerate() {
             let mut rng = Rng::new(3, place as u64);
-            for _ in 0..300 {
+            for _ in 0..200 {
                 let made = (kind.make)(&mut rng);
                 assert!(made.terms.iter().all(is_term), "{}", kind.name);
                 assert!((1..=4096).contains(&made.insts) && made.adjust <= 65_535);

@@ -8,11 +8,10 @@ use crate::make::rng::Rng;
 /// How many first uses, and how many divisors, are tried.
 const TRIES: usize = 48;
 
-pub fn make(rng: &mut Rng) -> Weighing {
+/// A weight of LEAST to MOST uses.
+pub fn make<const LEAST: u32, const MOST: u32>(rng: &mut Rng) -> Weighing {
     let up = rng.chance(50);
-    let most = 1 << rng.below(13);
-    let least = if rng.chance(20) { most } else { 1 };
-    let uses = rng.within((least, most)) as usize;
+    let uses = rng.within((LEAST, MOST)) as usize;
     let mut terms = vec![first(rng, up)];
     let mut sum = Rounded::of(0.0).with(&terms[0]);
     while terms.len() < uses {
@@ -129,8 +128,7 @@ mod tests {
     #[test]
     fn a_long_sum_takes_nearly_half_of_the_allowance() {
         let mut rng = Rng::new(5, 0);
-        let made = (0..60).map(|_| make(&mut rng));
-        let long = made.filter(|weighing| weighing.terms.len() > 200);
+        let long = (0..40).map(|_| make::<200, 300>(&mut rng));
         let shares = long.map(|weighing| {
             let weight = weighing.weight();
             assert!(weight.fine);
