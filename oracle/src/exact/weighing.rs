@@ -46,7 +46,7 @@ impl Weighing {
 
 impl Term {
     fn text(&self) -> String {
-        let scale = (self.scale).map_or("-".to_string(), |scale| hex(scale));
+        let scale = self.scale.map_or("-".to_string(), hex);
         format!("{} {scale} {}", hex(self.cost), hex(self.frequency))
     }
 }
