@@ -3,6 +3,7 @@
 pub mod answer;
 pub mod cut;
 pub mod entry;
+pub mod exact;
 pub mod feed;
 pub mod frames;
 pub mod job;

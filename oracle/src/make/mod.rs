@@ -10,7 +10,7 @@ mod full;
 mod limits;
 mod long;
 mod pieces;
-mod rng;
+pub(crate) mod rng;
 mod rooms;
 mod soup;
 mod stops;
