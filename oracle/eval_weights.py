@@ -58,7 +58,7 @@ bit b = cond b 1 0
 
 -- register i: n, whether the conditions hold, whether the bound does, the exact sum
 row : Job → ℕ → Register → List ℕ
-unfolding bit nonzeros fineSegs sumSegs liveInsts exactSum
+unfolding bit nonzeros fineSegs fineQuotient sumSegs liveInsts exactSum
 row job i r =
     let ss = segsOf (r .pieces) in
     let w = r .weight in

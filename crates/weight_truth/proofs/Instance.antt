@@ -8,7 +8,7 @@ use Prim.Native.Nat.{ℕ, _+_, _*_, _^_, _≤_, _<_}
 use native.Mathlib.Nat.{not-le-of-lt}
 use native.Mathlib.Omega.{arith}
 use lib.Dec.{lit≤, lit<}
-use lib.Ieee.{Float, binary32, ofBits, toBits, add, mul, div, lt, ofInt}
+use lib.Ieee.{Float, binary32, ofBits}
 use lib.Ieee.Positive.{num, den}
 use Rattle.definition.specs.declared.BlockData.{BlockData}
 use Rattle.definition.specs.declared.ClassData.{ClassData}
@@ -20,16 +20,14 @@ use Rattle.definition.specs.declared.UseKind.the-variants.{ClassUse, FixedUse}
 use Rattle.definition.specs.declared.ValueData.{ValueData}
 use Rattle.definition.specs.Types.{Job, Segment, Register, done, inst, val, vset, cls, point}
 use Rattle.definition.specs.Limits.{vregsRoom}
-use Rattle.definition.specs.RegInfo.{zeroF, classAt, valueAt}
-use Rattle.definition.specs.Uses.{costOf}
-use Rattle.definition.specs.LiveRange.{liveInsts, touched}
-use Rattle.definition.specs.SplitPlacement.{freqAt}
-use Rattle.definition.specs.Weights.{scaled, addCost, sumUses, sumSegs, minF, normalized, weightOf}
+use Rattle.definition.specs.RegInfo.{zeroF}
+use Rattle.definition.specs.LiveRange.{liveInsts}
+use Rattle.definition.specs.Weights.{sumSegs, weightOf}
 use Rattle.definition.specs.Build.{asOwn}
 use Rattle.definition.specs.Entry.{answer}
-use Rattle.weight_truth.specs.Truth.{FarAbove, FineSegs, fineSegs, fineUses, FineWeight, MoreExact, Near}
-use Rattle.weight_truth.specs.Truth.{NearExact, Spoken, exactSum, exactUses, exactUse, exactScale, units}
-use Rattle.weight_truth.specs.Truth.{nonzeros, nonzeroUses, distance}
+use Rattle.weight_truth.specs.Truth.{FarAbove, FineSegs, fineSegs, fineQuotient, FineWeight, MoreExact, Near}
+use Rattle.weight_truth.specs.Truth.{NearExact, Spoken, exactSum}
+use Rattle.weight_truth.specs.Truth.{nonzeros, distance}
 
 -- ---- records as the sheets write them
 
@@ -49,9 +47,11 @@ seg v a b us = record {
 }
 
 class : ℕ → ℕ → ClassData
+unfolding ofBits
 class m c = record { mask = m; cost = f32 c; size = 1; spillslots = false }
 
 block : ℕ → ℕ → BlockData
+unfolding ofBits
 block n f = record { insts = n; frequency = f32 f }
 
 -- a value of bank 0 that is led by value n
@@ -60,10 +60,12 @@ led n r = record { bank = record { 0 = 0 }; leader = val n; remat = r }
 
 -- a register without group
 alone : ℕ → ℕ → ℕ → List Segment → Register
+unfolding ofBits
 alone n c w ss = record { set = vset n; class = cls c; weight = f32 w; group = none; index = 0; pieces = asOwn ss }
 
 -- s is the scale of the first remat kind; one register, which is in memory
 job : ℕ → ℕ → List ClassData → List BlockData → List ValueData → List Segment → Job
+unfolding ofBits
 job k s cs bs vs ss = record {
   options = record { adjust = k; «cheaper_than_move» = f32 s; «cheaper_than_load» = zeroF; indirect = zeroF };
   banks = cls 0 ∷ [];
@@ -103,20 +105,17 @@ fine-job =
     (block 2 0x3fc00000 ∷ block 2 0 ∷ block 2 0x00400000 ∷ []) (led 0 Never ∷ led 0 CheaperThanMove ∷ []) fine-segs
 
 fine-register : Register
-unfolding alone
+unfolding alone fine-segs
 fine-register = alone 0 1 0x3ea22222 fine-segs
 
 -- it is accepted, and its one register is without group
 fine-answer : answer fine-job vregsRoom ≡ done (record { registers = fine-register ∷ []; groups = [] })
-unfolding answer fine-job fine-register alone fine-segs first-uses other-uses job class block led seg use′ ofBits
+unfolding answer fine-job fine-register
 fine-answer = refl
 
 -- three of its five uses count, and every product, sum and quotient is fine
 fine-spoken : Spoken fine-job fine-register
-unfolding fine-job fine-register alone fine-segs first-uses other-uses job class block led seg use′ fineSegs fineUses
-    nonzeros nonzeroUses
-    exactUse exactScale units valueAt classAt costOf scaled addCost sumUses sumSegs liveInsts touched freqAt ofBits
-    toBits add mul div ofInt
+unfolding fine-job fine-register fineSegs fineQuotient nonzeros sumSegs liveInsts
 fine-spoken = (
   refl,
   record {
@@ -128,23 +127,17 @@ fine-spoken = (
 )
 
 fine-count : nonzeros fine-job fine-segs ≡ 3
-unfolding fine-job fine-segs first-uses other-uses job class block led seg use′ nonzeros nonzeroUses exactUse
-    exactScale units valueAt
-    classAt costOf freqAt ofBits toBits
+unfolding fine-job nonzeros
 fine-count = refl
 
 -- the bound, by computing
 fine-near : NearExact fine-job fine-segs (f32 0x3ea22222)
-unfolding fine-job fine-segs first-uses other-uses job class block led seg use′ nonzeros nonzeroUses exactSum
-    exactUses exactUse exactScale
-    units liveInsts touched valueAt classAt costOf freqAt ofBits toBits
+unfolding fine-job nonzeros exactSum liveInsts ofBits
 fine-near = lit≤ tt
 
 -- and W is not E: over 5 instructions and k, which is 7
 fine-inexact : 0 < distance (num (f32 0x3ea22222) * (2 ^ 447 * 12)) (exactSum fine-job fine-segs * den (f32 0x3ea22222))
-unfolding fine-job fine-segs first-uses other-uses job class block led seg use′ exactSum exactUses exactUse exactScale
-    units valueAt classAt
-    costOf freqAt ofBits toBits
+unfolding fine-job exactSum ofBits
 fine-inexact = lit< tt
 
 -- ---- one use, of cost 3ff33333, scale 3f8ccccd and frequency 3fc00000, over 4 instructions and 7
@@ -158,12 +151,11 @@ unfolding job class block led one-segs
 one-job = job 7 0x3f8ccccd (class 1 0x3ff33333 ∷ []) (block 4 0x3fc00000 ∷ []) (led 0 CheaperThanMove ∷ []) one-segs
 
 one-weight : Float
+unfolding one-job weightOf
 one-weight = weightOf one-job (cls 0) one-segs
 
 one-fine : FineWeight one-job one-segs one-weight
-unfolding one-job one-segs one-weight job class block led seg use′ fineSegs fineUses nonzeros nonzeroUses exactUse
-    exactScale units valueAt classAt costOf scaled addCost sumUses sumSegs liveInsts touched freqAt weightOf
-    normalized minF ofBits toBits add mul div lt ofInt
+unfolding one-weight fineSegs fineQuotient nonzeros sumSegs liveInsts
 one-fine = record {
   not-infinite = λ e. absurd (let z : _≡_ {A = ℕ} 0 1 = cc in omega arith);
   few = lit≤ tt;
@@ -172,17 +164,13 @@ one-fine = record {
 }
 
 one-near : Near 1 one-weight (exactSum one-job one-segs) 11
-unfolding one-job one-segs one-weight job class block led seg use′ exactSum exactUses exactUse exactScale units
-    valueAt classAt costOf scaled addCost sumUses sumSegs liveInsts touched freqAt weightOf normalized minF ofBits
-    toBits add mul div lt ofInt
+unfolding one-weight exactSum
 one-near = lit≤ tt
 
 -- with 2 ^ 25 in place of 2 ^ 23 the bound is false
 one-not-nearer : (1 + 3) * (exactSum one-job one-segs * den one-weight)
     < distance (num one-weight * (2 ^ 447 * 11)) (exactSum one-job one-segs * den one-weight) * 2 ^ 25
-unfolding one-job one-segs one-weight job class block led seg use′ exactSum exactUses exactUse exactScale units
-    valueAt classAt costOf scaled addCost sumUses sumSegs liveInsts touched freqAt weightOf normalized minF ofBits
-    toBits add mul div lt ofInt
+unfolding one-weight exactSum
 one-not-nearer = lit< tt
 
 -- ---- the same in a block of the least frequency above zero, 2 ^ -149: its product is subnormal
@@ -196,24 +184,21 @@ unfolding job class block led low-segs
 low-job = job 7 0x3f8ccccd (class 1 0x3ff33333 ∷ []) (block 4 1 ∷ []) (led 0 CheaperThanMove ∷ []) low-segs
 
 low-register : Register
-unfolding alone
+unfolding alone low-segs
 low-register = alone 0 0 0 low-segs
 
 low-answer : answer low-job vregsRoom ≡ done (record { registers = low-register ∷ []; groups = [] })
-unfolding answer low-job low-register alone low-segs job class block led seg use′ ofBits
+unfolding answer low-job low-register
 low-answer = refl
 
 -- the conditions fail
 not-fine : FineSegs low-job zeroF low-segs → ⊥
-unfolding low-job low-segs job class block led seg use′ fineSegs fineUses valueAt classAt costOf scaled freqAt ofBits
-    add mul
+unfolding low-job fineSegs
 not-fine g = g
 
 -- and so does the bound
 not-near : NearExact low-job low-segs (low-register .weight) → ⊥
-unfolding low-job low-segs low-register alone job class block led seg use′ nonzeros nonzeroUses exactSum exactUses
-    exactUse
-    exactScale units liveInsts touched valueAt classAt costOf freqAt ofBits toBits
+unfolding low-job low-register nonzeros exactSum liveInsts
 not-near h = not-le-of-lt (lit< tt) h
 
 -- ---- ranks: four registers over 6 instructions and k, which is 2; cost 1, frequencies 2 ^ 24, 1, 1, 1.5, 40, 2 ^ 24
@@ -262,16 +247,14 @@ ranked =
     ∷ alone 3 0 0x4a000001 segs₃ ∷ []
 
 rank-answer : answer rank-job vregsRoom ≡ done (record { registers = ranked; groups = [] })
-unfolding answer rank-job rank-blocks ranked alone segs₀ segs₁ segs₂ segs₃ rank-segs at job class block led seg use′
-    ofBits
+unfolding answer rank-job ranked
 rank-answer = refl
 
 -- the second has the greater weight and the lesser exact fraction: the rule does not rank it above the first
 swapped : (num (f32 0x4a000000) * den (f32 0x4a000001) < num (f32 0x4a000001) * den (f32 0x4a000000))
     × MoreExact (exactSum rank-job segs₀) 8 (exactSum rank-job segs₁) 8
     × (FarAbove 2 (f32 0x4a000001) 3 (f32 0x4a000000) → ⊥)
-unfolding rank-job rank-blocks segs₀ segs₁ segs₂ segs₃ rank-segs at job class block led seg use′ exactSum exactUses
-    exactUse exactScale units valueAt classAt costOf freqAt ofBits toBits
+unfolding rank-job exactSum ofBits
 swapped = (lit< tt, lit< tt, (λ h. not-le-of-lt h (lit≤ tt)))
 
 -- the third is ranked above the first
@@ -281,6 +264,5 @@ above = lit< tt
 
 -- the fourth has the first's uses in another order: one exact fraction, two weights
 reordered : exactSum rank-job segs₃ ≡ exactSum rank-job segs₀
-unfolding rank-job rank-blocks segs₀ segs₁ segs₂ segs₃ rank-segs at job class block led seg use′ exactSum exactUses
-    exactUse exactScale units valueAt classAt costOf freqAt ofBits toBits
+unfolding rank-job exactSum
 reordered = refl

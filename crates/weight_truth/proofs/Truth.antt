@@ -18,7 +18,7 @@ use Rattle.definition.specs.Entry.{plain}
 use Rattle.definition.specs.Weights.{sumSegs, minF, maxF, normalized, weightOf}
 use Rattle.floats.proofs.Nonneg.{plain-nonneg, div-nonneg, count-positive}
 use Rattle.spill_weight.specs.Costs.{PlainJob}
-use Rattle.weight_truth.specs.Truth.{Fine, FineQuotient, FineWeight, exactSum, nonzeros, unskippedIn, distance}
+use Rattle.weight_truth.specs.Truth.{Fine, FineQuotient, fineQuotient, FineWeight, exactSum, nonzeros, unskippedIn, distance}
 use Rattle.weight_truth.specs.Truth.{Near, NearExact, F32Job}
 use Rattle.weight_truth.proofs.Close.{Close, close-trans, close-mul, close-bound}
 use Rattle.weight_truth.proofs.Ops.{div-close, count-value}
@@ -34,7 +34,7 @@ positive-num (fin false m e) p = mul-pos (ltb→lt 0 m p) (up-pos e)
 -- the quotient of a sum that is near S, by a count
 quotient-near : (t : Float) (n S d : ℕ) → SumNear t n S → 0 < d → d ≤ 16777216 → n ≤ 4096 → FineQuotient t d
     → Near n (minF (div binary32 t (ofInt binary32 (pos d))) maxF) S d
-unfolding minF
+unfolding minF div fineQuotient
 quotient-near t n S d s h l few g =
     let c = ofInt binary32 (pos d) in
     let q = div binary32 t c in
@@ -61,7 +61,7 @@ finite-is false x p = refl
 
 -- a quotient that is fine is not over zero
 zero-count : (t : Float) → T (plain t) → FineQuotient t 0 → ⊥
-unfolding ofInt div
+unfolding fineQuotient
 zero-count nan p f = p
 zero-count (inf s) p f = p
 zero-count (fin true m e) p f = p

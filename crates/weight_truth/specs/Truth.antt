@@ -26,6 +26,7 @@ use Rattle.floats.proofs.Bits.{whole}
 
 -- an f32 in units of 2 ^ -149, the least that it can differ by; so a product of three is in units of 2 ^ -447
 unfoldable pub units : Float → ℕ
+unfolding toBits
 units x = whole (toBits binary32 x)
 
 -- the scale of a value's remat kind; where there is none the cost is as it is, which is the scale 1
@@ -42,7 +43,7 @@ freqOf job u = freqAt (job .blocks) (u .pos .0)
 
 -- one use: cost × scale × frequency
 unfoldable pub exactUse : Job → Remat → Use → ℕ
-unfolding units exactScale
+unfolding units exactScale costOf freqAt
 exactUse job r u = units (costOf job (u .kind)) * exactScale (job .options) r * units (freqOf job u)
 
 -- the uses of one segment, whose value has the remat kind r
@@ -52,7 +53,7 @@ exactUses job r [] = 0
 exactUses job r (u ∷ us) = exactUse job r u + exactUses job r us
 
 unfoldable pub exactSum : Job → List Segment → ℕ
-unfolding exactUses
+unfolding exactUses valueAt
 exactSum job [] = 0
 exactSum job (s ∷ ss) = exactUses job (valueAt job (s .value) .remat) (s .uses) + exactSum job ss
 
@@ -67,7 +68,7 @@ nonzeroUses job r [] = 0
 nonzeroUses job r (u ∷ us) = nonzero job r u + nonzeroUses job r us
 
 unfoldable pub nonzeros : Job → List Segment → ℕ
-unfolding nonzeroUses
+unfolding nonzeroUses valueAt
 nonzeros job [] = 0
 nonzeros job (s ∷ ss) = nonzeroUses job (valueAt job (s .value) .remat) (s .uses) + nonzeros job ss
 
@@ -79,11 +80,12 @@ abbrev pub unskipped : Job → Remat → Use → ℕ
 unskipped job r u = cond (isZeroF (scaledCost job r u)) 0 1
 
 unfoldable pub unskippedUses : Job → Remat → List Use → ℕ
+unfolding scaled costOf
 unskippedUses job r [] = 0
 unskippedUses job r (u ∷ us) = unskipped job r u + unskippedUses job r us
 
 unfoldable pub unskippedIn : Job → List Segment → ℕ
-unfolding unskippedUses
+unfolding unskippedUses valueAt
 unskippedIn job [] = 0
 unskippedIn job (s ∷ ss) = unskippedUses job (valueAt job (s .value) .remat) (s .uses) + unskippedIn job ss
 
@@ -128,18 +130,20 @@ fineUse job r t u =
     && (isZeroF (scaledCost job r u) || fineTerm t (scaledCost job r u) (freqOf job u))
 
 unfoldable pub fineUses : Job → Remat → Float → List Use → Bool
+unfolding add mul scaled costOf freqAt addCost
 fineUses job r t [] = true
 fineUses job r t (u ∷ us) = fineUse job r t u && fineUses job r (addCost t (scaledCost job r u) (freqOf job u)) us
 
 unfoldable pub fineSegs : Job → Float → List Segment → Bool
-unfolding fineUses
+unfolding fineUses valueAt sumUses
 fineSegs job t [] = true
 fineSegs job t (s ∷ ss) =
     let r = valueAt job (s .value) .remat in
     fineUses job r t (s .uses) && fineSegs job (sumUses job r t (s .uses)) ss
 
 -- of the sum t over n, the instructions and k
-abbrev pub fineQuotient : Float → ℕ → Bool
+unfoldable pub fineQuotient : Float → ℕ → Bool
+unfolding div ofInt
 fineQuotient t n = fineDiv t (ofInt binary32 (pos n))
 
 -- the same as facts

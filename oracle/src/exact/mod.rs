@@ -9,3 +9,4 @@ pub mod results;
 pub mod survey;
 pub mod units;
 pub mod weighing;
+pub mod words;

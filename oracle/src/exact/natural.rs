@@ -32,6 +32,14 @@ impl PartialOrd for Natural {
 impl Natural {
     pub const ZERO: Self = Self([0; LIMBS]);
 
+    /// In hexadecimal, without zeros before it.
+    pub fn hex(self) -> String {
+        let limbs = self.0.iter().rev();
+        let digits: String = limbs.map(|limb| format!("{limb:016x}")).collect();
+        let digits = digits.trim_start_matches('0');
+        if digits.is_empty() { "0" } else { digits }.to_string()
+    }
+
     pub fn plus(self, other: Self) -> Self {
         let mut sum = self.0;
         let mut carry = false;
