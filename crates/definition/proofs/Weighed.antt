@@ -196,7 +196,9 @@ module _ (job : Job) (room : Room) (u : ValueSet) (h : Held) (new : List Piece) 
       )
 
   -- WHAT EVERY PLACING KEEPS, whoever calls for it: the pieces touch no more instructions than a job may have, and the
-  -- register to merge into, if there is one, has a group
+  -- register to merge into, if there is one, has a group.
+  -- Rules out: a merge into a register of no group, which would keep the weight of its old pieces; a place of a group
+  -- that names a register whose row has none.
   pub placed-both : (st′ : State) → Has old (h .target) → place job room u h new st ≡ done st′ → Both job st′
   placed-both st′ o e =
       place-cases job room u h new st (Both job) alone-both (λ hg. lead-both hg _) join-both

@@ -75,6 +75,7 @@ promise-ranks job room res f e =
     all-map (TrueWeight job) (λ r. All (RankTrue job r) (res .registers)) others (res .registers) a
 
 -- The same of a job sheet's job.
+-- Rules out, as readings: another job's numbers for those of the sheet; a sheet that is refused.
 pub promise-weights-sheet : (bs : List ℕ) (room : Room) (job : Job) (res : Result) → jobOfSheet bs ≡ some job
     → sheetAnswer bs room ≡ done res → All (TrueWeight job) (res .registers)
 unfolding sheetAnswer

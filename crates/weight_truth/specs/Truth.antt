@@ -164,7 +164,8 @@ FineQuotient t n = T (fineQuotient t n)
 abbrev pub distance : ℕ → ℕ → ℕ
 distance x y = (x - y) + (y - x)
 
--- W = num w / den w and E = s / (2 ^ 447 * over), multiplied by both denominators: no fraction is in it
+-- W = num w / den w and E = s / (2 ^ 447 * over), multiplied by both denominators: no fraction is in it. With 2 ^ 25 it
+-- would be false of one use already (`one-not-nearer`, proofs/Instance.antt).
 abbrev pub Near : ℕ → Float → ℕ → ℕ → Type 0
 Near n w s over = distance (num w * (2 ^ 447 * over)) (s * den w) * 2 ^ 23 ≤ (n + 3) * (s * den w)
 
