@@ -1,4 +1,4 @@
--- Change request 13, "How true the weights are": what its sentences say, in their order. Assumes nothing.
+-- Change request 13, "How true the weights are": the words of its sentences, and those for ranks. Assumes nothing.
 use Prim.Native.Nat.{ℕ, _+_, _-_, _*_, _^_, _≤_, _<_}
 use mathlib.Core.Path.{_≡_}
 use mathlib.Core.Bool.{Bool, true, false, cond, _&&_, _||_}
@@ -24,7 +24,7 @@ use Rattle.floats.proofs.Bits.{whole}
 
 -- ---- "the exact fraction of whole numbers for the same sum": its numerator
 
--- an f32 in units of 2 ^ -149, the least that it can differ by; so a product of three is in units of 2 ^ -447
+-- an f32 in units of 2 ^ -149, the least above zero; so a product of three is in units of 2 ^ -447
 unfoldable pub units : Float → ℕ
 unfolding toBits
 units x = whole (toBits binary32 x)
