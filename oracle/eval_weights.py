@@ -4,8 +4,8 @@
     gen PROFILE SEED COUNT | eval_weights.py EXACT [--most BYTES]
 
 EXACT is the program `exact`. It says of each register that the theorem speaks of: its number, n, whether the conditions
-hold, whether the bound does, and the exact sum. The checker computes the same from the sheet, by the definition's answer
-to it and by `nonzeros`, `fineSegs`, `fineQuotient`, `distance` and `exactSum`, in a temporary copy of the crates.
+hold, whether the bound does, and the exact sum. The checker computes the same from the sheet, by the definition's
+answer to it and by `nonzeros`, `fineSegs`, `fineQuotient`, `distance` and `exactSum`, in a temporary copy of the crates.
 Sheets of more than BYTES bytes (6,000 if not said) are left out. Exit status 0 if all agree.
 """
 import argparse

@@ -137,9 +137,10 @@ input-whole s v = defined.input-whole (binaryJob s) v
 
 -- ---- weights
 
--- Weights: each register that is read back from the bytes x, without group and of finite weight and under the conditions
--- of change request 13 (`Spoken`), has a weight within (n + 3) parts in 2 ^ 23 of the exact fraction (`NearExact`) of the
--- job's own numbers; n are the uses of its own pieces whose exact product is not zero. The weight is the word of its row.
+-- Weights: each register that is read back from the bytes x, without group and of finite weight and under the
+-- conditions of change request 13 (`Spoken`), has a weight within (n + 3) parts in 2 ^ 23 of the exact fraction
+-- (`NearExact`) of the job's own numbers; n are the uses of its own pieces whose exact product is not zero. The weight
+-- is the word of its row.
 -- Rules out, as readings: a group member's weight, which is its group's least; n as the uses of the whole set.
 pub promise-weights-left : (n : ℕ) (ol : OutLayout) (s : List ℕ) (r : BuildEnd) (x : List ℕ)
     → Answered n ol (binaryAnswer s (roomOf ol)) r x → r .number ≡ 0

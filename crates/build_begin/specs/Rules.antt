@@ -1,15 +1,15 @@
 -- What the entry rules say of an accepted job's classes, group uses and segments. Assumes nothing.
 use mathlib.Core.Path.{_≡_, refl, subst}
-use Prim.Native.Nat.{ℕ, zero, suc, _*_, _/_, _%_, _^_, _≤_, _<_}
-use native.Mathlib.Nat.{pow-suc, le-trans}
+use Prim.Native.Nat.{ℕ, _*_, _^_, _≤_, _<_}
+use native.Mathlib.Nat.{le-trans}
 use native.Mathlib.Omega.{arith}
 use mathlib.Core.Bool.{Bool, true, false, _&&_, _||_}
 use mathlib.Core.Option.{none}
 use mathlib.Core.List.{List, [], _∷_}
-use lib.ListN.{length, getD}
+use lib.ListN.{length}
 use lib.Pow.{pow-mono, pow-pos}
-use lib.Dec.{ltb, eqb}
-use borrow.Author.Tests.{ltb-true, leb-true, eqb-true}
+use lib.Dec.{ltb}
+use borrow.Author.Tests.{ltb-true, leb-true}
 use Rattle.definition.specs.declared.Inst.{Inst}
 use Rattle.definition.specs.declared.Value.{Value}
 use Rattle.definition.specs.declared.RegClass.{RegClass}
@@ -18,36 +18,18 @@ use Rattle.definition.specs.declared.Use.{Use}
 use Rattle.definition.specs.Types.{Segment, Job}
 use Rattle.definition.specs.RegInfo.{classAt, noClass}
 use Rattle.definition.specs.Build.{withUses}
-use Rattle.definition.specs.Entry.{bookOk, bookTests, chained, classOk, classTests, entry, entryTests, every, functionOk, groupUseOk, limitTests, limitsOk, vgroupValues, segmentOk, segmentsOk, sized, useOk, usesOk}
-use Rattle.definition.specs.Promised.{bitAt}
+use Rattle.definition.specs.Entry.{bookOk, bookTests, chained, classOk, classTests, entry, entryTests, every}
+use Rattle.definition.specs.Entry.{functionOk, groupUseOk, limitTests, limitsOk, vgroupValues, segmentOk, segmentsOk}
+use Rattle.definition.specs.Entry.{sized, useOk, usesOk}
 use Rattle.definition.proofs.Places.{All, all-map, all-getD}
 use Rattle.definition.proofs.Tables.{operandAt, uses-are}
 use Rattle.definition.proofs.Classes.{Masks}
-use Rattle.definition.proofs.Entries.{accepted-insts, and-both, conj-all, every-all, lowest-none, Good, segment-ends, segment-good}
+use Rattle.definition.proofs.Entries.{accepted-insts, and-both, conj-all, every-all, lowest-none, Good, segment-ends}
+use Rattle.definition.proofs.Entries.{segment-good}
 use Rattle.definition.proofs.Admission.{sizeOf, GroupUse, UseFits, Sizes, SegFits}
-use Rattle.definition.proofs.Accepted.{group-operand}
+use Rattle.definition.proofs.Accepted.{group-operand, sized-at}
 
 -- ---- the register book
-
-bit-zero : (k : ℕ) → bitAt k 0 ≡ 1 → ⊥
-bit-zero zero e = omega arith
-bit-zero (suc k) e = bit-zero k e
-
--- the classes of a mask have the size that the test asks for
-sized-at : (cs : List ClassData) (m n k : ℕ) → m < 2 ^ length cs → sized m n cs ≡ true → bitAt k m ≡ 1 → getD cs k noClass .size ≡ n
-unfolding sized
-sized-at [] m n k l e b = let z : m ≡ 0 = omega arith in absurd (bit-zero k (subst (λ (x : ℕ). bitAt k x ≡ 1) z b))
-sized-at (c ∷ cs) m n k l e b =
-    let a = and-both (eqb (m % 2) 0 || eqb (c .size) n) (sized (m / 2) n cs) e in
-    go k b (a .0) (λ j d. sized-at cs (m / 2) n j (omega (arith, pow-suc 2 (length cs))) (a .1) d)
-  where
-    low : (t : Bool) → eqb (m % 2) 0 ≡ t → m % 2 ≡ 1 → (t || eqb (c .size) n) ≡ true → c .size ≡ n
-    low true x y d = let q : m % 2 ≡ 0 = eqb-true _ _ x in absurd (omega arith)
-    low false x y d = eqb-true _ _ d
-
-    go : (j : ℕ) → bitAt j m ≡ 1 → (eqb (m % 2) 0 || eqb (c .size) n) ≡ true → ((i : ℕ) → bitAt i (m / 2) ≡ 1 → getD cs i noClass .size ≡ n) → getD (c ∷ cs) j noClass .size ≡ n
-    go zero d f ih = low (eqb (m % 2) 0) refl d f
-    go (suc j) d f ih = ih j d
 
 -- a class by its tests: its mask, its size, and those of its subclasses
 abbrev ClassFits : List ClassData → ClassData → Type 0

@@ -35,7 +35,9 @@ bit-zero : (k : ℕ) → bitAt k 0 ≡ 1 → ⊥
 bit-zero zero e = omega arith
 bit-zero (suc k) e = bit-zero k e
 
-sized-at : (cs : List ClassData) (m n k : ℕ) → m < 2 ^ length cs → sized m n cs ≡ true → bitAt k m ≡ 1 → getD cs k noClass .size ≡ n
+-- the classes of a mask have the size that the test asks for
+pub sized-at : (cs : List ClassData) (m n k : ℕ) → m < 2 ^ length cs → sized m n cs ≡ true → bitAt k m ≡ 1
+    → getD cs k noClass .size ≡ n
 unfolding sized
 sized-at [] m n k l e b = let z : m ≡ 0 = omega arith in absurd (bit-zero k (subst (λ (x : ℕ). bitAt k x ≡ 1) z b))
 sized-at (c ∷ cs) m n k l e b =

@@ -132,7 +132,8 @@ pub data Part (hs : List Hint) : List Segment → List Segment → List Segment 
 
 -- a fact on segments that both halves of a cut one have, and one with a use turned
 module _ (P : Segment → Type 0) where
-  pub part-all : (hs : List Hint) → ((p : Inst) (s : Segment) → 4 * p .0 < s .to .0 → P s → P (leftOf hs p s) × P (rightOf hs p s))
+  pub part-all : (hs : List Hint)
+      → ((p : Inst) (s : Segment) → 4 * p .0 < s .to .0 → P s → P (leftOf hs p s) × P (rightOf hs p s))
       → {ss l r : List Segment} → Part hs ss l r → All P ss → All P l × All P r
   unfolding leftCut rightCut
   part-all hs f (all ss) a = (a, tt)
@@ -145,7 +146,9 @@ module _ (P : Segment → Type 0) where
           go : (b c : Bool) → leb (s .to .0) (4 * p .0) ≡ b → ltb (s .«from» .0) (4 * p .0) ≡ c → All P (leftCut hs p ss) × All P (rightCut hs p ss)
               → All P (leftCut hs p (s ∷ ss)) × All P (rightCut hs p (s ∷ ss))
           go true c e d ih = rw (e, leftCut, rightCut) ((a .0, ih .0), ih .1)
-          go false true e d ih = let q = f p s (leb-false _ _ e) (a .0) in rw (e, d, leftCut, rightCut) ((q .0, tt), (q .1, a .1))
+          go false true e d ih =
+              let q = f p s (leb-false _ _ e) (a .0) in
+              rw (e, d, leftCut, rightCut) ((q .0, tt), (q .1, a .1))
           go false false e d ih = rw (e, d, leftCut, rightCut) (tt, a)
 
   pub turn-all : ((n : ℕ) (s : Segment) → P s → P (withUses (turnIn n (s .uses)) s)) → (n : ℕ) (ss : List Segment) → All P ss → All P (turnAt n ss)

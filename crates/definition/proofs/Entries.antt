@@ -12,7 +12,8 @@ use Rattle.definition.specs.Types.{Job, Refusal, Segment, Use}
 use Rattle.definition.specs.RegInfo.{setOf}
 use Rattle.definition.specs.Uses.{endPoint}
 use Rattle.definition.specs.Build.{onto, runs, sameSet}
-use Rattle.definition.specs.Entry.{inOrder, chained, conj, entry, entryTests, every, insts, limitTests, limitsOk, lowestOf, segmentOk, segmentTests, segmentsOk, useOk, useTests, usesOk}
+use Rattle.definition.specs.Entry.{inOrder, chained, conj, entry, entryTests, every, insts, limitTests, limitsOk}
+use Rattle.definition.specs.Entry.{lowestOf, segmentOk, segmentTests, segmentsOk, useOk, useTests, usesOk}
 use Rattle.definition.proofs.Fits.{UsesFit, SegsFit}
 use Rattle.definition.proofs.Places.{All, all-map}
 

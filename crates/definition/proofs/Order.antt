@@ -129,7 +129,8 @@ module _ (hs : List Hint) where
   part-valued (all ss) = append-nil (valued ss)
   part-valued (before p ss) = cut-valued hs p ss
 
-  pub part-follows : {ss l r : List Segment} → Part hs ss l r → (made : List Segment) (q : ℕ) → SegsFit q ss → ((n : ℕ) → SegsFit n r → Follows n made) → Follows q (l ++ made)
+  pub part-follows : {ss l r : List Segment} → Part hs ss l r → (made : List Segment) (q : ℕ) → SegsFit q ss
+      → ((n : ℕ) → SegsFit n r → Follows n made) → Follows q (l ++ made)
   part-follows (all ss) made q h f = go ss q h
     where
       go : (ss : List Segment) (q : ℕ) → SegsFit q ss → Follows q (ss ++ made)

@@ -203,8 +203,8 @@ module _ (job : Job) (st : State) (P : Option VirtReg → Type 0)
   abbrev Target : Held → Type 0
   Target h = P (h .target)
 
-  place-target : (h : Held) (k : RegClass) (ms : List (Option VirtReg)) (o : Option VirtReg) (n : RegClass × Option VirtReg)
-      → Target h → P o → atPlace job st h k ms o ≡ some n → Second n
+  place-target : (h : Held) (k : RegClass) (ms : List (Option VirtReg)) (o : Option VirtReg)
+      (n : RegClass × Option VirtReg) → Target h → P o → atPlace job st h k ms o ≡ some n → Second n
   unfolding atPlace
   place-target h k ms none n a b e =
       let r = bind-some (narrowed job st ms k) _ n e in

@@ -7,14 +7,17 @@ use mathlib.Core.Option.{some}
 use mathlib.Core.List.{List, [], _∷_}
 use lib.ListN.{length}
 use lib.Dec.{eqb}
-use Rattle.definition.specs.Types.{Inst, Value, ValueSet, RegClass, VirtReg, Use, Origin, Own, Conflict, Segment, Job, Room, Piece, Register, done, vreg}
+use Rattle.definition.specs.Types.{Inst, Value, ValueSet, RegClass, VirtReg, Use, Origin, Own, Conflict, Segment}
+use Rattle.definition.specs.Types.{Job, Room, Piece, Register, done, vreg}
 use Rattle.definition.specs.RegInfo.{setOf}
 use Rattle.definition.specs.Uses.{classOf, isClassUse}
 use Rattle.definition.specs.Place.{total}
 use Rattle.definition.specs.Build.{Result, build, one, runs, sameSet}
 use Rattle.definition.specs.Entry.{answer, entry, entryTests, every, usesOk}
 use Rattle.definition.specs.Lines.{Line, printed}
-use Rattle.definition.specs.Promised.{Follows, In, Listed, Transitive, addedIn, byFirst, classUsesAt, covered, had, liveAt, inputOf, isMark, marksAt, OwnWeight, ofSet, ownIn, ownOf, sameUse, valued, markedFor}
+use Rattle.definition.specs.Promised.{Follows, In, Listed, Transitive, addedIn, byFirst, classUsesAt, covered}
+use Rattle.definition.specs.Promised.{had, liveAt, inputOf, isMark, marksAt, OwnWeight, ofSet, ownIn, ownOf}
+use Rattle.definition.specs.Promised.{sameUse, valued, markedFor}
 use Rattle.definition.proofs.Places.{All}
 use Rattle.definition.proofs.Points.{Additive, points-additive, ofOwn, ownUses, built-same}
 use Rattle.definition.proofs.Entries.{lowest-none}
@@ -26,7 +29,9 @@ use Rattle.definition.proofs.Printed.{readPoint, readUse, pieceUses, po
 use Rattle.definition.proofs.Sets.{InSet, built-in-set, runs-in}
 use Rattle.definition.proofs.Marks.{valued-had, listed-marked}
 use Rattle.definition.proofs.Weighed.{built-weighed}
-use Rattle.definition.proofs.Owned.{both-counted, led-counted, led-additive, covered-additive, covered-once, live-covered, counted-same, of-led, own-led, accepted-rise, no-mark-had, marks-turned}
+use Rattle.definition.proofs.Owned.{both-counted, led-counted, led-additive, covered-additive, covered-once}
+use Rattle.definition.proofs.Owned.{live-covered, counted-same, of-led, own-led, accepted-rise, no-mark-had}
+use Rattle.definition.proofs.Owned.{marks-turned}
 
 -- ---- what an accepted job is known to be
 

@@ -90,7 +90,8 @@ module _ (OfValue : ValueSet → Value → Type 0) (OfUse : ValueSet → Use →
       unfolding leftOf rightOf
       kept u = record {
         part = λ ss l r ts st st′ p x i.
-            let a = part-all (SegOk u) (job .hints) (λ q s l b. let c = uses-part u q (s .uses) (b .1) in ((b .0, c .0), (b .0, c .1))) p (i .1) in
+            let a = part-all (SegOk u) (job .hints)
+            (λ q s l b. let c = uses-part u q (s .uses) (b .1) in ((b .0, c .0), (b .0, c .1))) p (i .1) in
             (keeps u (x .top) (x .held) (asOwn l) st st′ (i .0) (own-ok u l (a .0)) (x .admitted) (x .put), a .1, i .2);
         turned = λ n ss ts st c i.
             (i .0, turn-all (SegOk u) (λ n s b. (b .0, turn-uses u n (s .uses) (b .1))) n ss (i .1), all-append (TurnedOk u) ts (turnedAt n ss ∷ []) (i .2) (turned-ok u n ss (c .0) (i .1), tt));

@@ -5,9 +5,11 @@ use native.Mathlib.Omega.{arith}
 use mathlib.Core.Bool.{true}
 use mathlib.Core.Option.{Option, none, some, Option·some-injective}
 use mathlib.Core.List.{List}
-use Rattle.definition.specs.Types.{Held, HeldGroup, Inst, Job, RegClass, State, Use, ValueSet, VirtReg, VirtRegGroup}
+use Rattle.definition.specs.Types.{Held, HeldGroup, Inst, Job, RegClass, State, Use, ValueSet, VirtReg}
+use Rattle.definition.specs.Types.{VirtRegGroup}
 use Rattle.definition.specs.RegInfo.{commonSubclass}
-use Rattle.definition.specs.Admit.{admitClass, admitGroup, fresh, groupFits, guard, inGroup, mappedAt, mappingFits, scan, setsAt, through}
+use Rattle.definition.specs.Admit.{admitClass, admitGroup, fresh, groupFits, guard, inGroup, mappedAt}
+use Rattle.definition.specs.Admit.{mappingFits, scan, setsAt, through}
 use Rattle.definition.proofs.Places.{bind-some, scan-held}
 use Rattle.definition.proofs.Tables.{fits-parts, guarded}
 
@@ -31,7 +33,9 @@ unmapped-before t (some hg) i sets a e = go (hg .mapped) refl (fits-parts hg i n
 module _ (job : Job) (st : State) where
   admit-class : (h : Held) (c : RegClass) (g : Held) → HeldUnmerged h → admitClass job h c ≡ some g → HeldUnmerged g
   unfolding admitClass
-  admit-class h c g k e = let r = bind-some (commonSubclass job (h .class) c) _ g e in subst HeldUnmerged (Option·some-injective _ g (r .2)) k
+  admit-class h c g k e =
+      let r = bind-some (commonSubclass job (h .class) c) _ g e in
+      subst HeldUnmerged (Option·some-injective _ g (r .2)) k
 
   -- by the group that the operand is mapped to
   group-target : (h : Held) (k : RegClass) (i : ℕ) (m : Option VirtRegGroup) (sets : List ValueSet) (n : RegClass × Option VirtReg) → HeldUnmerged h
@@ -46,8 +50,10 @@ module _ (job : Job) (st : State) where
   admit-group h p s c i g k e =
       let r = bind-some (commonSubclass job (h .class) c) _ g e in
       let t = bind-some (guard (groupFits (h .group) i (mappedAt (st .mapping) p s) (setsAt job p s))) _ g (r .2) in
-      let n = bind-some (inGroup job st h (r .0) i (mappedAt (st .mapping) p s)) _ g (t .2) in
-      subst HeldUnmerged (Option·some-injective _ g (n .2)) (group-target h (r .0) i (mappedAt (st .mapping) p s) (setsAt job p s) (n .0) k (guarded _ (t .0) (t .1)) (n .1))
+      let m = mappedAt (st .mapping) p s in
+      let n = bind-some (inGroup job st h (r .0) i m) _ g (t .2) in
+      subst HeldUnmerged (Option·some-injective _ g (n .2))
+      (group-target h (r .0) i m (setsAt job p s) (n .0) k (guarded _ (t .0) (t .1)) (n .1))
 
   -- after a scan from the top class
   pub scan-unmapped : (top : RegClass) (us : List Use) (g : Held) → scan job st us (fresh top) ≡ through g → HeldUnmerged g

@@ -18,7 +18,8 @@ use Rattle.definition.specs.Entry.{plain}
 use Rattle.definition.specs.Weights.{sumSegs, minF, maxF, normalized, weightOf}
 use Rattle.floats.proofs.Nonneg.{plain-nonneg, div-nonneg, count-positive}
 use Rattle.spill_weight.specs.Costs.{PlainJob}
-use Rattle.weight_truth.specs.Truth.{Fine, FineQuotient, fineQuotient, FineWeight, exactSum, nonzeros, unskippedIn, distance}
+use Rattle.weight_truth.specs.Truth.{Fine, FineQuotient, fineQuotient, FineWeight, exactSum, nonzeros}
+use Rattle.weight_truth.specs.Truth.{unskippedIn, distance}
 use Rattle.weight_truth.specs.Truth.{Near, NearExact, F32Job}
 use Rattle.weight_truth.proofs.Close.{Close, close-trans, close-mul, close-bound}
 use Rattle.weight_truth.proofs.Ops.{div-close, count-value}
