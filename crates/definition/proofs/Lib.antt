@@ -1,4 +1,5 @@
 mod Cases
+mod CutCases
 pub mod Cuts
 pub mod Scans
 pub mod Counts

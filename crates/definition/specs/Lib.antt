@@ -11,6 +11,7 @@ pub mod Admit
 pub mod Place
 pub mod Build
 pub mod Entry
+pub mod CutMoves
 pub mod Lines
 pub mod Promised
 pub mod Text

@@ -143,6 +143,19 @@ pub enum Side {
     Late,
 }
 
+// Which way a block's frequency goes to move a cut.
+pub enum Way {
+    Up,
+    Down,
+}
+
+// A block whose frequency by itself could move a cut: the way, and the fewest f32 steps.
+pub struct CutMove {
+    pub block: Block,
+    pub way: Way,
+    pub steps: u32,
+}
+
 // The six stops.
 pub enum Stop {
     NoStart,
