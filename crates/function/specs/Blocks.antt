@@ -9,6 +9,7 @@ use lib.Ieee.{binary32, ofBits}
 use Rattle.definition.specs.declared.BlockData.{BlockData}
 use Rattle.definition.specs.RegInfo.{zeroF}
 use Rattle.rows.specs.RowsAt.{rowsAt}
+unfoldable pub use Rattle.definition.specs.CutMoves.{blockOf}
 
 -- ---- block rows: the instruction count, the frequency's bits
 
@@ -26,11 +27,6 @@ unfoldable pub startOf : List BlockData → ℕ → ℕ
 startOf bs zero = 0
 startOf [] (suc j) = 0
 startOf (b ∷ bs) (suc j) = b .insts + startOf bs j
-
--- the block that holds instruction i
-unfoldable pub blockOf : List BlockData → ℕ → ℕ
-blockOf [] i = 0
-blockOf (b ∷ bs) i = elim (ltb i (b .insts)) [ true ↦ 0 | false ↦ suc (blockOf bs (i - b .insts)) ]
 
 abbrev pub noBlock : BlockData
 noBlock = record { insts = 0; frequency = zeroF }

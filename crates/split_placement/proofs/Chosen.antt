@@ -52,7 +52,7 @@ module _ (W : List ℕ) (at : ℕ) (bs : List BlockData) (s : Starts W at bs) wh
   -- ---- early
 
   module _ (a b lo hi : ℕ) (h : a < b) (l : b < instsOf bs) (f : Holding bs (suc a) lo) (g : Holding bs b hi) where
-    lo-hi : lo ≤ hi
+    pub lo-hi : lo ≤ hi
     lo-hi = omega (arith, start-order lo (suc hi) (omega (arith, f .there)) (omega (arith, f .low, g .high)))
 
     -- the block of an open place
@@ -100,12 +100,12 @@ module _ (W : List ℕ) (at : ℕ) (bs : List BlockData) (s : Starts W at bs) wh
           })
           (early-rule bs a b blocks-ok)
 
-      early-first : best ≡ lo → suc a ≡ earlyCut bs a b
+      pub early-first : best ≡ lo → suc a ≡ earlyCut bs a b
       early-first e =
           early-is (suc a) (next refl) (subst (λ (k : ℕ). freqAt bs (suc a) ≡ ofBits binary32 (bitsOf W at k)) (sym e) (price-of lo (suc a) (f .there) (f .low) (f .high)))
           (λ p q u. absurd (omega (arith, u, q .above)))
 
-      early-later : lo < best → startOf bs best ≡ earlyCut bs a b
+      pub early-later : lo < best → startOf bs best ≡ earlyCut bs a b
       early-later u =
           early-is (startOf bs best) (start (record { block = best; there = best-there; is = refl }) above upto)
           (price-of best (startOf bs best) best-there (omega arith) (start-below best best-there)) (λ p q v. earlier p (q .block) v (w .high) (q .high) (q .where-is))
@@ -123,7 +123,7 @@ module _ (W : List ℕ) (at : ℕ) (bs : List BlockData) (s : Starts W at bs) wh
   -- ---- late
 
   module _ (a b lo hi : ℕ) (h : a < b) (l : b < instsOf bs) (f : Holding bs a lo) (g : Holding bs (b - 1) hi) where
-    late-lo-hi : lo ≤ hi
+    pub late-lo-hi : lo ≤ hi
     late-lo-hi = omega (arith, start-order lo (suc hi) (omega (arith, f .there)) (omega (arith, f .low, g .high)))
 
     record Late (p : ℕ) : Type 0 where
@@ -176,12 +176,12 @@ module _ (W : List ℕ) (at : ℕ) (bs : List BlockData) (s : Starts W at bs) wh
           })
           (late-rule bs a b blocks-ok)
 
-      late-last : best ≡ hi → b ≡ lateCut bs a b
+      pub late-last : best ≡ hi → b ≡ lateCut bs a b
       late-last e =
           late-is b (last refl) (subst (λ (k : ℕ). freqAt bs (b - 1) ≡ ofBits binary32 (bitsOf W at k)) (sym e) (price-of hi (b - 1) (g .there) (g .low) (g .high)))
           (λ p q u. absurd (omega (arith, u, q .upto)))
 
-      late-earlier : best < hi → startOf bs (suc best) ≡ lateCut bs a b
+      pub late-earlier : best < hi → startOf bs (suc best) ≡ lateCut bs a b
       late-earlier u =
           late-is (startOf bs (suc best)) (end (record { block = best; there = late-there; is = refl }) above upto)
           (price-of best (startOf bs (suc best) - 1) late-there (omega (arith, below)) (omega (arith, below))) (λ p q v. later p (q .block) v (q .where-is))
