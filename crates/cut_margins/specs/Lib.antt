@@ -1,2 +1,3 @@
 pub mod Margins
 pub mod Promised
+pub mod Table
