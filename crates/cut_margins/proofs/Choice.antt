@@ -1,15 +1,13 @@
--- Who is chosen among the numbers a to b: the definition's walk, the walks of `split_placement`, and the edge up to which c stays
--- chosen. `chosen-of`, `chosen-first`, `chosen-last`, `edge-of`, `edge-above`. Assumes nothing.
+-- Who is chosen among the numbers a to b, by the definition's walk and by those of `split_placement`: `chosen-of`, `chosen-first`, `chosen-last`. Assumes nothing.
 use Prim.Native.Nat.{ℕ, zero, suc, _+_, _-_, _≤_, _<_}
 use native.Mathlib.Omega.{arith}
-use mathlib.Core.Path.{_≡_, refl, sym, ap, _∙_, subst}
-use mathlib.Core.Logic.{_⊎_, inl, inr}
-use mathlib.Core.Bool.{Bool, true, false, not, _&&_, cond}
+use mathlib.Core.Path.{_≡_, refl, sym, ap, subst}
+use mathlib.Core.Bool.{Bool, true, false, cond}
 use lib.Dec.{leb, ltb, eqb}
-use borrow.Author.Tests.{eqb-true, eqb-false, ltb-true, ltb-false, leb-true, leb-false, lt-ltb, le-ltb}
+use borrow.Author.Tests.{eqb-true, eqb-false, ltb-true, ltb-false, leb-true, leb-false, lt-ltb}
 use Rattle.definition.specs.declared.Side.{Side}
 use Rattle.definition.specs.declared.Side.the-variants.{Early, Late}
-use Rattle.definition.specs.CutMoves.{infinity, tie, chosenOf, edgeOf}
+use Rattle.definition.specs.CutMoves.{tie, chosenOf}
 use Rattle.split_placement.specs.Places.{firstLeast, lastLeast}
 use Rattle.split_placement.proofs.Walks.{FirstOf, LastOf, first-of, last-of}
 use Rattle.cut_margins.specs.Margins.{Chosen, tie-other, chosen-once}

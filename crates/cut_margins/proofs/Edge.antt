@@ -1,7 +1,7 @@
 -- The edge of the one chosen: the least that another one has, with the step that it lacks. `edge-of`, `edge-above`. Assumes nothing.
 use Prim.Native.Nat.{ℕ, zero, suc, _+_, _-_, _≤_, _<_}
 use native.Mathlib.Omega.{arith}
-use mathlib.Core.Path.{_≡_, refl, sym, ap, _∙_, subst}
+use mathlib.Core.Path.{_≡_, refl, sym, subst}
 use mathlib.Core.Logic.{_⊎_, inl, inr}
 use mathlib.Core.Bool.{Bool, true, false, not, _&&_, cond}
 use lib.Dec.{ltb, eqb}
@@ -50,11 +50,11 @@ module _ (side : Side) (f : ℕ → ℕ) (a c top : ℕ) where
       go true t d h =
           record {
             most = p .most;
-            least = λ k g u n. p .least k g (omega (arith, u, λ (q : k ≡ i). n (q ∙ eqb-true i c d))) n;
+            least = λ k g u n. p .least k g (omega (arith, u, n, eqb-true i c d)) n;
             is = still (p .is);
           }
       go false true d h =
-          let l : had i < e = ltb-true _ _ h in
+          let m : had i < e = ltb-true _ _ h in
           record {
             most = omega (arith, p .most);
             least = upto (had i) (omega arith) (omega arith);
@@ -79,9 +79,10 @@ module _ (side : Side) (f : ℕ → ℕ) (a c top : ℕ) where
       (record { most = omega arith; least = λ k g u n. absurd (omega arith); is = inl refl }))
 
 -- the edge lies above what the one chosen has
-pub edge-above : (side : Side) (f : ℕ → ℕ) (a b c e : ℕ) → Chosen side f a b c → f c < infinity → EdgeOf side f infinity a (suc b) c e → f c < e
-edge-above side f a b c e p h q = go (q .is)
+pub edge-above : (side : Side) (f : ℕ → ℕ) (a b c : ℕ) → Chosen side f a b c → f c < infinity
+    → f c < edgeOf side f c infinity a (suc b - a)
+edge-above side f a b c p h = go (edgeOf side f c infinity a (suc b - a)) (edge-of side f a c infinity b (omega (arith, p .low, p .high)) .is)
   where
-    go : (e ≡ infinity) ⊎ Rival side f a (suc b) c e → f c < e
-    go (inl x) = omega arith
-    go (inr r) = omega (arith, r .has, p .first (r .rival) (r .low) (omega (arith, r .high)) (r .other))
+    go : (e : ℕ) → (e ≡ infinity) ⊎ Rival side f a (suc b) c e → f c < e
+    go e (inl x) = omega arith
+    go e (inr r) = omega (arith, r .has, p .first (r .rival) (r .low) (omega (arith, r .high)) (r .other))
