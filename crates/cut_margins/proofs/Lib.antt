@@ -1,2 +1,4 @@
 pub mod Choice
 pub mod Edge
+pub mod Table
+pub mod Place
