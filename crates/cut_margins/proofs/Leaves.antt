@@ -17,6 +17,7 @@ use Rattle.function.specs.Blocks.{Starts}
 use Rattle.split_placement.specs.Places.{firstLeast, lastLeast}
 use Rattle.split_placement.proofs.Chosen.{Finds}
 use Rattle.cut_margins.specs.Table.{stepsIn}
+use Rattle.cut_margins.proofs.Choice.{chosen-first, chosen-last}
 
 -- ---- the open blocks
 
@@ -56,18 +57,6 @@ tie-late side i c e h = rw e (rw (lt-ltb c i h))
 
 pub tie-not-late : (side : Side) (i c : ℕ) → side ≡ Late → i ≤ c → 1 ≡ tie side i c
 tie-not-late side i c e h = rw e (rw (le-ltb c i h))
-
--- at most a step
-pub tie-small : (side : Side) (i c : ℕ) → tie side i c ≤ 1
-tie-small side i c = go side
-  where
-    one : (t : Bool) → cond t 0 1 ≤ 1
-    one true = omega arith
-    one false = omega arith
-
-    go : (s : Side) → tie s i c ≤ 1
-    go Early = one (ltb i c)
-    go Late = one (ltb c i)
 
 -- ---- the edge
 
@@ -121,42 +110,9 @@ module _ (side : Side) (f : ℕ → ℕ) (c e i : ℕ) where
 
 -- ---- the chosen block
 
--- which of c and the block behind j goes on: the code's test and the definition's
-early-pick : (f : ℕ → ℕ) (c j : ℕ) → c ≤ j
-    → cond (ltb (f (j + 1)) (f c)) (j + 1) c ≡ cond (leb (f (suc j) + tie Early (suc j) c) (f c)) (suc j) c
-early-pick f c j h = rw (add-one, le-ltb (suc j) c (omega arith)) (go (ltb (f (suc j)) (f c)) refl)
-  where
-    go : (t : Bool) → ltb (f (suc j)) (f c) ≡ t → cond t (suc j) c ≡ cond (leb (f (suc j) + 1) (f c)) (suc j) c
-    go true e = rw (le-leb (f (suc j) + 1) (f c) (omega (arith, ltb-true (f (suc j)) (f c) e)))
-    go false e = rw (lt-leb (f (suc j) + 1) (f c) (omega (arith, ltb-false (f (suc j)) (f c) e)))
-
-late-pick : (f : ℕ → ℕ) (c j : ℕ) → c ≤ j
-    → cond (ltb (f c) (f (j + 1))) c (j + 1) ≡ cond (leb (f (suc j) + tie Late (suc j) c) (f c)) (suc j) c
-late-pick f c j h = rw (add-one, lt-ltb c (suc j) (omega arith)) (go (ltb (f c) (f (suc j))) refl)
-  where
-    go : (t : Bool) → ltb (f c) (f (suc j)) ≡ t → cond t c (suc j) ≡ cond (leb (f (suc j) + 0) (f c)) (suc j) c
-    go true e = rw (lt-leb (f (suc j) + 0) (f c) (omega (arith, ltb-true (f c) (f (suc j)) e)))
-    go false e = rw (le-leb (f (suc j) + 0) (f c) (omega (arith, ltb-false (f c) (f (suc j)) e)))
-
-picked : (t : Bool) (c j : ℕ) → c ≤ j → cond t (suc j) c ≤ suc j
-picked true c j h = omega arith
-picked false c j h = omega arith
-
-first-walk : (f : ℕ → ℕ) (c j k : ℕ) → c ≤ j → firstLeast f c j k ≡ chosenOf Early f c j k
-unfolding firstLeast chosenOf
-first-walk f c j zero h = refl
-first-walk f c j (suc k) h =
-    rw (early-pick f c j h, add-one j) (first-walk f _ (suc j) k (picked (leb (f (suc j) + tie Early (suc j) c) (f c)) c j h))
-
-last-walk : (f : ℕ → ℕ) (c j k : ℕ) → c ≤ j → lastLeast f c j k ≡ chosenOf Late f c j k
-unfolding lastLeast chosenOf
-last-walk f c j zero h = refl
-last-walk f c j (suc k) h =
-    rw (late-pick f c j h, add-one j) (last-walk f _ (suc j) k (picked (leb (f (suc j) + tie Late (suc j) c) (f c)) c j h))
-
-module _ (f : ℕ → ℕ) (a b r : ℕ) (side : Side) where
+module _ (f : ℕ → ℕ) (a b r : ℕ) (side : Side) (h : a ≤ b) where
   pub chosen-early : side ≡ Early → r ≡ firstLeast f a a (b - a) → r ≡ chosenOf side f a a (b - a)
-  chosen-early e q = q ∙ first-walk f a a (b - a) (omega arith) ∙ ap (λ (x : Side). chosenOf x f a a (b - a)) (sym e)
+  chosen-early e q = q ∙ chosen-first f a b h ∙ ap (λ (x : Side). chosenOf x f a a (b - a)) (sym e)
 
   pub chosen-late : side ≡ Late → r ≡ lastLeast f a a (b - a) → r ≡ chosenOf side f a a (b - a)
-  chosen-late e q = q ∙ last-walk f a a (b - a) (omega arith) ∙ ap (λ (x : Side). chosenOf x f a a (b - a)) (sym e)
+  chosen-late e q = q ∙ chosen-last f a b h ∙ ap (λ (x : Side). chosenOf x f a a (b - a)) (sym e)

@@ -1,1 +1,5 @@
+pub mod Choice
+pub mod Edge
+pub mod Table
+pub mod Place
 pub mod Leaves

@@ -4,10 +4,10 @@ use Rattle.cut_margins.proofs.chosen.Statement.{statement}
 use Rattle.cut_margins.proofs.chosen.Tie as tie
 
 returns : tie.Need-returns
-returns c = chosen-early _ _ _ _ _ (c .before .enum-told .given .1) (c .first-least .ensures .0)
+returns c = chosen-early _ _ _ _ _ (omega arith) (c .before .enum-told .given .1) (c .first-least .ensures .0)
 
 returns-2 : tie.Need-returns-2
-returns-2 c = chosen-late _ _ _ _ _ (c .before .enum-told2 .given .1) (c .last-least .ensures .0)
+returns-2 c = chosen-late _ _ _ _ _ (omega arith) (c .before .enum-told2 .given .1) (c .last-least .ensures .0)
 
 pub chosen-spec : {M : Type 1} → statement M
 chosen-spec =
