@@ -80,7 +80,7 @@ fn lower(starts: &[u8], side: Side, i: Block, c: Block, e: u32) -> u32
 }
 
 // The edge of the chosen block c: the least that another of the blocks `from` to `to` has with its tie.
-pub fn edge(starts: &[u8], from: Block, to: Block, side: Side, c: Block) -> u32
+pub fn edge_of(starts: &[u8], from: Block, to: Block, side: Side, c: Block) -> u32
     requires { ⌜ (to .0 < 4294967295) × (to .0 * 2 + 2 ≤ wordCount (now starts)) × ((i : ℕ) → i ≤ to .0 → bits (wordsOf (now starts)) i < infinity) ⌝ }
     ensures { λ r. ⌜ r ≡ edgeOf side (bits (wordsOf (now (starts .entry)))) (c .0) infinity (from .0) (suc (to .0) - from .0) ⌝ }
 {
