@@ -52,16 +52,16 @@ module _ (W T T′ : List ℕ) (n a b r : ℕ) (e : T′ ≡ splice T 0 (startWo
 -- ---- readable or not
 
 module _ (s : List ℕ) (side : ℕ) where
-  no-side : 1 < side → readable s side ≡ false
+  pub no-side : 1 < side → readable s side ≡ false
   no-side h = not-l (leb side 1) (eqb (length s % 8) 0 && ltb 0 (length s)) (lt-leb side 1 h)
 
-  no-rows : (length s % 8 ≡ 0 → ⊥) → readable s side ≡ false
+  pub no-rows : (length s % 8 ≡ 0 → ⊥) → readable s side ≡ false
   no-rows h = not-r (leb side 1) (eqb (length s % 8) 0 && ltb 0 (length s)) (not-l (eqb (length s % 8) 0) (ltb 0 (length s)) (ne-eqb (length s % 8) 0 h))
 
-  no-block : length s ≡ 0 → readable s side ≡ false
+  pub no-block : length s ≡ 0 → readable s side ≡ false
   no-block h = not-r (leb side 1) (eqb (length s % 8) 0 && ltb 0 (length s)) (not-r (eqb (length s % 8) 0) (ltb 0 (length s)) (le-ltb 0 (length s) (omega arith)))
 
-  reads : side ≤ 1 → length s % 8 ≡ 0 → (length s ≡ 0 → ⊥) → readable s side ≡ true
+  pub reads : side ≤ 1 → length s % 8 ≡ 0 → (length s ≡ 0 → ⊥) → readable s side ≡ true
   reads h k l = both (leb side 1) (eqb (length s % 8) 0 && ltb 0 (length s)) (le-leb side 1 h) (both (eqb (length s % 8) 0) (ltb 0 (length s)) (eq-eqb (length s % 8) 0 k) (lt-ltb 0 (length s) (omega (arith, l))))
 
 -- ---- the answer

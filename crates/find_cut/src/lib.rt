@@ -17,14 +17,14 @@ pub struct Cut {
     pub inst: u32,
 }
 
-fn side_of(side: u32) -> Side
+pub fn side_of(side: u32) -> Side
     ensures { λ r. ⌜ r ≡ sideNamed side ⌝ }
 {
     if side == 0 { Side::Early } else { Side::Late }
 }
 
 // The tests of numbers 2 and 4: the first that fails, or 0.
-fn tested(blocks: &[u8], after: u32, before: u32) -> u32
+pub fn tested(blocks: &[u8], after: u32, before: u32) -> u32
     ensures { λ r. ⌜ r ≡ testNumber (now (blocks .entry)) after before ⌝ }
 {
     if 512 < blocks.len() / 8 {

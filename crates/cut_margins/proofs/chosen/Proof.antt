@@ -1,3 +1,4 @@
+use native.Mathlib.Omega.{arith}
 use Rattle.cut_margins.proofs.Leaves.{chosen-early, chosen-late}
 use borrow.Author.Needs.{needs}
 use Rattle.cut_margins.proofs.chosen.Statement.{statement}
