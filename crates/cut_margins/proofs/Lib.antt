@@ -2,4 +2,10 @@ pub mod Choice
 pub mod Edge
 pub mod Table
 pub mod Place
+pub mod Changed
+pub mod Moved
+pub mod Sorted
+pub mod Listed
+pub mod Rows
+pub mod Promises
 pub mod Leaves

@@ -1,0 +1,135 @@
+-- When a pattern moves the cut: exactly if another open block is chosen then. For any other open block, so low a one; for the one
+-- chosen, one from its edge on; for a block outside, none. Assumes nothing.
+use Prim.Native.Nat.{ℕ, suc, _+_, _-_, _≤_, _<_}
+use native.Mathlib.Omega.{arith}
+use mathlib.Core.Path.{_≡_, refl, sym, ap, _∙_, subst}
+use mathlib.Core.Logic.{_⊎_, inl, inr}
+use mathlib.Core.Bool.{Bool, true, false, cond}
+use mathlib.Core.List.{List}
+use lib.Dec.{leb, eqb}
+use lib.ListN.{length}
+use borrow.Author.Tests.{leb-true, leb-false}
+use Rattle.definition.specs.declared.Inst.{Inst}
+use Rattle.definition.specs.declared.BlockData.{BlockData}
+use Rattle.definition.specs.declared.Side.{Side}
+use Rattle.definition.specs.declared.Side.the-variants.{Early, Late}
+use Rattle.definition.specs.Entry.{sideOf}
+use Rattle.definition.specs.CutMoves.{Moves, withFrequency, infinity, patternOf, firstOpen, lastOpen, tie, chosenOf, edgeOf}
+use Rattle.function.specs.Blocks.{startOf, blockOf}
+use Rattle.cut_margins.specs.Margins.{changed, Chosen, other-moves, other-stays, own-moves, own-stays, outside-stays}
+use Rattle.cut_margins.specs.Promised.{Fair}
+use Rattle.cut_margins.proofs.Choice.{chosen-of, chosen-ext}
+use Rattle.cut_margins.proofs.Edge.{Rival, EdgeOf, edge-of}
+use Rattle.cut_margins.proofs.Table.{open-blocks}
+use Rattle.cut_margins.proofs.Place.{placeOf, place-is, place-once}
+use Rattle.cut_margins.proofs.Changed.{start-kept, block-kept, pattern-changed, fair-changed}
+
+-- ---- the open blocks and their places stay
+
+first-kept : (side : Side) (bs : List BlockData) (j x after : ℕ) → firstOpen side (withFrequency bs j x) after ≡ firstOpen side bs after
+unfolding firstOpen
+first-kept Early bs j x after = block-kept bs j x (suc after)
+first-kept Late bs j x after = block-kept bs j x after
+
+last-kept : (side : Side) (bs : List BlockData) (j x before : ℕ) → lastOpen side (withFrequency bs j x) before ≡ lastOpen side bs before
+unfolding lastOpen
+last-kept Early bs j x before = block-kept bs j x before
+last-kept Late bs j x before = block-kept bs j x (before - 1)
+
+place-kept : (side : Side) (bs : List BlockData) (j x after before c : ℕ)
+    → placeOf side (withFrequency bs j x) after before c ≡ placeOf side bs after before c
+place-kept Early bs j x after before c = rw (block-kept bs j x (suc after), start-kept bs j x c)
+place-kept Late bs j x after before c = rw (block-kept bs j x (before - 1), start-kept bs j x (suc c))
+
+module _ (bs : List BlockData) (after before : Inst) (side : Side) (p : Fair bs after before) where
+  abbrev f : ℕ → ℕ
+  f = patternOf bs
+
+  abbrev a : ℕ
+  a = firstOpen side bs (after .0)
+
+  abbrev b : ℕ
+  b = lastOpen side bs (before .0)
+
+  abbrev c : ℕ
+  c = chosenOf side f a a (b - a)
+
+  abbrev e : ℕ
+  e = edgeOf side f c infinity a (suc b - a)
+
+  pub chosen : Chosen side f a b c
+  chosen = chosen-of side f a b (open-blocks bs after before p side .0)
+
+  pub edge : EdgeOf side f infinity a (suc b) c e
+  edge = edge-of side f a c infinity b (open-blocks bs after before p side .0)
+
+  module _ (j x : ℕ) (h : x < infinity) where
+    -- the cut with x in block j is the place of the block that is chosen then
+    cut-then : (d : ℕ) → Chosen side (changed f j x) a b d → sideOf side (withFrequency bs j x) (after .0) (before .0) ≡ placeOf side bs (after .0) (before .0) d
+    cut-then d q = sym (place-is w after before (fair-changed x h bs after before j p) side d picked) ∙ place-kept side bs j x (after .0) (before .0) d
+      where
+        w : List BlockData
+        w = withFrequency bs j x
+
+        as-then : Chosen side (patternOf (withFrequency bs j x)) a b d
+        as-then = chosen-ext side (changed f j x) (patternOf (withFrequency bs j x)) a b d (λ i l u. sym (pattern-changed x h bs j i (omega (arith, open-blocks bs after before p side .1)))) q
+
+        picked : Chosen side (patternOf (withFrequency bs j x)) (firstOpen side (withFrequency bs j x) (after .0)) (lastOpen side (withFrequency bs j x) (before .0)) d
+        picked = rw (first-kept side bs j x (after .0), last-kept side bs j x (before .0)) as-then
+
+    cut-now : sideOf side bs (after .0) (before .0) ≡ placeOf side bs (after .0) (before .0) c
+    cut-now = sym (place-is bs after before p side c chosen)
+
+    stays : Chosen side (changed f j x) a b c → Moves bs after before side j x → ⊥
+    stays q m = m (cut-then c q ∙ sym cut-now)
+
+    moves : ((d : ℕ) → Chosen side (changed f j x) a b d → c ≡ d → ⊥) → Moves bs after before side j x
+    moves n s =
+        let d = chosenOf side (changed f j x) a a (b - a) in
+        let q : Chosen side (changed f j x) a b d = chosen-of side (changed f j x) a b (open-blocks bs after before p side .0) in
+        n d q (place-once bs after before p side c d (chosen .low) (chosen .high) (q .low) (q .high) (sym cut-now ∙ sym s ∙ cut-then d q))
+
+    -- ---- another open block than c: all patterns that come below c's, and no others
+
+    pub low-moves : a ≤ j → j ≤ b → (j ≡ c → ⊥) → x + tie side j c ≤ f c → Moves bs after before side j x
+    low-moves l u n s = moves (λ d q. other-moves side f a b c j x d l u n q s)
+
+    pub moves-low : (j ≡ c → ⊥) → Moves bs after before side j x → x + tie side j c ≤ f c
+    moves-low n m = go (leb (x + tie side j c) (f c)) refl
+      where
+        go : (t : Bool) → leb (x + tie side j c) (f c) ≡ t → x + tie side j c ≤ f c
+        go true q = leb-true _ _ q
+        go false q = absurd (stays (other-stays side f a b c j x chosen n (leb-false _ _ q)) m)
+
+    -- ---- a block outside: none
+
+    pub moves-open : Moves bs after before side j x → (a ≤ j) × (j ≤ b)
+    moves-open m = go (leb a j) (leb j b) refl refl
+      where
+        outside : (a ≤ j → j ≤ b → ⊥) → ⊥
+        outside o = stays (outside-stays side f a b c j x chosen o) m
+
+        go : (s t : Bool) → leb a j ≡ s → leb j b ≡ t → (a ≤ j) × (j ≤ b)
+        go true true q r = (leb-true a j q, leb-true j b r)
+        go true false q r = absurd (outside (λ l u. omega (arith, leb-false j b r)))
+        go false t q r = absurd (outside (λ l u. omega (arith, leb-false a j q)))
+
+  -- ---- c itself: all patterns from its edge on, and no others
+
+  module _ (x : ℕ) (h : x < infinity) where
+    pub high-moves : e ≤ x → Moves bs after before side c x
+    high-moves s = moves c x h (λ d q. go (edge .is) d q)
+      where
+        go : (e ≡ infinity) ⊎ Rival side f a (suc b) c e → (d : ℕ) → Chosen side (changed f c x) a b d → c ≡ d → ⊥
+        go (inl k) d q = absurd (omega (arith, k))
+        go (inr r) d q = own-moves side f a b c x d (r .rival) (r .low) (omega (arith, r .high)) (r .other) q (omega (arith, r .has))
+
+    pub moves-high : Moves bs after before side c x → e ≤ x
+    moves-high m = go (leb e x) refl
+      where
+        below : x < e → (i : ℕ) → a ≤ i → i ≤ b → (i ≡ c → ⊥) → x < f i + tie side i c
+        below k i l u n = omega (arith, edge .least i l (omega arith) n)
+
+        go : (t : Bool) → leb e x ≡ t → e ≤ x
+        go true q = leb-true e x q
+        go false q = absurd (stays c x h (own-stays side f a b c x (chosen .low) (chosen .high) (below (leb-false e x q))) m)
