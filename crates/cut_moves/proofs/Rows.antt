@@ -8,16 +8,17 @@ use mathlib.Core.Bool.{Bool, true, false, cond}
 use mathlib.Core.Option.{Option, none, some}
 use mathlib.Core.List.{List, [], _∷_, _++_, append-assoc, append-nil}
 use lib.Dec.{eqb, ltb}
-use lib.ListN.{length, take, drop, replicate, length-append, take-append-drop}
+use lib.ListN.{length, replicate, length-append}
 use borrow.Author.Tests.{eq-eqb, ne-eqb, eqb-true, eqb-false, ltb-true, ltb-false}
 use Rattle.definition.specs.declared.CutMove.{CutMove}
 use Rattle.definition.specs.declared.Side.{Side}
 use Rattle.definition.specs.declared.Way.the-variants.{Up, Down}
 use Rattle.definition.specs.CutMoves.{infinity, tie, moveOf, movesFrom, wayNumber}
 use Rattle.rows.specs.Parts.{splice, pad, pad-splice, pad-none}
+use Rattle.merge_sort.proofs.Tables.{splice-none}
 use Rattle.cut_margins.specs.Margins.{Chosen}
 use Rattle.cut_margins.specs.Table.{stepsIn}
-use Rattle.cut_moves.specs.Answer.{moveWords, rowOf}
+use Rattle.cut_moves.specs.Answer.{moveWords, moveRow}
 
 pub words-append : (ms ns : List CutMove) → moveWords (ms ++ ns) ≡ moveWords ms ++ moveWords ns
 unfolding moveWords
@@ -38,13 +39,13 @@ pub way-down : (i c : ℕ) → (i ≡ c → ⊥) → _≡_ {A = ℕ} 1 (cond (eq
 way-down i c n = rw (ne-eqb i c n)
 
 module _ (W : List ℕ) (k i c steps : ℕ) where
-  pub put-none : steps ≡ 0 → (k ≡ k + cond (eqb steps 0) 0 1) × (W ≡ splice W (k * 3) (rowOf i c steps))
-  unfolding rowOf splice
-  put-none e = let z : k * 3 + 0 ≡ k * 3 = omega arith in rw (eq-eqb steps 0 e) (omega arith, sym (rw z (take-append-drop (k * 3) W)))
+  pub put-none : steps ≡ 0 → (k ≡ k + cond (eqb steps 0) 0 1) × (W ≡ splice W (k * 3) (moveRow i c steps))
+  unfolding moveRow
+  put-none e = rw (eq-eqb steps 0 e) (omega arith, splice-none W (k * 3))
 
   pub put-one : (X : List ℕ) (w : ℕ) → (steps ≡ 0 → ⊥) → w ≡ cond (eqb i c) 0 1 → X ≡ splice W (k * 3) (i ∷ w ∷ steps ∷ [])
-      → (k + 1 ≡ k + cond (eqb steps 0) 0 1) × (X ≡ splice W (k * 3) (rowOf i c steps))
-  unfolding rowOf
+      → (k + 1 ≡ k + cond (eqb steps 0) 0 1) × (X ≡ splice W (k * 3) (moveRow i c steps))
+  unfolding moveRow
   put-one X w n e q = rw (ne-eqb steps 0 n) (refl, q ∙ ap (λ (v : ℕ). splice W (k * 3) (i ∷ v ∷ steps ∷ [])) e)
 
 -- ---- the row of a move
@@ -60,11 +61,11 @@ chosen-within {side} {f} {a} {b} {c} i p g h = go (eqb i c) refl
 -- block i has no move and no steps; or it has one, whose row is put
 data Row (side : Side) (f : ℕ → ℕ) (c e i steps : ℕ) : Type 0 where
   no-row : moveOf side f c e i ≡ none → steps ≡ 0 → Row side f c e i steps
-  row : (m : CutMove) → moveOf side f c e i ≡ some m → (steps ≡ 0 → ⊥) → rowOf i c steps ≡ moveWords (m ∷ []) → Row side f c e i steps
+  row : (m : CutMove) → moveOf side f c e i ≡ some m → (steps ≡ 0 → ⊥) → moveRow i c steps ≡ moveWords (m ∷ []) → Row side f c e i steps
 
 row-is : (i c steps : ℕ) (m : CutMove) → (steps ≡ 0 → ⊥) → i ≡ m .block .0 → cond (eqb i c) 0 1 ≡ wayNumber (m .way) → steps ≡ m .steps
-    → rowOf i c steps ≡ moveWords (m ∷ [])
-unfolding rowOf moveWords
+    → moveRow i c steps ≡ moveWords (m ∷ [])
+unfolding moveRow moveWords
 row-is i c steps m n b w q = rw (ne-eqb steps 0 n) (λ x. b x ∷ w x ∷ q x ∷ [])
 
 module _ (side : Side) (f : ℕ → ℕ) (a b c e i : ℕ) (p : Chosen side f a b c) (l : f c < e) (g : a ≤ i) (h : i ≤ b) where
@@ -96,12 +97,12 @@ module _ (side : Side) (f : ℕ → ℕ) (a b c e i : ℕ) (p : Chosen side f a 
 -- ---- the loop
 
 -- a move, if there is one, before others
-first : Option CutMove → List CutMove → List CutMove
+pub first : Option CutMove → List CutMove → List CutMove
 first none ms = ms
 first (some m) ms = m ∷ ms
 
 module _ (side : Side) (f : ℕ → ℕ) (c e i j : ℕ) where
-  moves-more : movesFrom side f c e i (suc j) ≡ first (moveOf side f c e i) (movesFrom side f c e (suc i) j)
+  pub moves-more : movesFrom side f c e i (suc j) ≡ first (moveOf side f c e i) (movesFrom side f c e (suc i) j)
   unfolding movesFrom first
   moves-more = go (moveOf side f c e i)
     where
@@ -133,7 +134,7 @@ put-first side f c e lo end n W z =
 
 module _ {side : Side} {f : ℕ → ℕ} {c e lo end n k i : ℕ} {W : List ℕ} (s : Putting side f c e lo end n k i W) where
   pub put-next : (b steps r : ℕ) (X : List ℕ) → Chosen side f lo b c → f c < e → i < end → end ≡ b + 1 → steps ≡ stepsIn (moveOf side f c e i)
-      → r ≡ k + cond (eqb steps 0) 0 1 → X ≡ splice W (k * 3) (rowOf i c steps) → Putting side f c e lo end n r (i + 1) X
+      → r ≡ k + cond (eqb steps 0) 0 1 → X ≡ splice W (k * 3) (moveRow i c steps) → Putting side f c e lo end n r (i + 1) X
   unfolding first
   put-next b steps r X p l h u q ek ew = go (row-of side f lo b c e i p l (s .past) (omega arith) steps q)
     where

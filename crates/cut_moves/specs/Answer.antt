@@ -55,5 +55,5 @@ unfolding movesAt endOf
 movesNumber s after before side places = endOf (movesAt s after before side places) .number
 
 -- block i's row, c being the chosen block; none for 0 steps
-unfoldable pub rowOf : ℕ → ℕ → ℕ → List ℕ
-rowOf i c steps = cond (eqb steps 0) [] (i ∷ cond (eqb i c) 0 1 ∷ steps ∷ [])
+unfoldable pub moveRow : ℕ → ℕ → ℕ → List ℕ
+moveRow i c steps = cond (eqb steps 0) [] (i ∷ cond (eqb i c) 0 1 ∷ steps ∷ [])
