@@ -1,5 +1,5 @@
--- One block's frequency changed: 01 accepts the blocks still, and the open ones and their places are the same. `fair-changed`,
--- `pattern-changed`, `first-kept`, `last-kept`, `place-kept`. Assumes nothing.
+-- One block's frequency changed: 01 accepts the blocks still, and the open ones and their places are the same.
+-- `fair-changed`, `pattern-changed`, `first-kept`, `last-kept`, `place-kept`. Assumes nothing.
 use Prim.Native.Nat.{ℕ, zero, suc, _+_, _-_, _<_}
 use native.Mathlib.Omega.{arith}
 use mathlib.Core.Path.{_≡_, refl, sym, ap, _∙_, subst}
@@ -105,9 +105,9 @@ module _ (x : ℕ) (h : x < infinity) where
   all-ok [] j e = refl
   all-ok (b ∷ bs) zero e =
       let d : BlockData = record { insts = b .insts; frequency = ofBits binary32 x } in
-      let g : blockOk d ≡ true =
-      block-passes d (block-filled b (and-l (blockOk b) (every blockOk bs) e)) (is-true (plain (ofBits binary32 x)) (bits-plain x h)) in
-      both (blockOk d) (every blockOk bs) g (and-r (blockOk b) (every blockOk bs) e)
+      let l = block-filled b (and-l (blockOk b) (every blockOk bs) e) in
+      let q = is-true (plain (ofBits binary32 x)) (bits-plain x h) in
+      both (blockOk d) (every blockOk bs) (block-passes d l q) (and-r (blockOk b) (every blockOk bs) e)
   all-ok (b ∷ bs) (suc j) e =
       both (blockOk b) _ (and-l (blockOk b) (every blockOk bs) e) (all-ok bs j (and-r (blockOk b) (every blockOk bs) e))
 

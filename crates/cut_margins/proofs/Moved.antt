@@ -1,6 +1,6 @@
--- When a pattern moves the cut: exactly if another open block is chosen then. So in another open block than the one chosen, a
--- low one does; in the one chosen, one from its edge on; in a block outside, none. `low-moves`, `moves-low`, `high-moves`,
--- `moves-high`, `moves-open`. Assumes nothing.
+-- When a pattern moves the cut: exactly if another open block is chosen then. So in another open block than the one
+-- chosen, a low one does; in the one chosen, one from its edge on; in a block outside, none. `low-moves`, `moves-low`,
+-- `high-moves`, `moves-high`, `moves-open`. Assumes nothing.
 use Prim.Native.Nat.{ℕ, suc, _+_, _-_, _≤_, _<_}
 use native.Mathlib.Omega.{arith}
 use mathlib.Core.Path.{_≡_, refl, sym, _∙_}
@@ -8,14 +8,15 @@ use mathlib.Core.Logic.{_⊎_, inl, inr}
 use mathlib.Core.Bool.{Bool, true, false}
 use mathlib.Core.List.{List}
 use lib.Dec.{leb}
-use lib.ListN.{length}
 use borrow.Author.Tests.{leb-true, leb-false}
 use Rattle.definition.specs.declared.Inst.{Inst}
 use Rattle.definition.specs.declared.BlockData.{BlockData}
 use Rattle.definition.specs.declared.Side.{Side}
 use Rattle.definition.specs.Entry.{sideOf}
-use Rattle.definition.specs.CutMoves.{Moves, withFrequency, infinity, patternOf, firstOpen, lastOpen, tie, chosenOf, edgeOf}
-use Rattle.cut_margins.specs.Margins.{changed, Chosen, other-moves, other-stays, own-moves, own-stays, outside-stays}
+use Rattle.definition.specs.CutMoves.{Moves, withFrequency, infinity, patternOf, firstOpen, lastOpen}
+use Rattle.definition.specs.CutMoves.{tie, chosenOf, edgeOf}
+use Rattle.cut_margins.specs.Margins.{changed, Chosen, other-moves, other-stays, own-moves, own-stays}
+use Rattle.cut_margins.specs.Margins.{outside-stays}
 use Rattle.cut_margins.specs.Promised.{Fair}
 use Rattle.cut_margins.proofs.Choice.{chosen-of, chosen-ext}
 use Rattle.cut_margins.proofs.Edge.{Rival, EdgeOf, edge-of}
@@ -65,10 +66,10 @@ module _ (bs : List BlockData) (after before : Inst) (side : Side) (p : Fair bs 
     picked : (d : ℕ) → Chosen side (changed f j x) a b d → Pick new after before side d
     picked d q =
         rw (first-kept bs j x side (after .0), last-kept bs j x side (before .0))
-        (chosen-ext side (changed f j x) (patternOf new) a b d (λ i l u. sym (pattern-changed x h bs j i (there i u))) q)
+        (chosen-ext side (changed f j x) (patternOf new) a b d (λ i l u. sym (same i u)) q)
       where
-        there : (i : ℕ) → i ≤ b → i < length bs
-        there i u = omega (arith, open-blocks bs after before p side .1)
+        same : (i : ℕ) → i ≤ b → patternOf new i ≡ changed f j x i
+        same i u = pattern-changed x h bs j i (omega (arith, open-blocks bs after before p side .1))
 
     cut-then : (d : ℕ) → Chosen side (changed f j x) a b d → place d ≡ sideOf side new (after .0) (before .0)
     cut-then d q =

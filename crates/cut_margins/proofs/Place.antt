@@ -22,13 +22,15 @@ use Rattle.split_placement.proofs.Chosen.{early-first, early-later, late-last, 
 use Rattle.cut_margins.specs.Margins.{Chosen}
 use Rattle.cut_margins.specs.Promised.{Fair}
 use Rattle.cut_margins.proofs.Choice.{chosen-ext, chosen-is-first, chosen-is-last}
-use Rattle.cut_margins.proofs.Table.{tableOf, table-bits, starts, rises, early-lo, early-hi, late-lo, late-hi, open-blocks}
+use Rattle.cut_margins.proofs.Table.{tableOf, table-bits, starts, rises, open-blocks}
+use Rattle.cut_margins.proofs.Table.{early-lo, early-hi, late-lo, late-hi}
 
 -- c is chosen among the open blocks
 abbrev pub Pick : List BlockData → Inst → Inst → Side → ℕ → Type 0
 Pick bs after before side c = Chosen side (patternOf bs) (firstOpen side bs (after .0)) (lastOpen side bs (before .0)) c
 
--- an open block's place: early, `after`+1 in the first, in any other its start; late, `before` in the last, in any other its end
+-- an open block's place: early, `after`+1 in the first, in any other its start; late, `before` in the last, in any
+-- other its end
 abbrev pub placeOf : Side → List BlockData → ℕ → ℕ → ℕ → ℕ
 placeOf Early bs after before c = cond (eqb c (blockOf bs (suc after))) (suc after) (startOf bs c)
 placeOf Late bs after before c = cond (eqb c (blockOf bs (before - 1))) before (startOf bs (suc c))

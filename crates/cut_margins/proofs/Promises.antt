@@ -21,7 +21,8 @@ off-apart Down own k x h = omega arith
 
 module _ (bs : List BlockData) (after before : Inst) (side : Side) (p : Fair bs after before) where
   -- A block is left off "exactly if no finite frequency from zero up moves the cut".
-  -- Ruled out: a list of all the open blocks, also of one that would have to go below zero; a list without the block chosen.
+  -- Ruled out: a list of all the open blocks, also of one that would have to go below zero; a list without the block
+  -- chosen.
   pub moves-listed : (j : ℕ) → (Named (cutMoves bs after before side) j → Movable bs after before side j)
       × (Movable bs after before side j → Named (cutMoves bs after before side) j)
   moves-listed j = (movable, λ m. movable-named bs after before side p j (m .pattern) (m .finite) (m .moves))
@@ -33,14 +34,14 @@ module _ (bs : List BlockData) (after before : Inst) (side : Side) (p : Fair bs 
           (record { pattern = _; finite = r .finite; moves = r .moves })
 
   -- An empty list says that no block's frequency by itself moves the cut.
-  -- Ruled out: an empty list where two open blocks have one frequency; one where the block chosen has frequency zero and can
-  -- go up.
+  -- Ruled out: an empty list where two open blocks have one frequency; one where the block chosen has frequency zero
+  -- and can go up.
   pub moves-none : cutMoves bs after before side ≡ [] → (j x : ℕ) → x < infinity → Moves bs after before side j x → ⊥
   moves-none g j x h m = omega (arith, movable-named bs after before side p j x h m .there, ap length g)
 
-  -- "the way, up or down, and the fewest f32 steps needed": so many steps move the cut, fewer do not, more do, and none do the
-  -- other way.
-  -- Ruled out: the difference of the two patterns alone, which is one too few where the block is not ahead; a row that has
+  -- "the way, up or down, and the fewest f32 steps needed": so many steps move the cut, fewer do not, more do, and none
+  -- do the other way.
+  -- Ruled out: the difference of the two patterns alone, one too few where the block is not ahead; a row that has
   -- another block than the one chosen go up.
   pub moves-fewest : (k : ℕ) → k < length (cutMoves bs after before side)
       → Fewest bs after before side (moveAt (cutMoves bs after before side) k)

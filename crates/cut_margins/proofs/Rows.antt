@@ -1,4 +1,5 @@
--- The rows of the definition's list, by what moves the cut: `list-fewest`, `movable-named`, `list-order`. Assumes nothing.
+-- The rows of the definition's list, by what moves the cut: `list-fewest`, `movable-named`, `list-order`.
+-- Assumes nothing.
 use Prim.Native.Nat.{ℕ, suc, _+_, _-_, _≤_, _<_}
 use native.Mathlib.Omega.{arith}
 use mathlib.Core.Path.{_≡_, refl, sym, ap, _∙_, subst}
@@ -81,7 +82,9 @@ module _ (bs : List BlockData) (after before : Inst) (side : Side) (p : Fair bs 
 
   pub list-fewest : (k : ℕ) → k < length list → Fewest bs after before side (moveAt list k)
   unfolding cutMoves
-  list-fewest k h = row-fewest (moveAt list k) (listed-row side f a b c (some-open bs after before side p) _ (at-member list k noMove h))
+  list-fewest k h =
+      let m = at-member list k noMove h in
+      row-fewest (moveAt list k) (listed-row side f a b c (some-open bs after before side p) _ m)
 
   -- ---- a block that can move the cut has a row
 
@@ -98,7 +101,8 @@ module _ (bs : List BlockData) (after before : Inst) (side : Side) (p : Fair bs 
       among = moves-open bs after before side p j x h m
 
       named : (w : CutMove) → blockOfMove w ≡ j → Row side f c e j w → Named list j
-      named w g r = member-named w j g (row-listed side f a b c (some-open bs after before side p) j w (among .0) (among .1) r)
+      named w g r =
+          member-named w j g (row-listed side f a b c (some-open bs after before side p) j w (among .0) (among .1) r)
 
       go : (t : Bool) → eqb j c ≡ t → Named list j
       go true q =

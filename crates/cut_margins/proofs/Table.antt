@@ -81,6 +81,8 @@ module _ (bs : List BlockData) (after before : Inst) (p : Fair bs after before) 
       × (lastOpen side bs (before .0) < length bs)
   unfolding firstOpen lastOpen
   open-blocks Early =
-      (lo-hi (tableOf bs) 0 bs starts (after .0) (before .0) _ _ (p .order) (p .within) early-lo early-hi, early-hi .there)
+      let r = lo-hi (tableOf bs) 0 bs starts (after .0) (before .0) _ _ (p .order) (p .within) early-lo early-hi in
+      (r, early-hi .there)
   open-blocks Late =
-      (late-lo-hi (tableOf bs) 0 bs starts (after .0) (before .0) _ _ (p .order) (p .within) late-lo late-hi, late-hi .there)
+      let r = late-lo-hi (tableOf bs) 0 bs starts (after .0) (before .0) _ _ (p .order) (p .within) late-lo late-hi in
+      (r, late-hi .there)
