@@ -1,4 +1,5 @@
--- Who is chosen among the numbers a to b, by the definition's walk and by those of `split_placement`: `chosen-of`, `chosen-first`, `chosen-last`. Assumes nothing.
+-- Who is chosen among the numbers a to b, by the definition's walk and by those of `split_placement`: `chosen-of`,
+-- `chosen-first`, `chosen-last`. Assumes nothing.
 use Prim.Native.Nat.{ℕ, zero, suc, _+_, _-_, _≤_, _<_}
 use native.Mathlib.Omega.{arith}
 use mathlib.Core.Path.{_≡_, refl, sym, ap, subst}
@@ -46,12 +47,18 @@ chosen-more side f a j c p = go (leb (f (suc j) + tie side (suc j) c) (f c)) ref
     over i h n = omega arith
 
     go : (t : Bool) → leb (f (suc j) + tie side (suc j) c) (f c) ≡ t → Chosen side f a (suc j) (cond t (suc j) c)
-    go true e = record { low = omega (arith, p .low, p .high); high = omega arith; first = λ i l h n. ahead i l h n (eqb i c) refl }
+    go true e =
+        record {
+          low = omega (arith, p .low, p .high);
+          high = omega arith;
+          first = λ i l h n. ahead i l h n (eqb i c) refl;
+        }
       where
         lower : f (suc j) + tie side (suc j) c ≤ f c
         lower = leb-true _ _ e
 
-        ahead : (i : ℕ) → a ≤ i → i ≤ suc j → (i ≡ suc j → ⊥) → (s : Bool) → eqb i c ≡ s → f (suc j) < f i + tie side i (suc j)
+        ahead : (i : ℕ) → a ≤ i → i ≤ suc j → (i ≡ suc j → ⊥) → (s : Bool) → eqb i c ≡ s
+            → f (suc j) < f i + tie side i (suc j)
         ahead i l h n true r =
             let k : i ≡ c = eqb-true i c r in
             let g : f i ≡ f c = ap f k in
@@ -59,13 +66,20 @@ chosen-more side f a j c p = go (leb (f (suc j) + tie side (suc j) c) (f c)) ref
             omega (arith, lower, g, u, tie-other side i (suc j) n)
         ahead i l h n false r =
             omega (arith, lower, p .first i l (over i h n) (eqb-false i c r), tie-through side i (suc j) c)
-    go false e = record { low = p .low; high = omega (arith, p .high); first = λ i l h n. ahead i l h n (eqb i (suc j)) refl }
+    go false e =
+        record {
+          low = p .low;
+          high = omega (arith, p .high);
+          first = λ i l h n. ahead i l h n (eqb i (suc j)) refl;
+        }
       where
         ahead : (i : ℕ) → a ≤ i → i ≤ suc j → (i ≡ c → ⊥) → (s : Bool) → eqb i (suc j) ≡ s → f c < f i + tie side i c
-        ahead i l h n true r = subst (λ (k : ℕ). f c < f k + tie side k c) (sym (eqb-true i (suc j) r)) (leb-false _ _ e)
+        ahead i l h n true r =
+            subst (λ (k : ℕ). f c < f k + tie side k c) (sym (eqb-true i (suc j) r)) (leb-false _ _ e)
         ahead i l h n false r = p .first i l (over i h (eqb-false i (suc j) r)) n
 
-chosen-from : (side : Side) (f : ℕ → ℕ) (a c j k : ℕ) → Chosen side f a j c → Chosen side f a (j + k) (chosenOf side f c j k)
+chosen-from : (side : Side) (f : ℕ → ℕ) (a c j k : ℕ) → Chosen side f a j c
+    → Chosen side f a (j + k) (chosenOf side f c j k)
 unfolding chosenOf
 chosen-from side f a c j zero p = let e : j + 0 ≡ j = omega arith in subst (λ (n : ℕ). Chosen side f a n c) (sym e) p
 chosen-from side f a c j (suc k) p =
@@ -106,17 +120,15 @@ chosen-least side f a b c p i l h = go (eqb i c) refl
     go true e = omega (arith, ap f (eqb-true i c e))
     go false e = omega (arith, p .first i l h (eqb-false i c e), tie-most side i c)
 
--- who is ahead has more
-chosen-ahead : (side : Side) (f : ℕ → ℕ) (a b c : ℕ) → Chosen side f a b c → (i : ℕ) → a ≤ i → i ≤ b → (i ≡ c → ⊥) → tie side i c ≡ 0 → f c < f i
-chosen-ahead side f a b c p i l h n e = omega (arith, p .first i l h n)
-
 pub chosen-is-first : {f : ℕ → ℕ} {a b c : ℕ} → Chosen Early f a b c → FirstOf f a b c
 chosen-is-first {f} {a} {b} {c} p =
     record {
       low = p .low;
       high = p .high;
       least = chosen-least Early f a b c p;
-      first = λ i l h. chosen-ahead Early f a b c p i l (omega (arith, p .high)) (omega arith) (rw (lt-ltb i c h));
+      first = λ i l h.
+          let t : tie Early i c ≡ 0 = rw (lt-ltb i c h) in
+          omega (arith, p .first i l (omega (arith, p .high)) (omega arith));
     }
 
 pub chosen-is-last : {f : ℕ → ℕ} {a b c : ℕ} → Chosen Late f a b c → LastOf f a b c
@@ -125,7 +137,9 @@ chosen-is-last {f} {a} {b} {c} p =
       low = p .low;
       high = p .high;
       least = chosen-least Late f a b c p;
-      last = λ i h u. chosen-ahead Late f a b c p i (omega (arith, p .low)) u (omega arith) (rw (lt-ltb c i h));
+      last = λ i h u.
+          let t : tie Late i c ≡ 0 = rw (lt-ltb c i h) in
+          omega (arith, p .first i (omega (arith, p .low)) u (omega arith));
     }
 
 pub chosen-first : (f : ℕ → ℕ) (a b : ℕ) → a ≤ b → firstLeast f a a (b - a) ≡ chosenOf Early f a a (b - a)
@@ -135,7 +149,8 @@ pub chosen-last : (f : ℕ → ℕ) (a b : ℕ) → a ≤ b → lastLeast f a a 
 chosen-last f a b h = chosen-once Late f a b _ _ (last-chosen (last-of f a b h)) (chosen-of Late f a b h)
 
 -- what is chosen turns on f at a to b alone
-pub chosen-ext : (side : Side) (f g : ℕ → ℕ) (a b c : ℕ) → ((i : ℕ) → a ≤ i → i ≤ b → f i ≡ g i) → Chosen side f a b c → Chosen side g a b c
+pub chosen-ext : (side : Side) (f g : ℕ → ℕ) (a b c : ℕ) → ((i : ℕ) → a ≤ i → i ≤ b → f i ≡ g i) → Chosen side f a b c
+    → Chosen side g a b c
 chosen-ext side f g a b c e p =
     record {
       low = p .low;

@@ -1,4 +1,5 @@
--- The edge of the one chosen: the least that another one has, with the step that it lacks. `edge-of`, `edge-above`. Assumes nothing.
+-- The edge of the one chosen: the least that another one has, with the step that it lacks. `edge-of`, `edge-above`.
+-- Assumes nothing.
 use Prim.Native.Nat.{ℕ, zero, suc, _+_, _-_, _≤_, _<_}
 use native.Mathlib.Omega.{arith}
 use mathlib.Core.Path.{_≡_, refl, sym, subst}
@@ -26,13 +27,15 @@ pub record EdgeOf (side : Side) (f : ℕ → ℕ) (top a n c e : ℕ) : Type 0 w
 
 module _ (side : Side) (f : ℕ → ℕ) (a c top : ℕ) where
   rival-more : (e i : ℕ) → Rival side f a i c e → Rival side f a (suc i) c e
-  rival-more e i r = record { rival = r .rival; low = r .low; high = omega (arith, r .high); other = r .other; has = r .has }
+  rival-more e i r =
+      record { rival = r .rival; low = r .low; high = omega (arith, r .high); other = r .other; has = r .has }
 
   abbrev had : ℕ → ℕ
   had i = f i + tie side i c
 
   -- one number more
-  edge-more : (e i : ℕ) → a ≤ i → EdgeOf side f top a i c e → EdgeOf side f top a (suc i) c (cond (not (eqb i c) && ltb (had i) e) (had i) e)
+  edge-more : (e i : ℕ) → a ≤ i → EdgeOf side f top a i c e
+      → EdgeOf side f top a (suc i) c (cond (not (eqb i c) && ltb (had i) e) (had i) e)
   edge-more e i l p = go (eqb i c) (ltb (had i) e) refl refl
     where
       upto : (x : ℕ) → x ≤ e → x ≤ had i → (k : ℕ) → a ≤ k → k < suc i → (k ≡ c → ⊥) → x ≤ had k
@@ -81,7 +84,7 @@ module _ (side : Side) (f : ℕ → ℕ) (a c top : ℕ) where
 -- the edge lies above what the one chosen has
 pub edge-above : (side : Side) (f : ℕ → ℕ) (a b c : ℕ) → Chosen side f a b c → f c < infinity
     → f c < edgeOf side f c infinity a (suc b - a)
-edge-above side f a b c p h = go (edgeOf side f c infinity a (suc b - a)) (edge-of side f a c infinity b (omega (arith, p .low, p .high)) .is)
+edge-above side f a b c p h = go _ (edge-of side f a c infinity b (omega (arith, p .low, p .high)) .is)
   where
     go : (e : ℕ) → (e ≡ infinity) ⊎ Rival side f a (suc b) c e → f c < e
     go e (inl x) = omega arith

@@ -1,22 +1,26 @@
--- Which rows the definition's list has, by open blocks: `Row`, `listed-row`, `row-listed`, `listed-order`. Assumes nothing.
+-- Which rows the definition's list has, and in which order: `Row`, `listed-row`, `row-listed`, `listed-order`.
+-- Assumes nothing.
 use Prim.Native.Nat.{ℕ, zero, suc, _+_, _-_, _≤_, _<_}
 use native.Mathlib.Omega.{arith}
 use mathlib.Core.Path.{_≡_, refl, sym, ap, _∙_, subst}
 use mathlib.Core.Logic.{_⊎_, inl, inr}
 use mathlib.Core.Bool.{Bool, true, false, cond}
 use mathlib.Core.Option.{Option, none, some}
-use mathlib.Core.List.{List, [], _∷_, List·Memᴰ as In, List·Memᴰ·head as here, List·Memᴰ·tail as further, List·Memᴰ·not-nil as none-in, List·Memᴰ·cases-cons as head-or-rest}
+use mathlib.Core.List.{List, _∷_, List·Memᴰ as In, List·Memᴰ·head as here, List·Memᴰ·tail as further}
+use mathlib.Core.List.{List·Memᴰ·not-nil as none-in, List·Memᴰ·cases-cons as head-or-rest}
 use lib.Dec.{ltb, eqb}
-use lib.ListN.{length, getD}
 use borrow.Author.Tests.{eqb-true, eqb-false, ltb-true, ltb-false, eq-eqb, ne-eqb, lt-ltb, le-ltb}
 use Rattle.definition.specs.declared.Side.{Side}
 use Rattle.definition.specs.declared.CutMove.{CutMove}
 use Rattle.definition.specs.declared.Way.the-variants.{Up, Down}
-use Rattle.definition.specs.CutMoves.{infinity, tie, moveOf, movesFrom, stepsOf, sorted, movesAmong, edgeOf}
+use Rattle.definition.specs.CutMoves.{infinity, tie, moveOf, movesFrom, stepsOf, movesAmong, edgeOf}
 use Rattle.cut_margins.proofs.Sorted.{Pairs, Before, in-sorted, sorted-in, sorted-before}
 
 abbrev pub blockOfMove : CutMove → ℕ
 blockOfMove m = m .block .0
+
+abbrev Rising : CutMove → CutMove → Type 0
+Rising x y = blockOfMove x < blockOfMove y
 
 no-row : (m : CutMove) → none ≡ some m → ⊥
 no-row m q = let z : _≡_ {A = ℕ} 0 1 = cc in omega arith
@@ -72,11 +76,14 @@ module _ (side : Side) (f : ℕ → ℕ) (c e : ℕ) where
   from-row i (suc k) m q = go (moveOf side f c e i) refl q (λ t. from-row (suc i) k m t)
     where
       shift : Among (suc i) (suc i + k) m → Among i (i + suc k) m
-      shift r = let g : suc i + k ≡ i + suc k = omega arith in later i (i + suc k) m (subst (λ (n : ℕ). Among (suc i) n m) g r)
+      shift r =
+          let g : suc i + k ≡ i + suc k = omega arith in
+          later i (i + suc k) m (subst (λ (n : ℕ). Among (suc i) n m) g r)
 
       first : (x : CutMove) → moveOf side f c e i ≡ some x → (m ≡ x) ⊎ In m (movesFrom side f c e (suc i) k)
           → (In m (movesFrom side f c e (suc i) k) → Among (suc i) (suc i + k) m) → Among i (i + suc k) m
-      first x o (inl g) h = record { block = i; low = omega arith; high = omega arith; row = move-row i m (o ∙ ap some (sym g)) }
+      first x o (inl g) h =
+          record { block = i; low = omega arith; high = omega arith; row = move-row i m (o ∙ ap some (sym g)) }
       first x o (inr t) h = shift (h t)
 
       go : (o : Option CutMove) → moveOf side f c e i ≡ o → In m (step o (movesFrom side f c e (suc i) k))
@@ -87,10 +94,11 @@ module _ (side : Side) (f : ℕ → ℕ) (c e : ℕ) where
   row-from : (i k j : ℕ) (m : CutMove) → i ≤ j → j < i + k → Row j m → In m (movesFrom side f c e i k)
   unfolding movesFrom
   row-from i zero j m l h r = absurd (omega arith)
-  row-from i (suc k) j m l h r = go (moveOf side f c e i) refl (eqb j i) refl (λ u. row-from (suc i) k j m u (omega arith) r)
+  row-from i (suc k) j m l h r =
+      go (moveOf side f c e i) refl (eqb j i) refl (λ u. row-from (suc i) k j m u (omega arith) r)
     where
-      go : (o : Option CutMove) → moveOf side f c e i ≡ o → (t : Bool) → eqb j i ≡ t → (suc i ≤ j → In m (movesFrom side f c e (suc i) k))
-          → In m (step o (movesFrom side f c e (suc i) k))
+      go : (o : Option CutMove) → moveOf side f c e i ≡ o → (t : Bool) → eqb j i ≡ t
+          → (suc i ≤ j → In m (movesFrom side f c e (suc i) k)) → In m (step o (movesFrom side f c e (suc i) k))
       go none g true x u = absurd (no-row m (sym g ∙ ap (moveOf side f c e) (sym (eqb-true j i x)) ∙ row-move j m r))
       go none g false x u = u (omega (arith, eqb-false j i x))
       go (some y) g true x u =
@@ -99,16 +107,19 @@ module _ (side : Side) (f : ℕ → ℕ) (c e : ℕ) where
           here w
       go (some y) g false x u = further (u (omega (arith, eqb-false j i x)))
 
-  from-rises : (i k : ℕ) → Pairs (λ x y. blockOfMove x < blockOfMove y) (movesFrom side f c e i k)
+  from-rises : (i k : ℕ) → Pairs Rising (movesFrom side f c e i k)
   unfolding movesFrom
   from-rises i zero = tt
   from-rises i (suc k) = go (moveOf side f c e i) refl (from-rises (suc i) k)
     where
-      go : (o : Option CutMove) → moveOf side f c e i ≡ o → Pairs (λ x y. blockOfMove x < blockOfMove y) (movesFrom side f c e (suc i) k)
-          → Pairs (λ x y. blockOfMove x < blockOfMove y) (step o (movesFrom side f c e (suc i) k))
+      go : (o : Option CutMove) → moveOf side f c e i ≡ o → Pairs Rising (movesFrom side f c e (suc i) k)
+          → Pairs Rising (step o (movesFrom side f c e (suc i) k))
       go none g p = p
       go (some x) g p =
-          (λ y t. let r = from-row (suc i) k y t in omega (arith, row-block i x (move-row i x g), row-block (r .block) y (r .row), r .low), p)
+          (λ y t. above y (from-row (suc i) k y t), p)
+        where
+          above : (y : CutMove) → Among (suc i) (suc i + k) y → Rising x y
+          above y r = omega (arith, row-block i x (move-row i x g), row-block (r .block) y (r .row), r .low)
 
 -- ---- the list, sorted
 
@@ -120,7 +131,8 @@ module _ (side : Side) (f : ℕ → ℕ) (a b c : ℕ) (h : a ≤ b) where
   unfolding movesAmong
   listed-row m q =
       let g : a + (suc b - a) ≡ suc b = omega arith in
-      subst (λ (n : ℕ). Among side f c listEdge a n m) g (from-row side f c listEdge a (suc b - a) m (in-sorted stepsOf _ m q))
+      subst (λ (n : ℕ). Among side f c listEdge a n m) g
+      (from-row side f c listEdge a (suc b - a) m (in-sorted stepsOf _ m q))
 
   pub row-listed : (j : ℕ) (m : CutMove) → a ≤ j → j ≤ b → Row side f c listEdge j m → In m (movesAmong side f a b c)
   unfolding movesAmong
@@ -129,4 +141,5 @@ module _ (side : Side) (f : ℕ → ℕ) (a b c : ℕ) (h : a ≤ b) where
   pub listed-order : Pairs (Before stepsOf blockOfMove) (movesAmong side f a b c)
   unfolding movesAmong
   listed-order =
-      sorted-before stepsOf blockOfMove (movesFrom side f c listEdge a (suc b - a)) (from-rises side f c listEdge a (suc b - a))
+      sorted-before stepsOf blockOfMove (movesFrom side f c listEdge a (suc b - a))
+      (from-rises side f c listEdge a (suc b - a))

@@ -1,47 +1,31 @@
--- When a pattern moves the cut: exactly if another open block is chosen then. For any other open block, so low a one; for the one
--- chosen, one from its edge on; for a block outside, none. Assumes nothing.
+-- When a pattern moves the cut: exactly if another open block is chosen then. So in another open block than the one
+-- chosen, a low one does; in the one chosen, one from its edge on; in a block outside, none. `low-moves`, `moves-low`,
+-- `high-moves`, `moves-high`, `moves-open`. Assumes nothing.
 use Prim.Native.Nat.{ℕ, suc, _+_, _-_, _≤_, _<_}
 use native.Mathlib.Omega.{arith}
-use mathlib.Core.Path.{_≡_, refl, sym, ap, _∙_, subst}
+use mathlib.Core.Path.{_≡_, refl, sym, _∙_}
 use mathlib.Core.Logic.{_⊎_, inl, inr}
-use mathlib.Core.Bool.{Bool, true, false, cond}
+use mathlib.Core.Bool.{Bool, true, false}
 use mathlib.Core.List.{List}
-use lib.Dec.{leb, eqb}
-use lib.ListN.{length}
+use lib.Dec.{leb}
 use borrow.Author.Tests.{leb-true, leb-false}
 use Rattle.definition.specs.declared.Inst.{Inst}
 use Rattle.definition.specs.declared.BlockData.{BlockData}
 use Rattle.definition.specs.declared.Side.{Side}
-use Rattle.definition.specs.declared.Side.the-variants.{Early, Late}
 use Rattle.definition.specs.Entry.{sideOf}
-use Rattle.definition.specs.CutMoves.{Moves, withFrequency, infinity, patternOf, firstOpen, lastOpen, tie, chosenOf, edgeOf}
-use Rattle.function.specs.Blocks.{startOf, blockOf}
-use Rattle.cut_margins.specs.Margins.{changed, Chosen, other-moves, other-stays, own-moves, own-stays, outside-stays}
+use Rattle.definition.specs.CutMoves.{Moves, withFrequency, infinity, patternOf, firstOpen, lastOpen}
+use Rattle.definition.specs.CutMoves.{tie, chosenOf, edgeOf}
+use Rattle.cut_margins.specs.Margins.{changed, Chosen, other-moves, other-stays, own-moves, own-stays}
+use Rattle.cut_margins.specs.Margins.{outside-stays}
 use Rattle.cut_margins.specs.Promised.{Fair}
 use Rattle.cut_margins.proofs.Choice.{chosen-of, chosen-ext}
 use Rattle.cut_margins.proofs.Edge.{Rival, EdgeOf, edge-of}
 use Rattle.cut_margins.proofs.Table.{open-blocks}
-use Rattle.cut_margins.proofs.Place.{placeOf, place-is, place-once}
-use Rattle.cut_margins.proofs.Changed.{start-kept, block-kept, pattern-changed, fair-changed}
-
--- ---- the open blocks and their places stay
-
-first-kept : (side : Side) (bs : List BlockData) (j x after : ℕ) → firstOpen side (withFrequency bs j x) after ≡ firstOpen side bs after
-unfolding firstOpen
-first-kept Early bs j x after = block-kept bs j x (suc after)
-first-kept Late bs j x after = block-kept bs j x after
-
-last-kept : (side : Side) (bs : List BlockData) (j x before : ℕ) → lastOpen side (withFrequency bs j x) before ≡ lastOpen side bs before
-unfolding lastOpen
-last-kept Early bs j x before = block-kept bs j x before
-last-kept Late bs j x before = block-kept bs j x (before - 1)
-
-place-kept : (side : Side) (bs : List BlockData) (j x after before c : ℕ)
-    → placeOf side (withFrequency bs j x) after before c ≡ placeOf side bs after before c
-place-kept Early bs j x after before c = rw (block-kept bs j x (suc after), start-kept bs j x c)
-place-kept Late bs j x after before c = rw (block-kept bs j x (before - 1), start-kept bs j x (suc c))
+use Rattle.cut_margins.proofs.Place.{Pick, placeOf, place-is, place-once}
+use Rattle.cut_margins.proofs.Changed.{first-kept, last-kept, place-kept, pattern-changed, fair-changed}
 
 module _ (bs : List BlockData) (after before : Inst) (side : Side) (p : Fair bs after before) where
+  -- the patterns, the first and the last open block, the one chosen, and its edge
   abbrev f : ℕ → ℕ
   f = patternOf bs
 
@@ -57,37 +41,50 @@ module _ (bs : List BlockData) (after before : Inst) (side : Side) (p : Fair bs 
   abbrev e : ℕ
   e = edgeOf side f c infinity a (suc b - a)
 
-  pub chosen : Chosen side f a b c
-  chosen = chosen-of side f a b (open-blocks bs after before p side .0)
+  pub some-open : a ≤ b
+  some-open = open-blocks bs after before p side .0
 
-  pub edge : EdgeOf side f infinity a (suc b) c e
-  edge = edge-of side f a c infinity b (open-blocks bs after before p side .0)
+  pub chosen : Chosen side f a b c
+  chosen = chosen-of side f a b some-open
+
+  edge : EdgeOf side f infinity a (suc b) c e
+  edge = edge-of side f a c infinity b some-open
+
+  -- ---- the cut, by the block chosen
+
+  abbrev place : ℕ → ℕ
+  place = placeOf side bs (after .0) (before .0)
+
+  cut-now : place c ≡ sideOf side bs (after .0) (before .0)
+  cut-now = place-is bs after before p side c chosen
 
   module _ (j x : ℕ) (h : x < infinity) where
-    -- the cut with x in block j is the place of the block that is chosen then
-    cut-then : (d : ℕ) → Chosen side (changed f j x) a b d → sideOf side (withFrequency bs j x) (after .0) (before .0) ≡ placeOf side bs (after .0) (before .0) d
-    cut-then d q = sym (place-is w after before (fair-changed x h bs after before j p) side d picked) ∙ place-kept side bs j x (after .0) (before .0) d
+    -- the same blocks with x in block j
+    abbrev new : List BlockData
+    new = withFrequency bs j x
+
+    picked : (d : ℕ) → Chosen side (changed f j x) a b d → Pick new after before side d
+    picked d q =
+        rw (first-kept bs j x side (after .0), last-kept bs j x side (before .0))
+        (chosen-ext side (changed f j x) (patternOf new) a b d (λ i l u. sym (same i u)) q)
       where
-        w : List BlockData
-        w = withFrequency bs j x
+        same : (i : ℕ) → i ≤ b → patternOf new i ≡ changed f j x i
+        same i u = pattern-changed x h bs j i (omega (arith, open-blocks bs after before p side .1))
 
-        as-then : Chosen side (patternOf (withFrequency bs j x)) a b d
-        as-then = chosen-ext side (changed f j x) (patternOf (withFrequency bs j x)) a b d (λ i l u. sym (pattern-changed x h bs j i (omega (arith, open-blocks bs after before p side .1)))) q
-
-        picked : Chosen side (patternOf (withFrequency bs j x)) (firstOpen side (withFrequency bs j x) (after .0)) (lastOpen side (withFrequency bs j x) (before .0)) d
-        picked = rw (first-kept side bs j x (after .0), last-kept side bs j x (before .0)) as-then
-
-    cut-now : sideOf side bs (after .0) (before .0) ≡ placeOf side bs (after .0) (before .0) c
-    cut-now = sym (place-is bs after before p side c chosen)
+    cut-then : (d : ℕ) → Chosen side (changed f j x) a b d → place d ≡ sideOf side new (after .0) (before .0)
+    cut-then d q =
+        sym (place-kept bs j x side (after .0) (before .0) d)
+        ∙ place-is new after before (fair-changed x h bs after before j p) side d (picked d q)
 
     stays : Chosen side (changed f j x) a b c → Moves bs after before side j x → ⊥
-    stays q m = m (cut-then c q ∙ sym cut-now)
+    stays q m = m (sym (cut-then c q) ∙ cut-now)
 
     moves : ((d : ℕ) → Chosen side (changed f j x) a b d → c ≡ d → ⊥) → Moves bs after before side j x
     moves n s =
         let d = chosenOf side (changed f j x) a a (b - a) in
-        let q : Chosen side (changed f j x) a b d = chosen-of side (changed f j x) a b (open-blocks bs after before p side .0) in
-        n d q (place-once bs after before p side c d (chosen .low) (chosen .high) (q .low) (q .high) (sym cut-now ∙ sym s ∙ cut-then d q))
+        let q : Chosen side (changed f j x) a b d = chosen-of side (changed f j x) a b some-open in
+        let g : place c ≡ place d = cut-now ∙ sym s ∙ sym (cut-then d q) in
+        n d q (place-once bs after before p side c d (chosen .low) (chosen .high) (q .low) (q .high) g)
 
     -- ---- another open block than c: all patterns that come below c's, and no others
 
@@ -122,7 +119,9 @@ module _ (bs : List BlockData) (after before : Inst) (side : Side) (p : Fair bs 
       where
         go : (e ≡ infinity) ⊎ Rival side f a (suc b) c e → (d : ℕ) → Chosen side (changed f c x) a b d → c ≡ d → ⊥
         go (inl k) d q = absurd (omega (arith, k))
-        go (inr r) d q = own-moves side f a b c x d (r .rival) (r .low) (omega (arith, r .high)) (r .other) q (omega (arith, r .has))
+        go (inr r) d q =
+            let u : r .rival ≤ b = omega (arith, r .high) in
+            own-moves side f a b c x d (r .rival) (r .low) u (r .other) q (omega (arith, r .has))
 
     pub moves-high : Moves bs after before side c x → e ≤ x
     moves-high m = go (leb e x) refl
@@ -132,4 +131,6 @@ module _ (bs : List BlockData) (after before : Inst) (side : Side) (p : Fair bs 
 
         go : (t : Bool) → leb e x ≡ t → e ≤ x
         go true q = leb-true e x q
-        go false q = absurd (stays c x h (own-stays side f a b c x (chosen .low) (chosen .high) (below (leb-false e x q))) m)
+        go false q =
+            let k = own-stays side f a b c x (chosen .low) (chosen .high) (below (leb-false e x q)) in
+            absurd (stays c x h k m)

@@ -1,5 +1,5 @@
--- Each row of the definition's list, by what moves the cut: its block can move it, and with the fewest steps. `row-fewest`,
--- `row-named`, `rows-order`. Assumes nothing.
+-- The rows of the definition's list, by what moves the cut: `list-fewest`, `movable-named`, `list-order`.
+-- Assumes nothing.
 use Prim.Native.Nat.{ℕ, suc, _+_, _-_, _≤_, _<_}
 use native.Mathlib.Omega.{arith}
 use mathlib.Core.Path.{_≡_, refl, sym, ap, _∙_, subst}
@@ -12,13 +12,15 @@ use Rattle.definition.specs.declared.Inst.{Inst}
 use Rattle.definition.specs.declared.BlockData.{BlockData}
 use Rattle.definition.specs.declared.Side.{Side}
 use Rattle.definition.specs.declared.CutMove.{CutMove}
-use Rattle.definition.specs.CutMoves.{Moves, infinity, patternOf, firstOpen, lastOpen, tie, chosenOf, edgeOf, cutMoves}
+use Rattle.definition.specs.CutMoves.{Moves, infinity, patternOf, firstOpen, lastOpen, tie, chosenOf, edgeOf}
+use Rattle.definition.specs.CutMoves.{cutMoves, stepsOf}
 use Rattle.cut_margins.specs.Promised.{Fair, Named, Fewest, moveAt, noMove}
 use Rattle.cut_margins.proofs.Edge.{edge-above}
 use Rattle.cut_margins.proofs.Table.{open-blocks}
-use Rattle.cut_margins.proofs.Moved.{chosen, low-moves, moves-low, moves-open, high-moves, moves-high}
+use Rattle.cut_margins.proofs.Moved.{some-open, chosen, low-moves, moves-low, moves-open, high-moves, moves-high}
 use Rattle.cut_margins.proofs.Sorted.{Before, at-member, member-at, pair-at}
-use Rattle.cut_margins.proofs.Listed.{upRow, downRow, Row, up, down, Among, blockOfMove, listed-row, row-listed, listed-order}
+use Rattle.cut_margins.proofs.Listed.{upRow, downRow, Row, up, down, Among, blockOfMove, listed-row, row-listed}
+use Rattle.cut_margins.proofs.Listed.{listed-order}
 
 module _ (bs : List BlockData) (after before : Inst) (side : Side) (p : Fair bs after before) where
   abbrev f : ℕ → ℕ
@@ -40,7 +42,8 @@ module _ (bs : List BlockData) (after before : Inst) (side : Side) (p : Fair bs 
   list = cutMoves bs after before side
 
   chosen-finite : f c < infinity
-  chosen-finite = p .finite c (omega (arith, chosen bs after before side p .high, open-blocks bs after before p side .1))
+  chosen-finite =
+      p .finite c (omega (arith, chosen bs after before side p .high, open-blocks bs after before p side .1))
 
   -- ---- the fewest steps
 
@@ -56,7 +59,8 @@ module _ (bs : List BlockData) (after before : Inst) (side : Side) (p : Fair bs 
         further = λ x k o. high-moves bs after before side p x k (omega arith);
       }
 
-  down-fewest : (i : ℕ) → a ≤ i → i ≤ b → (i ≡ c → ⊥) → tie side i c ≤ f c → Fewest bs after before side (downRow side f c e i)
+  down-fewest : (i : ℕ) → a ≤ i → i ≤ b → (i ≡ c → ⊥) → tie side i c ≤ f c
+      → Fewest bs after before side (downRow side f c e i)
   down-fewest i l u n h =
       let k : f c < f i + tie side i c = chosen bs after before side p .first i l u n in
       let g : f i - (f i + tie side i c - f c) ≡ f c - tie side i c = omega arith in
@@ -78,7 +82,9 @@ module _ (bs : List BlockData) (after before : Inst) (side : Side) (p : Fair bs 
 
   pub list-fewest : (k : ℕ) → k < length list → Fewest bs after before side (moveAt list k)
   unfolding cutMoves
-  list-fewest k h = row-fewest (moveAt list k) (listed-row side f a b c (open-blocks bs after before p side .0) _ (at-member list k noMove h))
+  list-fewest k h =
+      let m = at-member list k noMove h in
+      row-fewest (moveAt list k) (listed-row side f a b c (some-open bs after before side p) _ m)
 
   -- ---- a block that can move the cut has a row
 
@@ -95,17 +101,19 @@ module _ (bs : List BlockData) (after before : Inst) (side : Side) (p : Fair bs 
       among = moves-open bs after before side p j x h m
 
       named : (w : CutMove) → blockOfMove w ≡ j → Row side f c e j w → Named list j
-      named w g r = member-named w j g (row-listed side f a b c (open-blocks bs after before p side .0) j w (among .0) (among .1) r)
+      named w g r =
+          member-named w j g (row-listed side f a b c (some-open bs after before side p) j w (among .0) (among .1) r)
 
       go : (t : Bool) → eqb j c ≡ t → Named list j
       go true q =
           let k : j ≡ c = eqb-true j c q in
-          let y : e ≤ x = moves-high bs after before side p x h (subst (λ (i : ℕ). Moves bs after before side i x) k m) in
+          let w = subst (λ (i : ℕ). Moves bs after before side i x) k m in
+          let y : e ≤ x = moves-high bs after before side p x h w in
           named (upRow side f c e) (sym k) (up k (omega arith) refl)
       go false q =
           let n : j ≡ c → ⊥ = eqb-false j c q in
           named (downRow side f c e j) refl (down n (omega (arith, moves-low bs after before side p j x h n m)) refl)
 
-  pub list-order : (j k : ℕ) → j < k → k < length list → Before (λ (m : CutMove). m .steps) blockOfMove (moveAt list j) (moveAt list k)
+  pub list-order : (j k : ℕ) → j < k → k < length list → Before stepsOf blockOfMove (moveAt list j) (moveAt list k)
   unfolding cutMoves
-  list-order j k h u = pair-at _ list noMove (listed-order side f a b c (open-blocks bs after before p side .0)) j k h u
+  list-order j k h u = pair-at _ list noMove (listed-order side f a b c (some-open bs after before side p)) j k h u

@@ -2,10 +2,11 @@
 -- `sorted-before`; and lists by their rows. Assumes nothing.
 use Prim.Native.Nat.{ℕ, zero, suc, _≤_, _<_}
 use native.Mathlib.Omega.{arith}
-use mathlib.Core.Path.{_≡_, refl, sym, ap, _∙_, subst}
+use mathlib.Core.Path.{_≡_, refl, sym, subst}
 use mathlib.Core.Logic.{_⊎_, inl, inr}
 use mathlib.Core.Bool.{Bool, true, false, cond}
-use mathlib.Core.List.{List, [], _∷_, List·Memᴰ as In, List·Memᴰ·head as here, List·Memᴰ·tail as further, List·Memᴰ·not-nil as none-in, List·Memᴰ·cases-cons as head-or-rest}
+use mathlib.Core.List.{List, [], _∷_, List·Memᴰ as In, List·Memᴰ·head as here, List·Memᴰ·tail as further}
+use mathlib.Core.List.{List·Memᴰ·not-nil as none-in, List·Memᴰ·cases-cons as head-or-rest}
 use lib.Dec.{ltb}
 use lib.ListN.{length, getD}
 use borrow.Author.Tests.{ltb-true, ltb-false}
@@ -38,7 +39,8 @@ module _ {A : Type 0} where
   Pairs R [] = Unit {0}
   Pairs R (x ∷ l) = ((y : A) → In y l → R x y) × Pairs R l
 
-  pub pair-at : (R : A → A → Type 0) (l : List A) (d : A) → Pairs R l → (j k : ℕ) → j < k → k < length l → R (getD l j d) (getD l k d)
+  pub pair-at : (R : A → A → Type 0) (l : List A) (d : A) → Pairs R l → (j k : ℕ) → j < k → k < length l
+      → R (getD l j d) (getD l k d)
   pair-at R [] d p j k h u = absurd (omega arith)
   pair-at R (x ∷ l) d p j zero h u = absurd (omega arith)
   pair-at R (x ∷ l) d p zero (suc k) h u = p .0 (getD l k d) (at-member l k d (omega arith))
@@ -104,7 +106,8 @@ module _ {A : Type 0} (key : A → ℕ) where
       pub equal : key x ≡ key y → num x < num y
       pub other : num x ≡ num y → ⊥
 
-    insert-before : (x : A) (l : List A) → ((y : A) → In y l → num x < num y) → Pairs Before l → Pairs Before (insert key x l)
+    insert-before : (x : A) (l : List A) → ((y : A) → In y l → num x < num y) → Pairs Before l
+        → Pairs Before (insert key x l)
     unfolding insert
     insert-before x [] b p = (λ y m. absurd (none-in m), tt)
     insert-before x (z ∷ l) b p = go (ltb (key z) (key x)) refl (insert-before x l (λ y m. b y (further m)) (p .1))
@@ -113,16 +116,21 @@ module _ {A : Type 0} (key : A → ℕ) where
         first = b z (here refl)
 
         after-z : key z < key x → (y : A) → (y ≡ x) ⊎ In y l → Before z y
-        after-z h y (inl e) = subst (λ (w : A). Before z w) (sym e) (record { fewest = omega arith; equal = λ q. absurd (omega arith); other = λ q. omega (arith, first) })
+        after-z h y (inl e) =
+            subst (λ (w : A). Before z w) (sym e)
+            (record { fewest = omega arith; equal = λ q. absurd (omega arith); other = λ q. omega (arith, first) })
         after-z h y (inr m) = p .0 y m
 
         after-x : key x ≤ key z → (y : A) → (y ≡ z) ⊎ In y l → Before x y
-        after-x h y (inl e) = subst (λ (w : A). Before x w) (sym e) (record { fewest = h; equal = λ q. first; other = λ q. omega (arith, first) })
+        after-x h y (inl e) =
+            subst (λ (w : A). Before x w) (sym e)
+            (record { fewest = h; equal = λ q. first; other = λ q. omega (arith, first) })
         after-x h y (inr m) =
             let q = b y (further m) in
             record { fewest = omega (arith, p .0 y m .fewest); equal = λ r. q; other = λ r. omega arith }
 
-        go : (t : Bool) → ltb (key z) (key x) ≡ t → Pairs Before (insert key x l) → Pairs Before (cond t (z ∷ insert key x l) (x ∷ z ∷ l))
+        go : (t : Bool) → ltb (key z) (key x) ≡ t → Pairs Before (insert key x l)
+            → Pairs Before (cond t (z ∷ insert key x l) (x ∷ z ∷ l))
         go true e r = (λ y m. after-z (ltb-true _ _ e) y (in-insert x l y m), r)
         go false e r = (λ y m. after-x (ltb-false _ _ e) y (head-or-rest m), p)
 

@@ -1,5 +1,5 @@
--- A table of starts for blocks that 01 accepts, as `split_placement` reads one, and their open blocks: `starts`, `open-blocks`.
--- Assumes nothing.
+-- A table of starts for blocks that 01 accepts, as `split_placement` reads one, and their open blocks: `starts`,
+-- `open-blocks`. Assumes nothing.
 use Prim.Native.Nat.{ℕ, suc, _+_, _-_, _*_, _/_, _%_, _≤_, _<_}
 use native.Mathlib.Omega.{arith}
 use mathlib.Core.Path.{_≡_, ap, _∙_}
@@ -43,7 +43,8 @@ abbrev pub tableOf : List BlockData → List ℕ
 tableOf bs = tab (wordOf bs) 0 (length bs * 2 + 2)
 
 pub table-bits : (bs : List BlockData) (j : ℕ) → j < length bs → bitsOf (tableOf bs) 0 j ≡ patternOf bs j
-table-bits bs j h = getD-tab (wordOf bs) 0 (length bs * 2 + 2) (0 + j * 2 + 1) 0 (omega arith) ∙ odd-word bs _ j (omega arith)
+table-bits bs j h =
+    getD-tab (wordOf bs) 0 (length bs * 2 + 2) (0 + j * 2 + 1) 0 (omega arith) ∙ odd-word bs _ j (omega arith)
 
 module _ (bs : List BlockData) (after before : Inst) (p : Fair bs after before) where
   filled : (j : ℕ) → j < length bs → 1 ≤ blockAt bs j .insts
@@ -55,23 +56,33 @@ module _ (bs : List BlockData) (after before : Inst) (p : Fair bs after before) 
   pub starts : Starts (tableOf bs) 0 bs
   starts =
       record {
-        first = λ j h. getD-tab (wordOf bs) 0 (length bs * 2 + 2) (0 + j * 2) 0 (omega arith) ∙ even-word bs _ j (omega arith);
+        first = λ j h.
+            getD-tab (wordOf bs) 0 (length bs * 2 + 2) (0 + j * 2) 0 (omega arith) ∙ even-word bs _ j (omega arith);
         bits = λ j h. ap (ofBits binary32) (table-bits bs j h) ∙ p .f32s j h;
         finite = λ j h. omega (arith, table-bits bs j h, p .finite j h);
         filled = filled;
       }
 
-  pub holds : (i : ℕ) → i ≤ before .0 → Holding bs i (blockOf bs i)
-  holds i h = block-holds bs i (omega (arith, p .within))
+  -- the blocks of `after`+1 and `before`, of `after` and `before`-1
+  pub early-lo : Holding bs (suc (after .0)) (blockOf bs (suc (after .0)))
+  early-lo = block-holds bs (suc (after .0)) (omega (arith, p .order, p .within))
+
+  pub early-hi : Holding bs (before .0) (blockOf bs (before .0))
+  early-hi = block-holds bs (before .0) (p .within)
+
+  pub late-lo : Holding bs (after .0) (blockOf bs (after .0))
+  late-lo = block-holds bs (after .0) (omega (arith, p .order, p .within))
+
+  pub late-hi : Holding bs (before .0 - 1) (blockOf bs (before .0 - 1))
+  late-hi = block-holds bs (before .0 - 1) (omega (arith, p .within))
 
   -- there is one, and all are blocks
-  pub open-blocks : (side : Side) → (firstOpen side bs (after .0) ≤ lastOpen side bs (before .0)) × (lastOpen side bs (before .0) < length bs)
+  pub open-blocks : (side : Side) → (firstOpen side bs (after .0) ≤ lastOpen side bs (before .0))
+      × (lastOpen side bs (before .0) < length bs)
   unfolding firstOpen lastOpen
   open-blocks Early =
-      let f = holds (suc (after .0)) (p .order) in
-      let g = holds (before .0) (omega arith) in
-      (lo-hi (tableOf bs) 0 bs starts (after .0) (before .0) _ _ (p .order) (p .within) f g, g .there)
+      let r = lo-hi (tableOf bs) 0 bs starts (after .0) (before .0) _ _ (p .order) (p .within) early-lo early-hi in
+      (r, early-hi .there)
   open-blocks Late =
-      let f = holds (after .0) (omega (arith, p .order)) in
-      let g = holds (before .0 - 1) (omega arith) in
-      (late-lo-hi (tableOf bs) 0 bs starts (after .0) (before .0) _ _ (p .order) (p .within) f g, g .there)
+      let r = late-lo-hi (tableOf bs) 0 bs starts (after .0) (before .0) _ _ (p .order) (p .within) late-lo late-hi in
+      (r, late-hi .there)
