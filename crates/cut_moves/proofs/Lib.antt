@@ -2,3 +2,4 @@ pub mod Numbers
 pub mod Rows
 pub mod Same
 pub mod Lists
+pub mod Found

@@ -101,6 +101,11 @@ pub first : Option CutMove → List CutMove → List CutMove
 first none ms = ms
 first (some m) ms = m ∷ ms
 
+pub first-long : (o : Option CutMove) (ms : List CutMove) → length (first o ms) ≤ suc (length ms)
+unfolding first
+first-long none ms = omega arith
+first-long (some m) ms = omega arith
+
 module _ (side : Side) (f : ℕ → ℕ) (c e i j : ℕ) where
   pub moves-more : movesFrom side f c e i (suc j) ≡ first (moveOf side f c e i) (movesFrom side f c e (suc i) j)
   unfolding movesFrom first
