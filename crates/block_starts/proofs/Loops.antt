@@ -4,10 +4,10 @@ use native.Mathlib.Omega.{arith}
 use native.Mathlib.Numerals.{add-one}
 use mathlib.Core.Path.{_≡_, refl, sym, ap, _∙_, subst}
 use mathlib.Core.List.{List, [], _∷_, _++_}
-use lib.ListN.{length, getD, set, length-append, take-append-drop}
+use lib.ListN.{length, getD, set, length-append}
 use Rattle.definition.specs.declared.BlockData.{BlockData}
 use Rattle.definition.specs.Entry.{instsOf}
-use Rattle.rows.specs.Parts.{splice, splice-splice, length-splice}
+use Rattle.rows.specs.Parts.{splice, splice-none, splice-splice, length-splice}
 use Rattle.rows.specs.Moves.{store-1}
 use Rattle.rows.specs.RowsAt.{length-rows-at}
 use Rattle.words.specs.Words.{wordCount, wordsOf}
@@ -39,10 +39,6 @@ pub record Putting (rows : List ℕ) (from n : ℕ) (s₀ : List ℕ) (at i firs
   pub long : length s ≡ length s₀
   pub sum : first ≡ startOf (blocksAt (wordsOf rows) from n) i
   pub is : wordsOf s ≡ splice (wordsOf s₀) at (startRows (wordsOf rows) from n i)
-
-splice-none : (d : List ℕ) (i : ℕ) → splice d i [] ≡ d
-unfolding splice
-splice-none d i = let e : i + 0 ≡ i = omega arith in rw e (take-append-drop i d)
 
 pub put-first : (rows : List ℕ) (from n : ℕ) (s : List ℕ) (at : ℕ) → Putting rows from n s at 0 0 s
 unfolding startOf startRows

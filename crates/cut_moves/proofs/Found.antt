@@ -101,9 +101,8 @@ module _ {W T : List ℕ} {n a b : ℕ} (side : Side) (r : Ready W T n a b) wher
           → (k ≡ length (cutMoves bs (inst a) (inst b) side)) × (Y ≡ pad m (moveWords (cutMoves bs (inst a) (inst b) side)))
       listed k m X Y fit ek ex ey =
           let ms = movesFrom side (bits T) c e lo (suc hi - lo) in
-          let fits : length ms * 3 ≤ m = omega (arith, no-more c e k ek, ek) in
-          (
+          let fits : length ms * 3 ≤ m = omega (arith, no-more c e k ek, ek) in (
             ek ∙ sym (length-sorted stepsOf ms) ∙ ap length by-edge,
             ey ∙ (λ x. splice (ex x) 0 (rowWords (sorted keyOf (rowsAt rowOf (ex x) 0 3 (ek x))))) ∙ sorted-there m ms fits
-            ∙ ap (λ (z : List CutMove). pad m (moveWords z)) by-edge,
+                ∙ ap (λ (z : List CutMove). pad m (moveWords z)) by-edge,
           )

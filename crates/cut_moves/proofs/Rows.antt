@@ -14,8 +14,7 @@ use Rattle.definition.specs.declared.CutMove.{CutMove}
 use Rattle.definition.specs.declared.Side.{Side}
 use Rattle.definition.specs.declared.Way.the-variants.{Up, Down}
 use Rattle.definition.specs.CutMoves.{infinity, tie, moveOf, movesFrom, wayNumber}
-use Rattle.rows.specs.Parts.{splice, pad, pad-splice, pad-none}
-use Rattle.merge_sort.proofs.Tables.{splice-none}
+use Rattle.rows.specs.Parts.{splice, splice-none, pad, pad-splice, pad-none}
 use Rattle.cut_margins.specs.Margins.{Chosen}
 use Rattle.cut_margins.specs.Table.{stepsIn}
 use Rattle.cut_moves.specs.Answer.{moveWords, moveRow}
@@ -41,7 +40,7 @@ way-down i c n = rw (ne-eqb i c n)
 module _ (W : List ℕ) (k i c steps : ℕ) where
   pub put-none : steps ≡ 0 → (k ≡ k + cond (eqb steps 0) 0 1) × (W ≡ splice W (k * 3) (moveRow i c steps))
   unfolding moveRow
-  put-none e = rw (eq-eqb steps 0 e) (omega arith, splice-none W (k * 3))
+  put-none e = rw (eq-eqb steps 0 e) (omega arith, sym (splice-none W (k * 3)))
 
   pub put-one : (X : List ℕ) (w : ℕ) → (steps ≡ 0 → ⊥) → w ≡ cond (eqb i c) 0 1 → X ≡ splice W (k * 3) (i ∷ w ∷ steps ∷ [])
       → (k + 1 ≡ k + cond (eqb steps 0) 0 1) × (X ≡ splice W (k * 3) (moveRow i c steps))

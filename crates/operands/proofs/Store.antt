@@ -7,11 +7,11 @@ use native.Mathlib.Nat.{zero-add}
 use native.Mathlib.Numerals.{add-one}
 use native.Mathlib.Omega.{arith}
 use lib.Dec.{eqb}
-use lib.ListN.{length, getD, set, take, drop, replicate, length-set, length-replicate, take-append-drop}
+use lib.ListN.{length, getD, set, take, drop, replicate, length-set, length-replicate}
 use lib.Seq.{ext-getD, getD-set-same, getD-set-other, set-append-left, take-set-lt, drop-set-lt, length-take-le}
 use borrow.Author.Tests.{eqb-true, eqb-false, eq-eqb, ne-eqb}
 use Rattle.rows.specs.Tab.{tab, length-tab, getD-tab, tab-snoc}
-use Rattle.rows.specs.Parts.{splice, length-splice, splice-splice, splice-over, set-past, getD-splice-before, getD-splice-in}
+use Rattle.rows.specs.Parts.{splice, splice-none, splice-again, length-splice, splice-splice, set-past, getD-splice-before, getD-splice-in}
 use Rattle.rows.specs.Moves.{store-1}
 use Rattle.definition.specs.declared.Operand.{Operand}
 use Rattle.operands.specs.declared.Chains.{Chains}
@@ -21,13 +21,6 @@ use Rattle.operands.specs.Chains.{lastBefore, headsOf, nextsOf, chainsOf
 -- ---- words put at a place, and then a store
 
 module _ (d : List ℕ) (j : ℕ) (vs : List ℕ) (h : j + length vs ≤ length d) where
-  -- others put at the same place
-  pub splice-again : (ws : List ℕ) → length vs ≡ length ws → splice (splice d j vs) j ws ≡ splice d j ws
-  unfolding splice
-  splice-again ws e =
-      splice-over (take j d) vs (drop (j + length vs) d) j ws (length-take-le j d (omega arith)) e
-      ∙ ap (λ (n : ℕ). take j d ++ (ws ++ drop (j + n) d)) e
-
   -- a word put behind them
   pub splice-behind : (k x : ℕ) → length vs ≡ k → j + k < length d → set (splice d j vs) (j + k) x ≡ splice d j (vs ++ (x ∷ []))
   splice-behind k x e l =
@@ -53,10 +46,6 @@ module _ (d : List ℕ) (j : ℕ) (vs : List ℕ) (h : j + length vs ≤ length 
       ∙ ap (λ (n : ℕ). take j d ++ (set vs i x ++ drop (j + n) d)) (sym (length-set vs i x))
 
 -- ---- the two parts
-
-pub splice-none : (d : List ℕ) (j : ℕ) → splice d j [] ≡ d
-unfolding splice
-splice-none d j = let e : j + 0 ≡ j = omega arith in rw e (take-append-drop j d)
 
 pub length-heads : (os : List Operand) (n insts : ℕ) → length (headsOf os n insts) ≡ insts
 unfolding headsOf

@@ -6,7 +6,7 @@ use mathlib.Core.List.{List, [], _∷_, _++_, append-assoc}
 use Prim.Native.Nat.{ℕ, zero, suc, _+_, _-_, _≤_, _<_}
 use native.Mathlib.Nat.{suc-add, zero-add, sub-zero, suc-sub-suc, zero-sub}
 use native.Mathlib.Omega.{arith}
-use lib.ListN.{length, getD, set, take, drop, replicate, length-append, length-take, length-drop, length-replicate, length-set}
+use lib.ListN.{length, getD, set, take, drop, replicate, length-append, length-take, length-drop, length-replicate, length-set, take-append-drop}
 use lib.Seq.{sets, sets-eq, paste, take-at, drop-at, drop-append-add, length-take-le, drop-drop, slice}
 
 module _ {ℓ} {A : Type ℓ} where
@@ -48,6 +48,18 @@ module _ {ℓ} {A : Type ℓ} where
       ap (λ (r : List A). splice r (i + length vs) ws) (sym (append-assoc (take i d) vs (drop (i + length vs) d)))
       ∙ splice-seam (take i d ++ vs) (drop (i + length vs) d) (i + length vs) ws l
       ∙ rw (drop-drop (length ws) (i + length vs) d, e) (simp append-assoc)
+
+  -- none put, and others put over those just put
+  pub splice-none : (d : List A) (i : ℕ) → splice d i [] ≡ d
+  unfolding splice
+  splice-none d i = let e : i + 0 ≡ i = omega arith in rw e (take-append-drop i d)
+
+  pub splice-again : (d : List A) (i : ℕ) (vs : List A) → i + length vs ≤ length d → (ws : List A) → length vs ≡ length ws
+      → splice (splice d i vs) i ws ≡ splice d i ws
+  unfolding splice
+  splice-again d i vs h ws e =
+      splice-over (take i d) vs (drop (i + length vs) d) i ws (length-take-le i d (omega arith)) e
+      ∙ ap (λ (n : ℕ). take i d ++ (ws ++ drop (i + n) d)) e
 
   pub length-splice : (d : List A) (i : ℕ) (vs : List A) → i + length vs ≤ length d → length (splice d i vs) ≡ length d
   unfolding splice

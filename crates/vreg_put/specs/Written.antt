@@ -2,10 +2,10 @@
 use mathlib.Core.Path.{_≡_, refl, sym, ap, _∙_, subst}
 use mathlib.Core.List.{List, [], _∷_, _++_, append-nil}
 use Prim.Native.Nat.{ℕ, suc, _+_, _-_, _*_, _≤_, _<_}
-use native.Mathlib.Nat.{zero-add, add-zero}
+use native.Mathlib.Nat.{zero-add}
 use native.Mathlib.Omega.{arith}
-use lib.ListN.{length, take, drop, length-append, take-append-drop}
-use Rattle.rows.specs.Parts.{splice, splice-splice, length-splice, pad, pad-splice}
+use lib.ListN.{length, length-append}
+use Rattle.rows.specs.Parts.{splice, splice-none, splice-splice, length-splice, pad, pad-splice}
 use Rattle.rows.specs.Rows.{rowsOf, after, rows-append}
 use Rattle.definition.specs.declared.Use.{Use}
 use Rattle.definition.specs.Types.{Piece, Register, State}
@@ -25,18 +25,14 @@ pub record Written (ol : OutLayout) (O : List ℕ) (p u : ℕ) (ps : List Piece)
   pub uses : part (useBase ol) (groupBase ol) O′ ≡ splice (part (useBase ol) (groupBase ol) O) (u * 6) (useRows us)
   pub groups : part (groupBase ol) (tablesEnd ol) O′ ≡ part (groupBase ol) (tablesEnd ol) O
 
-splice-none : (t : List ℕ) (i : ℕ) → t ≡ splice t i []
-unfolding splice
-splice-none t i = sym (ap (λ (k : ℕ). take i t ++ drop k t) (add-zero i) ∙ take-append-drop i t)
-
 pub written-none : (ol : OutLayout) (O : List ℕ) (p u : ℕ) → Written ol O p u [] [] O
 unfolding rowsOf
 written-none ol O p u =
     record {
       long = refl;
       registers = refl;
-      segments = splice-none (part (segBase ol) (useBase ol) O) (p * 7);
-      uses = splice-none (part (useBase ol) (groupBase ol) O) (u * 6);
+      segments = sym (splice-none (part (segBase ol) (useBase ol) O) (p * 7));
+      uses = sym (splice-none (part (useBase ol) (groupBase ol) O) (u * 6));
       groups = refl;
     }
 

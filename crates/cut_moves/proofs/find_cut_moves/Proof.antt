@@ -1,74 +1,68 @@
+use mathlib.Core.Path.{sym, _∙_}
+use native.Mathlib.Omega.{arith}
+use denote.Ref.{now}
+use lib.ListN.{length}
+use Rattle.cut_moves.proofs.Whole.{left-empty, part-long, part-zero, rows-there, rows-fit, all-passed, left-moves}
 use borrow.Author.Needs.{needs}
 use Rattle.cut_moves.proofs.find_cut_moves.Statement.{statement}
 use Rattle.cut_moves.proofs.find_cut_moves.Tie as tie
-use Rattle.cut_moves.proofs.find_cut_moves.Reads as reads
-use Rattle.cut_moves.proofs.find_cut_moves.Lts as lts
-use Rattle.cut_moves.proofs.number_of.Reads as number-of-reads
-use Rattle.cut_moves.proofs.put_sorted.Reads as put-sorted-reads
-use Rattle.find_cut.proofs.side_of.Reads as side-of-reads
-use Rattle.spans.proofs.clear.Reads as clear-reads
 
--- src/lib.rt:138:5
-clear-requires : tie.Need-clear-requires
-clear-requires c κs = search needs
-
--- src/lib.rt:139:9
-number-of-requires : tie.Need-number-of-requires
-number-of-requires c κs = search needs
-
--- src/lib.rt:141:9
-same-length : tie.Need-same-length
-same-length c = search needs
-
--- src/lib.rt:141:9
 returns : tie.Need-returns
-returns c = ?
+returns c =
+    let a = c .before .before .before .before .before .before .before .before .args in
+    left-empty (now (a .blocks)) (a .after) (a .before) (a .side) (length (now (a .list))) _ (c .before .before .before .before .clear .ensures .0) _ (c .before .number-of .ensures) (c .if1 .taken)
 
--- src/lib.rt:143:13
 cast-n : tie.Need-cast-n
-cast-n c = ?
+cast-n c =
+    let a = c .before .before .before .before .before .before .before .before .args in
+    let e = sym (c .if1 .left) ∙ c .before .number-of .ensures in
+    omega (arith, all-passed (now (a .blocks)) (a .after) (a .before) (a .side) (length (now (a .list))) _ (c .before .before .before .before .clear .ensures .0) e .blocks-few)
 
--- src/lib.rt:144:15
-mul-end : tie.Need-mul-end
-mul-end c = search needs
-
--- src/lib.rt:150:9
-side-of-requires : tie.Need-side-of-requires
-side-of-requires c κs = search needs
-
--- src/lib.rt:151:9
-slice-relend-prefix-put-sorted : tie.Need-slice-relend-prefix-put-sorted
-slice-relend-prefix-put-sorted c = search needs
-
--- src/lib.rt:151:9
 slice-aggregate-put-sorted : tie.Need-slice-aggregate-put-sorted
-slice-aggregate-put-sorted c = ?
+slice-aggregate-put-sorted c =
+    let a = c .before .before .before .before .before .before .before .before .before .before .args in
+    sym (part-long (now (a .blocks)) (a .after) (a .before) (a .side) (length (now (a .list))) _ (c .before .before .before .before .before .before .clear .ensures .0))
 
--- src/lib.rt:145:9
 put-sorted-requires : tie.Need-put-sorted-requires
-put-sorted-requires c κs = ?
+put-sorted-requires c κs =
+    let a = c .before .before .before .before .before .before .before .before .before .before .before .args in
+    let s = now (a .blocks) in
+    let n = length (now (a .list)) in
+    let z = c .before .before .before .before .before .before .before .clear .ensures .0 in
+    let e = sym (c .before .before .before .if1 .left) ∙ c .before .before .before .before .number-of .ensures in
+    let p = all-passed s (a .after) (a .before) (a .side) n _ z e in (
+      rows-there s (a .after) (a .before) (a .side) n _ z e,
+      p .blocks-few,
+      omega arith,
+      omega arith,
+      rows-fit s (a .after) (a .before) (a .side) n _ z e,
+      p .order,
+      p .within,
+      p .insts-few,
+      p .blocks-ok,
+      part-zero s (a .after) (a .before) (a .side) n _ z,
+    )
 
--- src/lib.rt:126:1
-same-length-2 : tie.Need-same-length-2
-same-length-2 c = search needs
-
--- src/lib.rt:126:1
 returns-2 : tie.Need-returns-2
-returns-2 c = ?
+returns-2 c =
+    let a = c .before .before .before .before .before .before .before .before .before .before .before .before .before .before .args in
+    let e = sym (c .before .before .before .before .before .before .if1 .left) ∙ c .before .before .before .before .before .before .before .number-of .ensures in
+    let r = c .before .before .put-sorted in
+    left-moves (now (a .blocks)) (a .after) (a .before) (a .side) (length (now (a .list))) _ (c .before .before .before .before .before .before .before .before .before .before .clear .ensures .0) e _ _ _ (c .before .before .before .before .before .side-of .ensures) (r .kept .1 .1 .1 .1 .1 .0) (λ i. omega (arith, c .slice-known3 .given i)) (r .ensures .0) (r .ensures .1)
 
 pub find-cut-moves-spec : {M : Type 1} → statement M
 find-cut-moves-spec =
     tie.close
     (tie.spec
-    clear-requires
-    number-of-requires
-    same-length
+    (λ c κs. search needs)
+    (λ c κs. search needs)
+    (λ c. search needs)
     returns
     cast-n
-    mul-end
-    side-of-requires
-    slice-relend-prefix-put-sorted
+    (λ c. search needs)
+    (λ c κs. search needs)
+    (λ c. search needs)
     slice-aggregate-put-sorted
     put-sorted-requires
-    same-length-2
+    (λ c. search needs)
     returns-2)
