@@ -23,15 +23,15 @@ module _ (bs : List BlockData) (after before : Inst) (side : Side) (p : Fair bs 
   -- A block is left off "exactly if no finite frequency from zero up moves the cut".
   -- Ruled out: a list of all the open blocks, also of one that would have to go below zero; a list without the block
   -- chosen.
-  pub moves-listed : (j : ℕ) → (Named (cutMoves bs after before side) j → Movable bs after before side j)
-      × (Movable bs after before side j → Named (cutMoves bs after before side) j)
-  moves-listed j = (movable, λ m. movable-named bs after before side p j (m .pattern) (m .finite) (m .moves))
+  pub moves-listed : (j : ℕ) → (Named (cutMoves bs after before side) j → Movable (patternOf bs) (Moves bs after before side) j)
+      × (Movable (patternOf bs) (Moves bs after before side) j → Named (cutMoves bs after before side) j)
+  moves-listed j = (movable, λ m. movable-named bs after before side p j (m .pattern) (m .finite) (m .moved))
     where
-      movable : Named (cutMoves bs after before side) j → Movable bs after before side j
+      movable : Named (cutMoves bs after before side) j → Movable (patternOf bs) (Moves bs after before side) j
       movable n =
           let r = list-fewest bs after before side p (n .row) (n .there) in
-          subst (λ (i : ℕ). Movable bs after before side i) (n .is)
-          (record { pattern = _; finite = r .finite; moves = r .moves })
+          subst (λ (i : ℕ). Movable (patternOf bs) (Moves bs after before side) i) (n .is)
+          (record { pattern = _; finite = r .finite; moved = r .moved })
 
   -- An empty list says that no block's frequency by itself moves the cut.
   -- Ruled out: an empty list where two open blocks have one frequency; one where the block chosen has frequency zero
@@ -44,7 +44,7 @@ module _ (bs : List BlockData) (after before : Inst) (side : Side) (p : Fair bs 
   -- Ruled out: the difference of the two patterns alone, one too few where the block is not ahead; a row that has
   -- another block than the one chosen go up.
   pub moves-fewest : (k : ℕ) → k < length (cutMoves bs after before side)
-      → Fewest bs after before side (moveAt (cutMoves bs after before side) k)
+      → Fewest (patternOf bs) (Moves bs after before side) (moveAt (cutMoves bs after before side) k)
   moves-fewest k h = list-fewest bs after before side p k h
 
   -- "The list runs from the fewest steps, equal ones by block."

@@ -47,20 +47,20 @@ module _ (bs : List BlockData) (after before : Inst) (side : Side) (p : Fair bs 
 
   -- ---- the fewest steps
 
-  up-fewest : e < infinity → Fewest bs after before side (upRow side f c e)
+  up-fewest : e < infinity → Fewest (patternOf bs) (Moves bs after before side) (upRow side f c e)
   up-fewest h =
       let l : f c < e = edge-above side f a b c (chosen bs after before side p) chosen-finite in
       let g : f c + (e - f c) ≡ e = omega arith in
       record {
         there = omega arith;
         finite = omega arith;
-        moves = rw g (high-moves bs after before side p e h (omega arith));
+        moved = rw g (high-moves bs after before side p e h (omega arith));
         nearest = λ x k m. omega (arith, moves-high bs after before side p x k m);
         further = λ x k o. high-moves bs after before side p x k (omega arith);
       }
 
   down-fewest : (i : ℕ) → a ≤ i → i ≤ b → (i ≡ c → ⊥) → tie side i c ≤ f c
-      → Fewest bs after before side (downRow side f c e i)
+      → Fewest (patternOf bs) (Moves bs after before side) (downRow side f c e i)
   down-fewest i l u n h =
       let k : f c < f i + tie side i c = chosen bs after before side p .first i l u n in
       let g : f i - (f i + tie side i c - f c) ≡ f c - tie side i c = omega arith in
@@ -68,19 +68,19 @@ module _ (bs : List BlockData) (after before : Inst) (side : Side) (p : Fair bs 
       record {
         there = omega arith;
         finite = omega arith;
-        moves = rw g (low-moves bs after before side p i (f c - tie side i c) y l u n (omega arith));
+        moved = rw g (low-moves bs after before side p i (f c - tie side i c) y l u n (omega arith));
         nearest = λ x z m. omega (arith, moves-low bs after before side p i x z n m);
         further = λ x z o. low-moves bs after before side p i x z l u n (omega arith);
       }
 
-  row-fewest : (m : CutMove) → Among side f c e a (suc b) m → Fewest bs after before side m
+  row-fewest : (m : CutMove) → Among side f c e a (suc b) m → Fewest (patternOf bs) (Moves bs after before side) m
   row-fewest m r = go (r .block) (r .low) (omega (arith, r .high)) (r .row)
     where
-      go : (i : ℕ) → a ≤ i → i ≤ b → Row side f c e i m → Fewest bs after before side m
-      go i l u (up q h g) = subst (λ (w : CutMove). Fewest bs after before side w) g (up-fewest h)
-      go i l u (down n h g) = subst (λ (w : CutMove). Fewest bs after before side w) g (down-fewest i l u n h)
+      go : (i : ℕ) → a ≤ i → i ≤ b → Row side f c e i m → Fewest (patternOf bs) (Moves bs after before side) m
+      go i l u (up q h g) = subst (λ (w : CutMove). Fewest (patternOf bs) (Moves bs after before side) w) g (up-fewest h)
+      go i l u (down n h g) = subst (λ (w : CutMove). Fewest (patternOf bs) (Moves bs after before side) w) g (down-fewest i l u n h)
 
-  pub list-fewest : (k : ℕ) → k < length list → Fewest bs after before side (moveAt list k)
+  pub list-fewest : (k : ℕ) → k < length list → Fewest (patternOf bs) (Moves bs after before side) (moveAt list k)
   unfolding cutMoves
   list-fewest k h =
       let m = at-member list k noMove h in

@@ -8,12 +8,11 @@ use lib.ListN.{length, getD}
 use lib.Ieee.{binary32, ofBits}
 use Rattle.definition.specs.declared.Inst.{Inst}
 use Rattle.definition.specs.declared.BlockData.{BlockData}
-use Rattle.definition.specs.declared.Side.{Side}
 use Rattle.definition.specs.declared.CutMove.{CutMove}
 use Rattle.definition.specs.declared.Way.{Way}
 use Rattle.definition.specs.declared.Way.the-variants.{Up, Down}
 use Rattle.definition.specs.Entry.{instsOf, every, blockOk}
-use Rattle.definition.specs.CutMoves.{Moves, infinity, patternOf}
+use Rattle.definition.specs.CutMoves.{infinity, patternOf}
 use Rattle.function.specs.Blocks.{blockAt}
 
 -- ---- what is spoken of
@@ -55,21 +54,23 @@ Off Down own k x = x + k ≤ own
 abbrev pub apart : ℕ → ℕ → ℕ
 apart x y = (x - y) + (y - x)
 
-module _ (bs : List BlockData) (after before : Inst) (side : Side) where
+-- ---- what is promised, `own` giving each block's pattern and `moves j x` saying that the pattern x in block j moves the cut
+
+module _ (own : ℕ → ℕ) (moves : ℕ → ℕ → Type 0) where
   -- some "finite frequency from zero up moves the cut" at block j
   pub record Movable (j : ℕ) : Type 0 where
     pub pattern : ℕ
     pub finite : pattern < infinity
-    pub moves : Moves bs after before side j pattern
+    pub moved : moves j pattern
 
-  -- "the fewest f32 steps needed": so many that way are there and move the cut; what moves it lies that way and so far off; and
-  -- all that lies so far off moves it
+  -- "the fewest f32 steps needed": so many that way are there and move the cut; what moves it lies that way and so far off; and all
+  -- that lies so far off moves it
   pub record Fewest (m : CutMove) : Type 0 where
-    pub there : Off (m .way) (patternOf bs (m .block .0)) (m .steps) (target (m .way) (patternOf bs (m .block .0)) (m .steps))
-    pub finite : target (m .way) (patternOf bs (m .block .0)) (m .steps) < infinity
-    pub moves : Moves bs after before side (m .block .0) (target (m .way) (patternOf bs (m .block .0)) (m .steps))
-    pub nearest : (x : ℕ) → x < infinity → Moves bs after before side (m .block .0) x → Off (m .way) (patternOf bs (m .block .0)) (m .steps) x
-    pub further : (x : ℕ) → x < infinity → Off (m .way) (patternOf bs (m .block .0)) (m .steps) x → Moves bs after before side (m .block .0) x
+    pub there : Off (m .way) (own (m .block .0)) (m .steps) (target (m .way) (own (m .block .0)) (m .steps))
+    pub finite : target (m .way) (own (m .block .0)) (m .steps) < infinity
+    pub moved : moves (m .block .0) (target (m .way) (own (m .block .0)) (m .steps))
+    pub nearest : (x : ℕ) → x < infinity → moves (m .block .0) x → Off (m .way) (own (m .block .0)) (m .steps) x
+    pub further : (x : ℕ) → x < infinity → Off (m .way) (own (m .block .0)) (m .steps) x → moves (m .block .0) x
 
 -- "The list runs from the fewest steps, equal ones by block."
 pub record InOrder (ms : List CutMove) : Type 0 where
