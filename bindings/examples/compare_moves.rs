@@ -463,12 +463,15 @@ fn to_bytes(rows: &[Row]) -> Vec<u8> {
     words.flat_map(u32::to_le_bytes).collect()
 }
 
-/// Ends in order, a fourth of them near each other, no more than `widest` apart.
+/// Ends in order, no more than `widest` apart: a fourth of them near each other, a half rather far.
 fn ends_in_order(insts: u32, widest: usize, random: &mut Random) -> (u32, u32) {
-    let before = 1 + random.below(insts as usize - 1);
-    let most = if random.one_in(4) { 6 } else { widest };
-    let after = before - 1 - random.below(before.min(most));
-    (after as u32, before as u32)
+    let (style, last) = (random.below(4), insts as usize - 1);
+    let far = if style < 2 { last / 2 } else { 0 };
+    let before = last - random.below(last - far);
+    let most = if style == 2 { 6 } else { widest };
+    let near = if style < 2 { before / 2 } else { 0 };
+    let apart = 1 + near + random.below(before - near);
+    ((before - apart.min(most)) as u32, before as u32)
 }
 
 /// Bytes of a list that has a row for each block, at or above what is needed.
