@@ -114,8 +114,8 @@ struct cundzeli_cut find_optimal_split_point(
  * frequency from zero up; a list without rows says so of all blocks.
  *
  * Reads:  `blocks`, `blocks_length` bytes, as find_optimal_split_point does.
- * Writes: `list`, all `list_length` bytes, whatever they held: rows of CUNDZELI_MOVES_ROW words from the front, by rising
- *         steps, equal ones by rising block, and zeros behind the last. What it leaves in `work` is not said.
+ * Writes: `list`, all `list_length` bytes, whatever they held: rows of CUNDZELI_MOVES_ROW words from the front, by
+ *         rising steps, equal ones by rising block, and zeros behind the last. And `work`.
  * Refuses by 1, 2 and 4 exactly where find_optimal_split_point does, then by 9 if the list has fewer whole rows than
  *         there are blocks (cundzeli_list_bytes). Then all of `list` is zero, and so is the count.
  */

@@ -1,6 +1,6 @@
 /*
- * How much stack the three functions take, measured: a call runs on a stack of its own that was painted before, and what
- * is no longer paint was used; then the same call runs on threads with less and less stack, until one fails.
+ * How much stack the three functions take, measured: a call runs on a stack of its own that was painted before, and
+ * what is no longer paint was used; then the same call runs on threads with less and less stack, until one fails.
  * Prints a line for each call. The exit status is 1 if one takes more than cundzeli.h says, or answers otherwise.
  *
  *     gcc -std=c99 -pthread include/stack.c target/staticlib/libbuild.a target/staticlib/libfind_cut.a \
