@@ -330,6 +330,9 @@ static void refused_moves(void)
         expect("ends that are equal", moves_number(8 * 512, 7, 7, 0, room), CUNDZELI_BAD_FUNCTION);
         expect("an end past the last", moves_number(8 * 512, 0, 4096, 0, room), CUNDZELI_BAD_FUNCTION);
     }
+    fill_blocks(3, UINT32_C(0xfffffff0), ONE);
+    cundzeli_put(blocks, CUNDZELI_BLOCK_INSTS, 40);
+    expect("counts that wrap to 8", moves_number(8 * 3, 0, 1, 0, 12 * 3), CUNDZELI_OVER_A_LIMIT);
 }
 
 int main(void)

@@ -626,7 +626,7 @@ const BAD_FREQUENCIES: [u32; 9] = [
 fn damage_bytes(bytes: &mut Vec<u8>, random: &mut Random) {
     let row = random.below(bytes.len() / 8 + 1) * 8;
     let inside = row + 8 <= bytes.len();
-    match random.below(9) {
+    match random.below(10) {
         0 => bytes.truncate(random.below(bytes.len() + 1)),
         1 => bytes.extend((0..random.below(9)).map(|byte| byte as u8)),
         2 => *bytes = (0..random.below(40)).map(|_| random.word() as u8).collect(),
@@ -637,6 +637,14 @@ fn damage_bytes(bytes: &mut Vec<u8>, random: &mut Random) {
             bytes[row + 4..row + 8].copy_from_slice(&bits.to_le_bytes());
         }
         7 => *bytes = [1, 0, 0, 0, 0, 0, 128, 63].repeat(510 + random.below(5)),
+        // Counts that add up to a little above 2^32, and would be in order if they wrapped.
+        8 if inside => {
+            let counts = rows_of(bytes).into_iter().map(|row| row.0);
+            let all = counts.fold(0, u32::wrapping_add);
+            let others = all.wrapping_sub(rows_of(bytes)[row / 8].0);
+            let count = (random.below(4097) as u32).wrapping_sub(others);
+            bytes[row..row + 4].copy_from_slice(&count.to_le_bytes());
+        }
         _ => {
             let insts: u64 = rows_of(bytes).iter().map(|row| u64::from(row.0)).sum();
             let rest = 4095_u64.saturating_sub(insts) as u32 + random.below(4) as u32;

@@ -218,6 +218,8 @@ fn refusals() {
     let (many, huge) = (blocks(&[(1, 1.0); 513]), blocks(&[(u32::MAX, 1.0); 512]));
     assert_eq!(refused(many.bytes(), 0, 1, 0, 513 * ROW), OverALimit);
     assert_eq!(refused(huge.bytes(), 0, 1, 0, 512 * ROW), OverALimit);
+    let wrapping = blocks(&[(4, 1.0), (u32::MAX, 1.0), (5, 1.0)]);
+    assert_eq!(refused(wrapping.bytes(), 0, 1, 0, 3 * ROW), OverALimit);
     let bad = [
         (0, 1.0),
         (4, -0.0),
