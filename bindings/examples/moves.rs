@@ -17,10 +17,12 @@
 
 use cundzeli::cut::Work;
 use cundzeli::moves::{MovesEnd, end_in_bytes};
+use std::ffi::c_int;
 use std::fs::File;
 use std::io::{self, BufRead, BufReader, BufWriter, Write};
 use std::os::fd::AsFd;
 use std::process::ExitCode;
+use std::sync::atomic::{AtomicBool, Ordering};
 
 /// What a line asks.
 struct Query {
@@ -135,12 +137,42 @@ fn answer_all(mut input: impl BufRead, mut out: impl Write) -> Result<(), Stop> 
     Ok(())
 }
 
-/// Standard input and output as files: a stream that can't be read or written is then an error, and not taken for empty.
+/// Whether standard input and standard output were closed when the program began.
+static CLOSED: [AtomicBool; 2] = [const { AtomicBool::new(false) }; 2];
+
+unsafe extern "C" {
+    fn fcntl(descriptor: c_int, command: c_int, ...) -> c_int;
+}
+
+/// Before `main` the runtime opens /dev/null for a stream that is closed. This comes before that.
+#[used]
+#[unsafe(link_section = ".init_array")]
+static BEFORE_THE_RUNTIME: extern "C" fn() = note_closed;
+
+extern "C" fn note_closed() {
+    const F_GETFD: c_int = 1;
+    for (descriptor, closed) in (0..).zip(&CLOSED) {
+        // SAFETY: with this command the function reads the flags of a descriptor, if it is open, and nothing else.
+        let flags = unsafe { fcntl(descriptor, F_GETFD) };
+        closed.store(flags == -1, Ordering::Relaxed);
+    }
+}
+
+/// The standard streams as files: what can't be read or written is an error there, where `Stdin` and `Stdout` take it for
+/// empty. For one that was closed there is a file that can't be read, or can't be written.
 fn streams() -> Result<(File, File), Stop> {
-    let input = io::stdin().as_fd().try_clone_to_owned();
-    let out = io::stdout().as_fd().try_clone_to_owned();
-    let (input, out) = (input.map_err(Stop::Read)?, out.map_err(Stop::Write)?);
-    Ok((input.into(), out.into()))
+    let [no_input, no_out] = &CLOSED;
+    let input = if no_input.load(Ordering::Relaxed) {
+        File::options().write(true).open("/dev/null")
+    } else {
+        io::stdin().as_fd().try_clone_to_owned().map(File::from)
+    };
+    let out = if no_out.load(Ordering::Relaxed) {
+        File::open("/dev/null")
+    } else {
+        io::stdout().as_fd().try_clone_to_owned().map(File::from)
+    };
+    Ok((input.map_err(Stop::Read)?, out.map_err(Stop::Write)?))
 }
 
 fn main() -> ExitCode {

@@ -236,6 +236,31 @@ fn streams_that_fail() {
     assert_eq!(with(open(&line), Stdio::null()), (Some(0), String::new()));
 }
 
+/// A stream that is closed is said too, and not taken for /dev/null.
+#[test]
+fn streams_that_are_closed() {
+    let shell = |command: &str| {
+        let output = Command::new("sh")
+            .args(["-c", command])
+            .arg(program())
+            .output()
+            .expect("a shell");
+        let said = String::from_utf8(output.stderr).expect("text");
+        (output.status.code(), said)
+    };
+    let why = "Bad file descriptor (os error 9)";
+    let closed = |name: &str| (Some(1), format!("moves: standard {name}: {why}\n"));
+    assert_eq!(
+        shell("printf '0\\t0\\t1\\t0\\t-' | \"$0\" >&-"),
+        closed("output")
+    );
+    assert_eq!(shell("\"$0\" <&-"), closed("input"));
+    assert_eq!(
+        shell("\"$0\" </dev/null >/dev/null"),
+        (Some(0), String::new())
+    );
+}
+
 /// An answer comes before the next line is there.
 #[test]
 fn line_by_line() {
