@@ -1,15 +1,16 @@
-//! The exported function `find_cut_moves` beside the Rust's `SplitPlacement::find_optimal_split_point`, asked again with
-//! one frequency changed, and on damaged input beside the numbers. `compare_moves [QUERIES [SEED]]`.
+//! The exported function `find_cut_moves` beside the Rust's `SplitPlacement::find_optimal_split_point`, asked again
+//! with one frequency changed, and on damaged input beside the numbers. `compare_moves [QUERIES [SEED]]`.
 //!
-//! The Rust has no such question. It only compares frequencies with each other, so while one block's frequency rises the
-//! cut can change where it meets another block's and nowhere else. Between these it is the same, and the fewest steps to
-//! another cut end at an end of such a stretch: at zero, at the greatest frequency, at another block's frequency, or one
-//! step beside it. There the Rust is asked, for every block, whatever the ends are: the fewest steps to another answer are
-//! the row that is expected. Functions of many blocks and frequencies, where that is too much, are asked so at the blocks
-//! from that of `after` to that of `before` and at their frequencies; their other blocks at zero, at the greatest frequency
-//! and at two more.
+//! The Rust has no such question. It only compares frequencies with each other, so while one block's frequency rises
+//! the cut can change where it meets another block's and nowhere else. Between these it is the same, and the fewest
+//! steps to another cut end at an end of such a stretch: at zero, at the greatest frequency, at another block's
+//! frequency, or one step beside it. There the Rust is asked, for every block, whatever the ends are: the fewest steps
+//! to another answer are the row that is expected. Functions of many blocks and frequencies, where that is too much,
+//! are asked so at the blocks from that of `after` to that of `before` and at their frequencies; their other blocks at
+//! zero, at the greatest frequency and at two more.
 //!
-//! Then for each row (of long lists for some): one step less does not move the Rust's cut, and two patterns further on do.
+//! Then for each row (of long lists for some): one step less does not move the Rust's cut, and the steps themselves and
+//! two patterns further on do.
 
 #[allow(dead_code)]
 #[path = "common/random.rs"]
@@ -22,6 +23,7 @@ use reference::function::{self as f, Block, Function, Inst, InstRange, Value, Va
 use reference::internal::split_placement::SplitPlacement;
 use reference::reginfo::{RegBank, RegClass, RegUnit};
 use std::env;
+use std::fmt::Debug;
 use std::ops::Range;
 use std::process::exit;
 
@@ -36,6 +38,14 @@ struct Query {
     after: u32,
     before: u32,
     side: u32,
+}
+
+/// What a call is handed: the blocks, the query, and the bytes of its list.
+#[derive(Debug)]
+struct Input {
+    bytes: Vec<u8>,
+    query: Query,
+    length: usize,
 }
 
 /// A block by its fewest steps.
@@ -326,64 +336,68 @@ struct Place {
 
 impl Place {
     /// Calls, and gives the end and the list; all else must be as it was.
-    fn call(
-        &mut self,
-        bytes: &[u8],
-        query: &Query,
-        length: usize,
-        random: &mut Random,
-    ) -> (MovesEnd, &[u8]) {
+    fn call(&mut self, input: &Input, random: &mut Random) -> (MovesEnd, &[u8]) {
         let [from, at] = [(); 2].map(|()| random.below(BESIDE));
+        let blocks = from..from + input.bytes.len();
+        let list = at..at + input.length;
         self.blocks.clear();
         self.blocks.resize(from, 0x5a);
-        self.blocks.extend(bytes);
+        self.blocks.extend(&input.bytes);
         self.blocks.extend([0x5a; BESIDE]);
         self.list.clear();
-        self.list.resize(at + length + BESIDE, 0xa5);
+        self.list.resize(list.end + BESIDE, 0xa5);
         self.work.bytes().fill(random.word() as u8);
-        let (blocks, list) = (from..from + bytes.len(), at..at + length);
+        let Query { after, before, side } = input.query;
         let end = end_in_bytes(
             &self.blocks[blocks.clone()],
-            query.after,
-            query.before,
-            query.side,
+            after,
+            before,
+            side,
             &mut self.list[list.clone()],
             &mut self.work,
         );
         let beside = |bytes: &[u8], byte: u8| bytes.iter().all(|&other| other == byte);
-        let kept = self.blocks[blocks.clone()] == *bytes
-            && beside(&self.blocks[..blocks.start], 0x5a)
+        let kept = self.blocks[blocks.clone()] == input.bytes
+            && beside(&self.blocks[..from], 0x5a)
             && beside(&self.blocks[blocks.end..], 0x5a)
             && beside(&self.list[..at], 0xa5)
             && beside(&self.list[list.end..], 0xa5);
         if !kept {
-            differs(
-                "written outside the list",
-                bytes,
-                query,
-                length,
-                &end,
-                &"none",
-            );
+            differs("written outside the list", input, &end, &"nothing");
         }
         (end, &self.list[list])
+    }
+
+    /// A call that must be refused by a number: count 0, and the list zero.
+    fn refused(&mut self, input: &Input, number: u32, random: &mut Random) {
+        let (end, ours) = self.call(input, random);
+        let theirs = MovesEnd { number, count: 0 };
+        if end != theirs || ours.iter().any(|&byte| byte != 0) {
+            differs("refused", input, &(end, ours), &theirs);
+        }
+    }
+
+    /// A call that must give these rows, and zeros behind them.
+    fn accepted(&mut self, input: &Input, list: &[Found], random: &mut Random) {
+        let theirs = MovesEnd { number: 0, count: list.len() as u32 };
+        let (end, ours) = self.call(input, random);
+        if end != theirs || *ours != bytes_of(list, input.length) {
+            differs("accepted", input, &(end, ours), &list);
+        }
     }
 }
 
 /// Prints the input as a line for the driver `moves`, and ends.
-fn differs(
-    what: &str,
-    bytes: &[u8],
-    query: &Query,
-    length: usize,
-    ours: &dyn std::fmt::Debug,
-    theirs: &dyn std::fmt::Debug,
-) -> ! {
-    let digits: String = bytes.iter().map(|byte| format!("{byte:02x}")).collect();
-    let Query { after, before, side } = query;
-    let digits = if bytes.is_empty() { "-" } else { &digits };
-    println!("{what}: {ours:02x?}, expected {theirs:02x?}, over");
-    println!("{side}\t{after}\t{before}\t{length}\t{digits}");
+fn differs(what: &str, input: &Input, ours: &dyn Debug, theirs: &dyn Debug) -> ! {
+    let Query { after, before, side } = input.query;
+    let digits: String = input
+        .bytes
+        .iter()
+        .map(|byte| format!("{byte:02x}"))
+        .collect();
+    let digits = if digits.is_empty() { "-" } else { &digits };
+    println!("{what}: {ours:x?}, expected {theirs:x?}, over");
+    println!("{side}\t{after}\t{before}\t{}\t{digits}", input.length);
     exit(1)
 }
 
@@ -510,72 +524,60 @@ struct Counts {
     compared: u64,
 }
 
-/// One function in order: some ends, both sides, in lists that are long enough, and now and then in one that is not.
-fn accepted(random: &mut Random, place: &mut Place, counts: &mut Counts) {
-    let rows = function(random);
-    let bytes = to_bytes(&rows);
-    let mut rust = Rust::new(&rows);
-    let insts = rust.blocks.insts();
-    if insts < 2 {
-        return;
+impl Counts {
+    /// An accepted query with this list.
+    fn add(&mut self, list: &[Found]) {
+        let up = list.iter().filter(|found| found.way == Way::Up).count();
+        self.queries += 1;
+        self.empty += u64::from(list.is_empty());
+        self.up += up as u64;
+        self.down += (list.len() - up) as u64;
     }
-    let whole = affordable(&rows);
+}
+
+/// Ends in order, each pair early and late, with the cut that the Rust answers.
+fn queries(rust: &Rust, whole: bool, random: &mut Random) -> Vec<(Query, u32)> {
     let (pairs, widest) = if whole { (8, 4096) } else { (1, 64) };
     let mut queries = Vec::new();
     for _ in 0..pairs {
-        let (after, before) = ends_in_order(insts, widest, random);
+        let (after, before) = ends_in_order(rust.blocks.insts(), widest, random);
         for side in 0..2 {
             let query = Query { after, before, side };
             queries.push((query, rust.cut(&query)));
         }
     }
+    queries
+}
+
+/// One function in order: some ends, both sides, in lists that are long enough, and now and then in one that is not.
+fn accepted(random: &mut Random, place: &mut Place, counts: &mut Counts) {
+    let rows = function(random);
+    let (mut rust, whole) = (Rust::new(&rows), affordable(&rows));
+    if rust.blocks.insts() < 2 {
+        return;
+    }
+    let queries = queries(&rust, whole, random);
     let lists = lists(&mut rust, &queries, whole, random);
-    for ((query, held), list) in queries.iter().zip(lists) {
+    for ((query, held), list) in queries.into_iter().zip(lists) {
         let length = fine_length(rows.len(), random);
-        let theirs = (list.len() as u32, bytes_of(&list, length));
-        let (end, ours) = place.call(&bytes, query, length, random);
-        if end != (MovesEnd { number: 0, count: theirs.0 }) || *ours != theirs.1 {
-            differs("accepted", &bytes, query, length, &(end, ours), &theirs);
-        }
+        let mut input = Input { bytes: to_bytes(&rows), query, length };
+        place.accepted(&input, &list, random);
         for found in &list {
-            if list.len() > 40 && !random.one_in(list.len() / 20) {
-                continue;
-            }
-            if !hold(&mut rust, query, *held, found, random) {
-                differs("a row", &bytes, query, length, found, &"the fewest steps");
+            let looked_at = list.len() <= 40 || random.one_in(list.len() / 20);
+            if looked_at && !hold(&mut rust, &query, held, found, random) {
+                differs("a row", &input, found, &"the fewest steps");
             }
         }
-        counts.queries += 1;
-        counts.empty += u64::from(list.is_empty());
-        let up = list.iter().filter(|found| found.way == Way::Up).count() as u64;
-        counts.up += up;
-        counts.down += list.len() as u64 - up;
+        counts.add(&list);
         if random.one_in(4) {
-            let length = short_length(rows.len(), random);
-            refused(place, &bytes, query, length, 9, random);
+            input.length = short_length(rows.len(), random);
+            place.refused(&input, 9, random);
             counts.short += 1;
         }
     }
     counts.functions += 1;
     counts.long += u64::from(whole && rows.len() >= 100);
     counts.changes += rust.changes;
-}
-
-/// A call that must be refused by a number: count 0, and the list zero.
-fn refused(
-    place: &mut Place,
-    bytes: &[u8],
-    query: &Query,
-    length: usize,
-    number: u32,
-    random: &mut Random,
-) {
-    let (end, ours) = place.call(bytes, query, length, random);
-    let zeros = ours.iter().all(|&byte| byte == 0);
-    let theirs = MovesEnd { number, count: 0 };
-    if end != theirs || !zeros {
-        differs("refused", bytes, query, length, &(end, ours), &theirs);
-    }
 }
 
 // ---- damaged input
@@ -591,7 +593,8 @@ fn rows_of(bytes: &[u8]) -> Vec<Row> {
 }
 
 /// The number that an input must be answered by: those of the cut finder, then 9 for a list with too few rows.
-fn number(bytes: &[u8], query: &Query, length: usize) -> u32 {
+fn number(input: &Input) -> u32 {
+    let Input { bytes, query, length } = input;
     if query.side > 1 || !bytes.len().is_multiple_of(8) || bytes.is_empty() {
         return 1;
     }
@@ -655,7 +658,7 @@ fn damage_bytes(bytes: &mut Vec<u8>, random: &mut Random) {
 }
 
 /// Changes to an input that was in order, or bytes that never were, and any list.
-fn damaged(random: &mut Random) -> (Vec<u8>, Query, usize) {
+fn damaged(random: &mut Random) -> Input {
     let mut rows = function(random);
     rows.truncate(1 + random.below(12));
     let mut bytes = to_bytes(&rows);
@@ -680,34 +683,24 @@ fn damaged(random: &mut Random) -> (Vec<u8>, Query, usize) {
     } else {
         fine_length(count, random)
     };
-    (bytes, Query { after, before, side }, length)
+    let query = Query { after, before, side };
+    Input { bytes, query, length }
 }
 
 /// An input that is still in order, as any other; of those of many blocks only some.
-fn in_order(
-    place: &mut Place,
-    bytes: &[u8],
-    query: Query,
-    length: usize,
-    random: &mut Random,
-    counts: &mut Counts,
-) {
-    let rows = rows_of(bytes);
+fn in_order(input: &Input, place: &mut Place, random: &mut Random, counts: &mut Counts) {
+    let rows = rows_of(&input.bytes);
     if rows.len() > 40 && !random.one_in(64) {
-        let (end, _) = place.call(bytes, &query, length, random);
+        let (end, _) = place.call(input, random);
         if end.number != 0 {
-            differs("in order", bytes, &query, length, &end, &"number 0");
+            differs("in order", input, &end, &"number 0");
         }
         return;
     }
     let mut rust = Rust::new(&rows);
-    let held = rust.cut(&query);
-    let list = lists(&mut rust, &[(query, held)], true, random).remove(0);
-    let theirs = (list.len() as u32, bytes_of(&list, length));
-    let (end, ours) = place.call(bytes, &query, length, random);
-    if end != (MovesEnd { number: 0, count: theirs.0 }) || *ours != theirs.1 {
-        differs("in order", bytes, &query, length, &(end, ours), &theirs);
-    }
+    let held = rust.cut(&input.query);
+    let list = lists(&mut rust, &[(input.query, held)], true, random).remove(0);
+    place.accepted(input, &list, random);
     counts.compared += 1;
 }
 
@@ -733,18 +726,18 @@ fn main() {
     );
     println!("{short} of the queries again in a list that is too short: each refused by 9");
     for _ in 0..queries {
-        let (bytes, query, length) = damaged(&mut random);
-        let number = number(&bytes, &query, length);
+        let input = damaged(&mut random);
+        let number = number(&input);
         match number {
-            0 => in_order(&mut place, &bytes, query, length, &mut random, &mut counts),
-            _ => refused(&mut place, &bytes, &query, length, number, &mut random),
+            0 => in_order(&input, &mut place, &mut random, &mut counts),
+            _ => place.refused(&input, number, &mut random),
         }
         counts.answers[number as usize] += 1;
     }
     let [fine, one, two, _, four, _, _, _, _, nine] = counts.answers;
     println!(
-        "{queries} damaged inputs: {one} refused by 1, {two} by 2, {four} by 4, {nine} by 9, {fine} still in order, {} of \
-         these held against the Rust: no difference",
+        "{queries} damaged inputs: {one} refused by 1, {two} by 2, {four} by 4, {nine} by 9, {fine} still in order, \
+         {} of these held against the Rust: no difference",
         counts.compared
     );
 }

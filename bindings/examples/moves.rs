@@ -1,19 +1,19 @@
 //! A driver of the exported function `find_cut_moves`: a line in, a line out, until standard input ends.
 //!
-//! A line has five fields, parted by tabs: side, after, before (decimal, each below 2^32), the length of the lent list in
-//! bytes (decimal), and the bytes handed over as blocks, two lower-case hexadecimal digits each, or `-` for none. The list
-//! is filled with bytes a5 and the work space with bytes 5a, the function is called, and number, count and the bytes of the
-//! list after the call, in the same form, are printed, parted by tabs. Three blocks of frequencies 4, 2.5 and 3, of which
-//! the first two are open (the tabs are shown as blanks):
+//! A line has five fields, parted by tabs: side, after, before (decimal, each below 2^32), the length of the lent list
+//! in bytes (decimal), and the bytes handed over as blocks, two lower-case hexadecimal digits each, or `-` for none.
+//! The list is filled with bytes a5 and the work space with bytes 5a, the function is called, and number, count and the
+//! bytes of the list after the call, in the same form, are printed, parted by tabs. Three blocks of frequencies 4, 2.5
+//! and 3, of which the first two are open (the tabs are shown as blanks):
 //!
 //! ```text
 //! 0 1 4 40 030000000000804002000000000020400100000000004040
 //! 0 2 00000000010000000000600001000000000000000000600000000000000000000000000000000000
 //! ```
 //!
-//! Decimal fields are digits alone, and may begin with zeros. The last line may lack its line feed. A line of another form,
-//! or a list for which there is no memory, ends the driver with status 2 and a word on standard error, a read or write that
-//! fails with status 1; the lines before are answered then.
+//! Decimal fields are digits alone, and may begin with zeros. The last line may lack its line feed. A line of another
+//! form, or a list for which there is no memory, ends the driver with status 2 and a word on standard error, a read or
+//! write that fails with status 1; the lines before are answered then.
 
 use cundzeli::cut::Work;
 use cundzeli::moves::{MovesEnd, end_in_bytes};
@@ -158,8 +158,8 @@ extern "C" fn note_closed() {
     }
 }
 
-/// The standard streams as files: what can't be read or written is an error there, where `Stdin` and `Stdout` take it for
-/// empty. For one that was closed there is a file that can't be read, or can't be written.
+/// The standard streams as files: what can't be read or written is an error there, where `Stdin` and `Stdout` take it
+/// for empty. For one that was closed there is a file that can't be read, or can't be written.
 fn streams() -> Result<(File, File), Stop> {
     let [no_input, no_out] = &CLOSED;
     let input = if no_input.load(Ordering::Relaxed) {

@@ -1,5 +1,5 @@
-//! The driver of `find_cut_moves`, examples/moves.rs, as a program: what it prints for lines of its form, and how it ends
-//! at others and where a stream fails.
+//! The driver of `find_cut_moves`, examples/moves.rs, as a program: what it prints for lines of its form, and how it
+//! ends at others and where a stream fails.
 
 use std::fs::File;
 use std::io::{BufRead, BufReader, Write};
@@ -82,8 +82,8 @@ fn lines_are_answered_in_order() {
     // Late, block 0 has to go below block 1: one step more, and as many for block 1.
     let late = "0\t2\t000000000100000001006000010000000000000001006000";
     let expected = format!(
-        "0\t2\t{FIRST}{SECOND}{behind}\n{late}{behind}\n9\t0\t{zeros}\n4\t0\t00\n1\t0\t-\n1\t0\t000000\n2\t0\t{behind}\n\
-         4\t0\t{behind}\n"
+        "0\t2\t{FIRST}{SECOND}{behind}\n{late}{behind}\n9\t0\t{zeros}\n4\t0\t00\n1\t0\t-\n1\t0\t000000\n\
+         2\t0\t{behind}\n4\t0\t{behind}\n"
     );
     assert_eq!(answers(&input), expected);
 }
@@ -124,7 +124,7 @@ fn a_long_line() {
     assert!(list.starts_with("000000000100000001000000"));
 }
 
-/// What is not of the form ends it: the lines before are answered, none behind, and there is a word of which line it was.
+/// What is not of the form ends it: the lines before are answered, none behind, and it says which line it was.
 #[test]
 fn other_forms() {
     let fine = format!("0\t1\t4\t12\t{BLOCKS}\n");
