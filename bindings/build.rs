@@ -10,7 +10,7 @@ use std::path::{Path, PathBuf};
 use std::time::SystemTime;
 use std::{env, fs, io};
 
-const ARCHIVES: [&str; 2] = ["find_cut", "build"];
+const ARCHIVES: [&str; 3] = ["find_cut", "cut_moves", "build"];
 
 fn main() {
     let here = PathBuf::from(env::var_os("CARGO_MANIFEST_DIR").expect("run by cargo"));

@@ -1,9 +1,11 @@
 /*
  * What docs/TABLES.md says of a call, tried: its worked example word by word, addresses that are not aligned, work
- * space of any content, counts of members that no row can have, and the cut finder's rows.
+ * space of any content, counts of members that no row can have, the cut finder's rows, and the list of what would move
+ * a cut.
  * Prints what is not as said, and how much was tried. The exit status is 1 if anything is not as said.
  *
- *     gcc -std=c99 include/check.c target/staticlib/libbuild.a target/staticlib/libfind_cut.a -o check
+ *     gcc -std=c99 include/check.c target/staticlib/libbuild.a target/staticlib/libfind_cut.a \
+ *         target/staticlib/libcut_moves.a -o check
  */
 #define _DEFAULT_SOURCE
 #include "cundzeli.h"
@@ -232,6 +234,107 @@ static void bad_blocks(void)
     }
 }
 
+/* ------------------------------------------------------------------------- what would move a cut */
+
+/* Block, way and steps of each row: cases F and G, early and late. */
+static const uint32_t F_EARLY[] = {1, CUNDZELI_WAY_UP, 1, 2, CUNDZELI_WAY_DOWN, 1, 0, CUNDZELI_WAY_DOWN, 4194304};
+static const uint32_t F_LATE[] = {1, CUNDZELI_WAY_DOWN, 1, 2, CUNDZELI_WAY_UP, 1, 0, CUNDZELI_WAY_DOWN, 4194305};
+static const uint32_t G_EARLY[] = {
+    1, CUNDZELI_WAY_DOWN, 8388608, 2, CUNDZELI_WAY_UP, 8388608, 0, CUNDZELI_WAY_DOWN, 12582912};
+static const uint32_t G_LATE[] = {0, CUNDZELI_WAY_DOWN, 4194305, 1, CUNDZELI_WAY_UP, 4194305};
+
+/* Three blocks of 4, 4 and 8 instructions, run 3, 2 and `last` times. */
+static void three_blocks(float last)
+{
+    const float frequencies[] = {3, 2, last};
+    for (size_t i = 0; i < 3; i++) {
+        cundzeli_put(blocks, CUNDZELI_BLOCK_ROW * i + CUNDZELI_BLOCK_INSTS, i == 2 ? 8 : 4);
+        cundzeli_put(blocks, CUNDZELI_BLOCK_ROW * i + CUNDZELI_BLOCK_FREQUENCY, cundzeli_bits(frequencies[i]));
+    }
+}
+
+/* The first row, done: the cut is another one, and with a step less it is not. */
+static void first_row(const uint8_t *list, uint32_t after, uint32_t before, uint32_t side)
+{
+    size_t at = CUNDZELI_BLOCK_ROW * cundzeli_word(list, CUNDZELI_MOVES_BLOCK) + CUNDZELI_BLOCK_FREQUENCY;
+    uint32_t way = cundzeli_word(list, CUNDZELI_MOVES_WAY), steps = cundzeli_word(list, CUNDZELI_MOVES_STEPS);
+    float own = cundzeli_float(cundzeli_word(blocks, at));
+    uint32_t held = find_optimal_split_point(blocks, 8 * 3, after, before, side, work).inst;
+    cundzeli_put(blocks, at, cundzeli_bits(cundzeli_target(own, way, steps)));
+    expect("moved", find_optimal_split_point(blocks, 8 * 3, after, before, side, work).inst != held, 1);
+    cundzeli_put(blocks, at, cundzeli_bits(cundzeli_target(own, way, steps - 1)));
+    expect("a step less", find_optimal_split_point(blocks, 8 * 3, after, before, side, work).inst, held);
+    cundzeli_put(blocks, at, cundzeli_bits(own));
+}
+
+/* The three blocks in lists of every length, at any address, in list and work space of any content. */
+static void moves_of(uint32_t before, uint32_t side, const uint32_t *rows, uint32_t count)
+{
+    uint8_t bytes[96], want[80], before_call[8 * 3];
+    memcpy(before_call, blocks, sizeof before_call);
+    for (size_t length = 0; length < sizeof want; length++) {
+        uint8_t *list = bytes + length % 8;
+        int fits = length >= cundzeli_list_bytes(3);
+        memset(bytes, 0xa5, sizeof bytes);
+        memset(want, 0, sizeof want);
+        memset(work, (int)length, CUNDZELI_MOVES_WORK);
+        if (fits)
+            write_words(want, rows, CUNDZELI_MOVES_ROW * count);
+        struct cundzeli_moves end = find_cut_moves(blocks, 8 * 3, 1, before, side, list, length, work + length % 2);
+        expect("moves", end.number, fits ? CUNDZELI_OK : CUNDZELI_FULL);
+        expect("moves, rows", end.count, fits ? count : 0);
+        expect("moves, list as said", memcmp(list, want, length) == 0, 1);
+        expect("moves, beside the list", (uint32_t)all_are(bytes, length % 8, 0xa5) + list[length], 1 + 0xa5);
+        expect("moves, the blocks as they were", memcmp(blocks, before_call, sizeof before_call) == 0, 1);
+        if (fits)
+            first_row(list, 1, before, side);
+    }
+}
+
+static void moves(void)
+{
+    three_blocks(2);
+    moves_of(13, CUNDZELI_SIDE_EARLY, F_EARLY, 3);
+    moves_of(13, CUNDZELI_SIDE_LATE, F_LATE, 3);
+    three_blocks(1);
+    moves_of(8, CUNDZELI_SIDE_EARLY, G_EARLY, 3);
+    moves_of(8, CUNDZELI_SIDE_LATE, G_LATE, 2);
+}
+
+/* The number that so many bytes of blocks give in a list of so many bytes; a refusal leaves zeros. */
+static uint32_t moves_number(size_t length, uint32_t after, uint32_t before, uint32_t side, size_t list_length)
+{
+    static uint8_t list[12 * 513 + 1];
+    memset(list, 0xa5, sizeof list);
+    struct cundzeli_moves end = find_cut_moves(blocks, length, after, before, side, list, list_length, work);
+    if (end.number != CUNDZELI_OK) {
+        expect("refused moves, count", end.count, 0);
+        expect("refused moves, list", (uint32_t)all_are(list, list_length, 0), 1);
+    }
+    expect("the byte behind the list", list[list_length], 0xa5);
+    return end.number;
+}
+
+/* The lowest number comes, and 9 last of all. */
+static void refused_moves(void)
+{
+    fill_blocks(513, 8, ONE);
+    expect("512 blocks", moves_number(8 * 512, 0, 4095, 0, 12 * 512), CUNDZELI_OK);
+    expect("512 blocks, a byte short", moves_number(8 * 512, 0, 4095, 0, 12 * 512 - 1), CUNDZELI_FULL);
+    expect("512 blocks, one open, a row short", moves_number(8 * 512, 0, 1, 0, 12 * 511), CUNDZELI_FULL);
+    for (size_t room = 0; room <= 12 * 513; room += 12 * 513) {
+        expect("513 blocks", moves_number(8 * 513, 0, 1, 0, room), CUNDZELI_OVER_A_LIMIT);
+        expect("no block", moves_number(0, 0, 1, 0, room), CUNDZELI_NOT_A_RECORD);
+        expect("half a row", moves_number(8 * 512 + 4, 0, 1, 0, room), CUNDZELI_NOT_A_RECORD);
+        expect("a side off its list", moves_number(8 * 513, 0, 1, 2, room), CUNDZELI_NOT_A_RECORD);
+        expect("ends that are equal", moves_number(8 * 512, 7, 7, 0, room), CUNDZELI_BAD_FUNCTION);
+        expect("an end past the last", moves_number(8 * 512, 0, 4096, 0, room), CUNDZELI_BAD_FUNCTION);
+    }
+    fill_blocks(3, UINT32_C(0xfffffff0), ONE);
+    cundzeli_put(blocks, CUNDZELI_BLOCK_INSTS, 40);
+    expect("counts that wrap to 8", moves_number(8 * 3, 0, 1, 0, 12 * 3), CUNDZELI_OVER_A_LIMIT);
+}
+
 int main(void)
 {
     for (size_t off = 0; off < 16; off++) {
@@ -243,6 +346,8 @@ int main(void)
     members();
     rows_of_blocks();
     bad_blocks();
+    moves();
+    refused_moves();
     printf("%d tried, %d not as said\n", tried, bad);
     return bad == 0 ? 0 : 1;
 }

@@ -1,22 +1,23 @@
 /*
- * cundzeli.h: the register pass `build_initial_vregs` and the cut finder `find_optimal_split_point`, proved in Rattle,
- * for C99 and C++.
+ * cundzeli.h: the register pass `build_initial_vregs`, the cut finder `find_optimal_split_point`, and what would move a
+ * cut, `find_cut_moves`, proved in Rattle, for C99 and C++.
  *
- * `rt staticlib build` and `rt staticlib find_cut`, at the top of the repository, write target/staticlib/libbuild.a
- * and libfind_cut.a, one for each function. They link into x86-64 Linux programs and call nothing but memcpy and
- * memset. docs/TABLES.md has every table with a worked example, docs/SHEETS.md says what the fields mean, and
- * include/example.c is a whole program.
+ * `rt staticlib build`, `rt staticlib find_cut` and `rt staticlib cut_moves`, at the top of the repository, write
+ * target/staticlib/libbuild.a, libfind_cut.a and libcut_moves.a, one for each function. They link into x86-64 Linux
+ * programs and call nothing but memcpy and memset. docs/TABLES.md has every table with a worked example, docs/SHEETS.md
+ * says what the fields mean, and include/example.c is a whole program.
  *
- * This holds of both:
+ * This holds of all three:
  *
  * - Any bytes and any numbers are taken. What is not in order is refused by a number, and nothing else happens.
  * - A slice is an address and a length in bytes: so many bytes lie there. An address is not NULL, even where the
  *   length is 0. No alignment is asked.
- * - Slices do not overlap: what is written (`out`, `work`) shares no byte with any other slice of the call. The proofs
- *   are about separate tables, and nothing is said of others.
+ * - Slices do not overlap: what is written (`out`, `list`, `work`) shares no byte with any other slice of the call. The
+ *   proofs are about separate tables, and nothing is said of others.
  * - No global state, no heap, no pointer kept, no callback, no input or output, no errno. Threads may call at once
- *   without a lock, each with an `out` and a `work` of its own; what is only read they may share.
- * - Running out of stack is the one thing that no number is given for: CUNDZELI_BUILD_STACK, CUNDZELI_CUT_STACK.
+ *   without a lock, each with an `out` or `list` and a `work` of its own; what is only read they may share.
+ * - Running out of stack is the one thing that no number is given for: CUNDZELI_BUILD_STACK, CUNDZELI_CUT_STACK,
+ *   CUNDZELI_MOVES_STACK.
  */
 #ifndef CUNDZELI_H
 #define CUNDZELI_H
@@ -32,14 +33,15 @@ extern "C" {
 #define CUNDZELI_RESTRICT restrict
 #endif
 
-/* ----------------------------------------------------------------------------------- the two functions */
+/* --------------------------------------------------------------------------------- the three functions */
 
 /*
  * The bytes of work space that a call is lent. What it holds before does not matter, and one serves any number of
- * calls. What the builder leaves in it is not said.
+ * calls. What the builder and `find_cut_moves` leave in it is not said.
  */
 #define CUNDZELI_BUILD_WORK 110600
 #define CUNDZELI_CUT_WORK 4104
+#define CUNDZELI_MOVES_WORK 4104
 
 /*
  * The bytes of free stack that are enough for a call. The builder's go by the class uses (kinds 4 to 7) of the set
@@ -48,6 +50,7 @@ extern "C" {
  */
 #define CUNDZELI_BUILD_STACK(class_uses) (16384 + 384 * (size_t)(class_uses))
 #define CUNDZELI_CUT_STACK 4096
+#define CUNDZELI_MOVES_STACK 4096
 
 /* Number 0 and how many registers and groups there are; or a refusal's number (enum cundzeli_number), and zeros. */
 struct cundzeli_end {
@@ -60,6 +63,12 @@ struct cundzeli_end {
 struct cundzeli_cut {
     uint32_t number;
     uint32_t inst;
+};
+
+/* Number 0 and how many rows the list has; or a refusal's number, and 0. */
+struct cundzeli_moves {
+    uint32_t number;
+    uint32_t count;
 };
 
 /*
@@ -99,8 +108,27 @@ struct cundzeli_cut find_optimal_split_point(
     uint8_t *CUNDZELI_RESTRICT work /* CUNDZELI_CUT_WORK bytes */);
 
 /*
+ * Names each block whose frequency by itself could move the cut that find_optimal_split_point answers to the same
+ * blocks, ends and side, with the way that it has to go and the fewest steps: the difference of its bits and those of
+ * the nearest frequency at which another instruction is answered. A block that is not named can't, by any finite
+ * frequency from zero up; a list without rows says so of all blocks.
+ *
+ * Reads:  `blocks`, `blocks_length` bytes, as find_optimal_split_point does.
+ * Writes: `list`, all `list_length` bytes, whatever they held: rows of CUNDZELI_MOVES_ROW words from the front, by
+ *         rising steps, equal ones by rising block, and zeros behind the last. And `work`.
+ * Refuses by 1, 2 and 4 exactly where find_optimal_split_point does, then by 9 if the list has fewer whole rows than
+ *         there are blocks (cundzeli_list_bytes). Then all of `list` is zero, and so is the count.
+ */
+struct cundzeli_moves find_cut_moves(
+    const uint8_t *CUNDZELI_RESTRICT blocks, size_t blocks_length,
+    uint32_t after, uint32_t before, uint32_t side,
+    uint8_t *CUNDZELI_RESTRICT list, size_t list_length,
+    uint8_t *CUNDZELI_RESTRICT work /* CUNDZELI_MOVES_WORK bytes */);
+
+/*
  * The refusals. Tests 1 to 7 are taken by number, lowest first; 8 and 9 come as they are met while registers are
- * placed, 8 if one register meets both. cundzeli_cause has the words of the definition for each.
+ * placed, 8 if one register meets both. cundzeli_cause has the words of the definition for each. In find_cut_moves 9 is
+ * tested last, before anything is looked for.
  */
 enum cundzeli_number {
     CUNDZELI_OK = 0,
@@ -112,7 +140,7 @@ enum cundzeli_number {
     CUNDZELI_BAD_SEGMENT = 6,
     CUNDZELI_BAD_USE = 7,
     CUNDZELI_STOPPED = 8,      /* the pass has no answer for the job */
-    CUNDZELI_FULL = 9          /* too few rows in a table of `out` */
+    CUNDZELI_FULL = 9          /* too few rows in a table of `out`, or in a list of moves */
 };
 
 /* --------------------------------------------------------------------------------- the limits of a job */
@@ -165,7 +193,7 @@ enum cundzeli_number {
 #define CUNDZELI_REG_ROW 1
 #define CUNDZELI_REG_MEMORY 0 /* 0 or 1 */
 
-#define CUNDZELI_BLOCK_ROW 2 /* the cut finder's row too */
+#define CUNDZELI_BLOCK_ROW 2 /* the row of find_optimal_split_point and find_cut_moves too */
 #define CUNDZELI_BLOCK_INSTS 0
 #define CUNDZELI_BLOCK_FREQUENCY 1 /* float */
 
@@ -265,6 +293,16 @@ enum cundzeli_kind {
 
 enum cundzeli_origin { CUNDZELI_ORIGIN_OWN = 0, CUNDZELI_ORIGIN_CONFLICT = 1 };
 
+/* ------------------------------------------------------------------------------------ the list of moves */
+
+#define CUNDZELI_MOVES_ROW 3
+#define CUNDZELI_MOVES_BLOCK 0
+#define CUNDZELI_MOVES_WAY 1   /* enum cundzeli_way */
+#define CUNDZELI_MOVES_STEPS 2 /* 1 at least */
+
+/* To a greater frequency, or to a lesser one. */
+enum cundzeli_way { CUNDZELI_WAY_UP = 0, CUNDZELI_WAY_DOWN = 1 };
+
 /* --------------------------------------------------------------------------------------------- helpers */
 
 /* Word number `at` of some bytes. */
@@ -353,6 +391,19 @@ static inline struct cundzeli_rows cundzeli_rows_for_job(const uint8_t *job)
     rows.uses = cundzeli_at_most(3 * uses, CUNDZELI_USUAL_USES);
     rows.groups = cundzeli_at_most(cundzeli_word(job, CUNDZELI_HEADER_OPERANDS), CUNDZELI_USUAL_GROUPS);
     return rows;
+}
+
+/* The bytes of a list of moves for so many blocks. */
+static inline size_t cundzeli_list_bytes(size_t blocks)
+{
+    return 4 * CUNDZELI_MOVES_ROW * blocks;
+}
+
+/* The frequency that so many steps lead to from a block's own one, which it had in the call. */
+static inline float cundzeli_target(float own, uint32_t way, uint32_t steps)
+{
+    uint32_t bits = cundzeli_bits(own);
+    return cundzeli_float(way == CUNDZELI_WAY_UP ? bits + steps : bits - steps);
 }
 
 /* The cause that a number stands for. */

@@ -1,9 +1,10 @@
 /*
  * The proved functions from C: case A (docs/samples/A.job) is written as a binary job, its register sheet is printed as
- * in docs/samples/A.out, two cuts are asked for, and two refusals are shown. include/example.out has what is printed
- * behind the register sheet.
+ * in docs/samples/A.out, two cuts are asked for, what would move one of them, and two refusals are shown.
+ * include/example.out has what is printed behind the register sheet.
  *
- *     gcc -std=c99 include/example.c target/staticlib/libbuild.a target/staticlib/libfind_cut.a -o example
+ *     gcc -std=c99 include/example.c target/staticlib/libbuild.a target/staticlib/libfind_cut.a \
+ *         target/staticlib/libcut_moves.a -o example
  */
 #include "cundzeli.h"
 
@@ -143,6 +144,29 @@ static void ask_for_a_cut(const uint8_t *job)
     printf("ends that fall\t%" PRIu32 "\t%" PRIu32 "\n", none.number, none.inst);
 }
 
+/* Which blocks of the job would move the early one of these cuts, and the frequency that each would have to have. */
+static int ask_what_moves_it(const uint8_t *job)
+{
+    static uint8_t work[CUNDZELI_MOVES_WORK];
+    const uint8_t *blocks = job + 4 * FIRST_BLOCK;
+    uint32_t count = cundzeli_word(job, CUNDZELI_HEADER_BLOCKS);
+    size_t length = 4 * CUNDZELI_BLOCK_ROW * count, list_length = cundzeli_list_bytes(count);
+    uint8_t *list = (uint8_t *)malloc(list_length); /* a job has a block */
+    if (list == NULL)
+        return 0;
+    struct cundzeli_moves end = find_cut_moves(blocks, length, 0, 3, CUNDZELI_SIDE_EARLY, list, list_length, work);
+    for (uint32_t i = 0; i < end.count; i++) {
+        const uint8_t *row = list + (size_t)4 * CUNDZELI_MOVES_ROW * i;
+        uint32_t block = cundzeli_word(row, CUNDZELI_MOVES_BLOCK), way = cundzeli_word(row, CUNDZELI_MOVES_WAY);
+        uint32_t steps = cundzeli_word(row, CUNDZELI_MOVES_STEPS);
+        float own = cundzeli_float(cundzeli_word(blocks, CUNDZELI_BLOCK_ROW * block + CUNDZELI_BLOCK_FREQUENCY));
+        printf("block\t%" PRIu32 "\t%s\t%" PRIu32, block, way == CUNDZELI_WAY_UP ? "up" : "down", steps);
+        printf("\tfrom %g to %g\n", (double)own, (double)cundzeli_target(own, way, steps));
+    }
+    free(list);
+    return end.number == CUNDZELI_OK;
+}
+
 int main(void)
 {
     static uint8_t work[CUNDZELI_BUILD_WORK];
@@ -152,6 +176,8 @@ int main(void)
     if (!build_and_print(job, sizeof job, work))
         return 1;
     ask_for_a_cut(job);
+    if (!ask_what_moves_it(job))
+        return 1;
     cundzeli_put(job, CUNDZELI_HEADER_K, CUNDZELI_MOST_K + 1);
     return build_and_print(job, sizeof job, work) ? 0 : 1;
 }

@@ -1,9 +1,10 @@
 /*
- * How much stack the two functions take, measured: a call runs on a stack of its own that was painted before, and what
- * is no longer paint was used; then the same call runs on threads with less and less stack, until one fails.
+ * How much stack the three functions take, measured: a call runs on a stack of its own that was painted before, and
+ * what is no longer paint was used; then the same call runs on threads with less and less stack, until one fails.
  * Prints a line for each call. The exit status is 1 if one takes more than cundzeli.h says, or answers otherwise.
  *
- *     gcc -std=c99 -pthread include/stack.c target/staticlib/libbuild.a target/staticlib/libfind_cut.a -o stack
+ *     gcc -std=c99 -pthread include/stack.c target/staticlib/libbuild.a target/staticlib/libfind_cut.a \
+ *         target/staticlib/libcut_moves.a -o stack
  */
 #define _DEFAULT_SOURCE
 #include "cundzeli.h"
@@ -103,12 +104,27 @@ static uint32_t call_build(void)
     return end.number * REFUSED + end.registers;
 }
 
-/* The cut finder over the blocks of the job, which stand behind the bank and three classes. */
+/* The blocks of the job, which stand behind the bank and three classes. */
+#define BLOCKS (job + 4 * (CUNDZELI_HEADER + CUNDZELI_BANK_ROW + 3 * CUNDZELI_CLASS_ROW))
+
 static uint32_t call_cut(void)
 {
-    const uint8_t *blocks = job + 4 * (CUNDZELI_HEADER + CUNDZELI_BANK_ROW + 3 * CUNDZELI_CLASS_ROW);
-    struct cundzeli_cut cut = find_optimal_split_point(blocks, 8 * 512, 0, 4095, CUNDZELI_SIDE_LATE, work);
+    struct cundzeli_cut cut = find_optimal_split_point(BLOCKS, 8 * 512, 0, 4095, CUNDZELI_SIDE_LATE, work);
     return cut.number * REFUSED + cut.inst;
+}
+
+/* Frequencies that rise or fall, so that the rows are found in one order or in the other. */
+static void slope_blocks(int rising)
+{
+    for (uint32_t i = 0; i < 512; i++)
+        cundzeli_put(BLOCKS, CUNDZELI_BLOCK_ROW * i + CUNDZELI_BLOCK_FREQUENCY, ONE + (rising ? i : 511 - i));
+}
+
+static uint32_t call_moves(void)
+{
+    size_t length = cundzeli_list_bytes(512);
+    struct cundzeli_moves end = find_cut_moves(BLOCKS, 8 * 512, 0, 4095, CUNDZELI_SIDE_EARLY, out, length, work);
+    return end.number * REFUSED + end.count;
 }
 
 static void *in_thread(void *data)
@@ -219,6 +235,11 @@ int main(void)
         good &= measure(SORTS[i].name, call_build, SORTS[i].answer, CUNDZELI_BUILD_STACK(SORTS[i].uses));
     }
     good &= measure("the cut finder, 512 blocks", call_cut, 4095, CUNDZELI_CUT_STACK);
+    good &= measure("what would move a cut, 512 blocks", call_moves, 512, CUNDZELI_MOVES_STACK);
+    slope_blocks(1);
+    good &= measure("the same, frequencies that rise", call_moves, 512, CUNDZELI_MOVES_STACK);
+    slope_blocks(0);
+    good &= measure("the same, frequencies that fall", call_moves, 512, CUNDZELI_MOVES_STACK);
     free(out);
     return good ? 0 : 1;
 }

@@ -1,7 +1,8 @@
 //! Cundzeli's proved entry points as a code generator calls them: the virtual registers of a function's live ranges
-//! ([`build`]), and the best place of a cut ([`cut`]).
+//! ([`build`]), the best place of a cut ([`cut`]), and what would move it ([`moves`]).
 //!
-//! What is right is document 01's; the functions are proved equal to it, for all bytes and numbers (docs/REVIEW.md).
+//! What is right is document 01's, and for [`moves`] change request 12's; the functions are proved equal to it, for all
+//! bytes and numbers (docs/REVIEW.md).
 //! This crate is the thin part around them that no proof speaks of: types for what a job says and what a result has.
 //!
 //! ```
@@ -38,6 +39,7 @@ mod block;
 pub mod build;
 pub mod cut;
 mod index;
+pub mod moves;
 mod point;
 mod refusal;
 mod uses;
