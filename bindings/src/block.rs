@@ -1,4 +1,4 @@
-//! A block, as both modules take it.
+//! A block, as all modules take it.
 
 /// A block of a function.
 ///

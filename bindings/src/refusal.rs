@@ -3,8 +3,9 @@
 use std::error::Error;
 use std::fmt;
 
-/// Why a job or a query was refused. One enum for both modules: [`cut`](crate::cut) gives 1, 2 and 4,
-/// [`build`](crate::build) all nine. After a refusal every result table is empty and the job is as it was.
+/// Why a job or a query was refused. One enum for all modules: [`cut`](crate::cut) gives 1, 2 and 4,
+/// [`moves`](crate::moves) these and 9, [`build`](crate::build) all nine. After a refusal every result table is empty
+/// and the job is as it was.
 ///
 /// The tests go by number, the lowest that applies is given; 8 and 9 come as they are met while registers are placed.
 /// Later versions may have more numbers.
@@ -42,7 +43,7 @@ pub enum Refusal {
     BadUse = 7,
     /// 8: a sound job to which the rules give no registers.
     Stopped = 8,
-    /// 9: the result needs more rows than a table has.
+    /// 9: the result needs more rows than a table has; or a list of moves has fewer rows than there are blocks.
     Full = 9,
 }
 
