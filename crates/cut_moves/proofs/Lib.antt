@@ -4,3 +4,4 @@ pub mod Same
 pub mod Lists
 pub mod Found
 pub mod Whole
+pub mod Read
