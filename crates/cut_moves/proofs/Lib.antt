@@ -5,3 +5,4 @@ pub mod Lists
 pub mod Found
 pub mod Whole
 pub mod Read
+pub mod Asked
