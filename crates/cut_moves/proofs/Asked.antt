@@ -17,14 +17,14 @@ use Rattle.definition.specs.Entry.{instsOf, every, blockOk, plain, sideOf}
 use Rattle.definition.specs.CutMoves.{Moves, withFrequency, infinity, patternOf}
 use Rattle.rows.specs.Parts.{splice, length-splice}
 use Rattle.rows.specs.Moves.{stores-4}
-use Rattle.rows.specs.RowsAt.{rowsAt, rows-at-cons, rows-at-ext, length-rows-at, getD-rows-at}
+use Rattle.rows.specs.RowsAt.{rows-at-cons, rows-at-ext, getD-rows-at}
 use Rattle.words.specs.Words.{wordsOf, bytesOf, putWord}
 use Rattle.words.specs.Laws.{length-words, word-set, words-small}
 use Rattle.floats.proofs.Bits.{bits-back, plain-test}
 use Rattle.function.specs.Blocks.{blockRow, blocksAt, blockAt, noBlock}
 use Rattle.function.specs.BlockLaws.{block-plain, each-passes}
 use Rattle.find_cut.specs.Answer.{blocksIn, sideNamed, readable, cutAnswer, testNumber}
-use Rattle.find_cut.proofs.Tests.{Passed, passing}
+use Rattle.find_cut.proofs.Tests.{Passed, passing, count as blocks-many}
 use Rattle.find_cut.proofs.Answers.{answered, accepted}
 use Rattle.find_cut.specs.declared.Cut.{Cut}
 use Rattle.cut_margins.specs.Promised.{Fair}
@@ -90,9 +90,6 @@ module _ (s : List ℕ) (j x : ℕ) (h : j < length s / 8) where
 -- ---- the blocks in bytes that 01 accepts
 
 module _ (s : List ℕ) (a b : ℕ) (small : (i : ℕ) → getD s i 0 < 256) (p : Passed s a b) where
-  count : length (blocksIn s) ≡ length s / 8
-  count = length-rows-at blockRow (wordsOf s) 0 2 (length s / 8)
-
   frequency-in : (j : ℕ) → j < length s / 8 → blockAt (blocksIn s) j .frequency ≡ ofBits binary32 (wordIn s j)
   unfolding blockAt blockRow
   frequency-in j h =
@@ -102,14 +99,14 @@ module _ (s : List ℕ) (a b : ℕ) (small : (i : ℕ) → getD s i 0 < 256) (p 
 
   word-finite : (j : ℕ) → j < length s / 8 → wordIn s j < infinity
   word-finite j h =
-      let ok = each-passes (blocksIn s) j (p .blocks-ok) (omega (arith, count)) in
+      let ok = each-passes (blocksIn s) j (p .blocks-ok) (omega (arith, blocks-many s a b)) in
       let q : plain (ofBits binary32 (wordIn s j)) ≡ true =
       sym (ap plain (frequency-in j h)) ∙ block-plain (blockAt (blocksIn s) j) ok in
       ltb-true (wordIn s j) infinity (plain-test (wordIn s j) (words-small s small (j * 2 + 1)) ∙ q)
 
   pub word-pattern : (j : ℕ) → j < length s / 8 → patternOf (blocksIn s) j ≡ wordIn s j
   word-pattern j h =
-      pattern-at (blocksIn s) j (omega (arith, count)) ∙ ap (toBits binary32) (frequency-in j h)
+      pattern-at (blocksIn s) j (omega (arith, blocks-many s a b)) ∙ ap (toBits binary32) (frequency-in j h)
       ∙ bits-back (wordIn s j) (omega (arith, word-finite j h))
 
   pub fair-in : Fair (blocksIn s) (inst a) (inst b)
@@ -117,10 +114,10 @@ module _ (s : List ℕ) (a b : ℕ) (small : (i : ℕ) → getD s i 0 < 256) (p 
       record {
         blocks-ok = p .blocks-ok;
         f32s = λ j g.
-            let h : j < length s / 8 = omega (arith, count) in
+            let h : j < length s / 8 = omega (arith, blocks-many s a b) in
             ap (ofBits binary32) (word-pattern j h) ∙ sym (frequency-in j h);
         finite = λ j g.
-            let h : j < length s / 8 = omega (arith, count) in
+            let h : j < length s / 8 = omega (arith, blocks-many s a b) in
             omega (arith, word-pattern j h, word-finite j h);
         order = p .order;
         within = p .within;

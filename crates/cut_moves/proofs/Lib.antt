@@ -6,3 +6,4 @@ pub mod Found
 pub mod Whole
 pub mod Read
 pub mod Asked
+pub mod Promise
