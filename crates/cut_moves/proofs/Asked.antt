@@ -1,13 +1,13 @@
--- The cut finder asked again with one frequency word replaced: the bytes are then the blocks with that frequency replaced, which 01
--- accepts still, so another instruction is answered exactly if that pattern moves the cut. `word-pattern`, `fair-in`, `asked-again`,
--- `asked-moves`, `moves-asked`. Assumes nothing.
-use Prim.Native.Nat.{ℕ, zero, suc, _+_, _*_, _/_, _%_, _≤_, _<_}
+-- The cut finder asked again with one frequency word replaced: the bytes then hold the blocks with that frequency
+-- replaced, which 01 accepts still, so it answers another instruction exactly if that pattern moves the cut.
+-- `word-pattern`, `fair-in`, `asked-again`, `asked-moves`, `moves-asked`. Assumes nothing.
+use Prim.Native.Nat.{ℕ, zero, suc, _+_, _*_, _/_, _%_, _<_}
 use native.Mathlib.Omega.{arith}
 use mathlib.Core.Path.{_≡_, refl, sym, ap, _∙_}
 use mathlib.Core.Bool.{true, _&&_}
 use mathlib.Core.List.{List, [], _∷_}
 use lib.Dec.{leb, ltb, eqb}
-use lib.ListN.{length, getD, set, length-set}
+use lib.ListN.{length, getD, set}
 use lib.Seq.{getD-set-same, getD-set-other}
 use lib.Ieee.{binary32, ofBits, toBits}
 use borrow.Author.Tests.{ltb-true}
@@ -83,11 +83,20 @@ module _ (s : List ℕ) (j x : ℕ) (h : j < length s / 8) where
   blocks-with : blocksIn (withWord s j x) ≡ withFrequency (blocksIn s) j x
   blocks-with =
       let i : j * 2 + 1 < length s / 4 = omega arith in
-      let w : wordsOf (withWord s j x) ≡ set (wordsOf s) (j * 2 + 1) x = ap wordsOf with-put ∙ word-set s (j * 2 + 1) x i in
+      let w : wordsOf (withWord s j x) ≡ set (wordsOf s) (j * 2 + 1) x =
+      ap wordsOf with-put ∙ word-set s (j * 2 + 1) x i in
       (λ z. blocksAt (w z) 0 (length-with z / 8))
       ∙ blocks-set (wordsOf s) (j * 2 + 1) x 0 (length s / 8) j (omega (arith, length-words s)) (omega arith) h
 
--- ---- the blocks in bytes that 01 accepts
+-- ---- bytes that 01 accepts
+
+-- where no test fails, the finder answers the definition's instruction
+answer-is : (s : List ℕ) (a b side : ℕ) → readable s side ≡ true → Passed s a b
+    → answered 0 (sideOf (sideNamed side) (blocksIn s) a b) ≡ cutAnswer s a b side
+answer-is s a b side r p =
+    let t : 0 ≡ testNumber s a b =
+    passing s a b _ (p .blocks-few) refl (p .insts-few) (sym (p .blocks-ok)) (p .order) (p .within) in
+    accepted s a b side _ r t refl
 
 module _ (s : List ℕ) (a b : ℕ) (small : (i : ℕ) → getD s i 0 < 256) (p : Passed s a b) where
   frequency-in : (j : ℕ) → j < length s / 8 → blockAt (blocksIn s) j .frequency ≡ ofBits binary32 (wordIn s j)
@@ -125,39 +134,44 @@ module _ (s : List ℕ) (a b : ℕ) (small : (i : ℕ) → getD s i 0 < 256) (p 
 
   -- ---- asked again
 
-  module _ (side : ℕ) (r : readable s side ≡ true) where
-    first-asked : answered 0 (sideOf (sideNamed side) (blocksIn s) a b) ≡ cutAnswer s a b side
-    first-asked =
-        let t : 0 ≡ testNumber s a b =
-        passing s a b (instsOf (blocksIn s)) (p .blocks-few) refl (p .insts-few) (sym (p .blocks-ok)) (p .order) (p .within) in
-        accepted s a b side _ r t refl
+  module _ (side : ℕ) (r : readable s side ≡ true) (j x : ℕ) (h : j < length s / 8) (l : x < infinity) where
+    abbrev new : List BlockData
+    new = withFrequency (blocksIn s) j x
 
-    module _ (j x : ℕ) (h : j < length s / 8) (l : x < infinity) where
-      asked : answered 0 (sideOf (sideNamed side) (withFrequency (blocksIn s) j x) a b) ≡ cutAnswer (withWord s j x) a b side
-      asked =
-          let new = withFrequency (blocksIn s) j x in
-          let q = fair-changed x l (blocksIn s) (inst a) (inst b) j fair-in in
-          let e = blocks-with s j x h in
-          let k = length-with s j x h in
-          let few : instsOf new ≤ 4096 = omega (arith, insts-kept (blocksIn s) j x, p .insts-few) in
-          let ok : true ≡ every blockOk (blocksIn (withWord s j x)) = sym (ap (every blockOk) e ∙ q .blocks-ok) in
-          let t : 0 ≡ testNumber (withWord s j x) a b =
-          passing (withWord s j x) a b (instsOf new) (omega (arith, k, p .blocks-few)) (sym (ap instsOf e)) few ok (p .order) (q .within) in
-          let g : readable (withWord s j x) side ≡ true =
-          ap (λ (n : ℕ). leb side 1 && (eqb (n % 8) 0 && ltb 0 n)) k ∙ r in
-          accepted (withWord s j x) a b side _ g t (ap (λ (bs : List BlockData). sideOf (sideNamed side) bs a b) (sym e))
+    blocks-new : blocksIn (withWord s j x) ≡ new
+    blocks-new = blocks-with s j x h
 
-      pub asked-again : cutAnswer (withWord s j x) a b side .number ≡ 0
-      asked-again = sym (ap (λ (c : Cut). c .number) asked)
+    passed-new : Passed (withWord s j x) a b
+    passed-new =
+        let q = fair-changed x l (blocksIn s) (inst a) (inst b) j fair-in in
+        let n : instsOf (blocksIn (withWord s j x)) ≡ instsOf new = ap instsOf blocks-new in
+        record {
+          blocks-few = omega (arith, length-with s j x h, p .blocks-few);
+          insts-few = omega (arith, n, insts-kept (blocksIn s) j x, p .insts-few);
+          blocks-ok = ap (every blockOk) blocks-new ∙ q .blocks-ok;
+          order = p .order;
+          within = omega (arith, n, q .within);
+        }
 
-      now : sideOf (sideNamed side) (blocksIn s) a b ≡ cutAnswer s a b side .inst
-      now = ap (λ (c : Cut). c .inst) first-asked
+    asked : answered 0 (sideOf (sideNamed side) (blocksIn (withWord s j x)) a b) ≡ cutAnswer (withWord s j x) a b side
+    asked =
+        let g : readable (withWord s j x) side ≡ true =
+        ap (λ (n : ℕ). leb side 1 && (eqb (n % 8) 0 && ltb 0 n)) (length-with s j x h) ∙ r in
+        answer-is (withWord s j x) a b side g passed-new
 
-      then : sideOf (sideNamed side) (withFrequency (blocksIn s) j x) a b ≡ cutAnswer (withWord s j x) a b side .inst
-      then = ap (λ (c : Cut). c .inst) asked
+    pub asked-again : cutAnswer (withWord s j x) a b side .number ≡ 0
+    asked-again = sym (ap (λ (c : Cut). c .number) asked)
 
-      pub asked-moves : Asked s a b side j x → Moves (blocksIn s) (inst a) (inst b) (sideNamed side) j x
-      asked-moves n q = n (sym then ∙ q ∙ now)
+    now : sideOf (sideNamed side) (blocksIn s) a b ≡ cutAnswer s a b side .inst
+    now = ap (λ (c : Cut). c .inst) (answer-is s a b side r p)
 
-      pub moves-asked : Moves (blocksIn s) (inst a) (inst b) (sideNamed side) j x → Asked s a b side j x
-      moves-asked n q = n (then ∙ q ∙ sym now)
+    then : sideOf (sideNamed side) new a b ≡ cutAnswer (withWord s j x) a b side .inst
+    then =
+        ap (λ (bs : List BlockData). sideOf (sideNamed side) bs a b) (sym blocks-new)
+        ∙ ap (λ (c : Cut). c .inst) asked
+
+    pub asked-moves : Asked s a b side j x → Moves (blocksIn s) (inst a) (inst b) (sideNamed side) j x
+    asked-moves n q = n (sym then ∙ q ∙ now)
+
+    pub moves-asked : Moves (blocksIn s) (inst a) (inst b) (sideNamed side) j x → Asked s a b side j x
+    moves-asked n q = n (then ∙ q ∙ sym now)

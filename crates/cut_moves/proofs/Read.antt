@@ -1,5 +1,6 @@
 -- The rows that a list's bytes hold are read back: `moves-read`. Assumes nothing.
 use Prim.Native.Nat.{ℕ, suc, _+_, _-_, _*_, _<_}
+use native.Mathlib.Nat.{zero-add}
 use native.Mathlib.Omega.{arith}
 use mathlib.Core.Path.{_≡_, refl, ap, _∙_}
 use mathlib.Core.Bool.{cond}
@@ -23,8 +24,8 @@ way-read : (w : Way) → cond (eqb (wayNumber w) 0) Up Down ≡ w
 way-read Up = refl
 way-read Down = refl
 
-row-read : (W : List ℕ) (at : ℕ) (m : CutMove) → getD W (at + 0) 0 ≡ m .block .0 → getD W (at + 1) 0 ≡ wayNumber (m .way)
-    → getD W (at + 2) 0 ≡ m .steps → moveRead W at ≡ m
+row-read : (W : List ℕ) (at : ℕ) (m : CutMove) → getD W (at + 0) 0 ≡ m .block .0
+    → getD W (at + 1) 0 ≡ wayNumber (m .way) → getD W (at + 2) 0 ≡ m .steps → moveRead W at ≡ m
 unfolding moveRead
 row-read W at m e f g =
     let z : at ≡ at + 0 = omega arith in
@@ -35,7 +36,8 @@ row-read W at m e f g =
     }
 
 rows-read : (W : List ℕ) (at : ℕ) (ms : List CutMove)
-    → ((k : ℕ) → k < length ms * 3 → getD W (at + k) 0 ≡ getD (moveWords ms) k 0) → rowsAt moveRead W at 3 (length ms) ≡ ms
+    → ((k : ℕ) → k < length ms * 3 → getD W (at + k) 0 ≡ getD (moveWords ms) k 0)
+    → rowsAt moveRead W at 3 (length ms) ≡ ms
 unfolding rowsAt moveWords
 rows-read W at [] h = refl
 rows-read W at (m ∷ ms) h =
@@ -51,11 +53,10 @@ pub moves-read : (room : ℕ) (ms : List CutMove) → movesRead (listOf room (do
 unfolding movesRead listOf pad
 moves-read room ms =
     let w = moveWords ms in
-    let zeros : List ℕ = replicate (room - length (bytesOf w)) 0 in
-    let e : wordsOf (bytesOf w ++ zeros) ≡ w ++ wordsOf zeros =
-    words-append (bytesOf w) zeros (omega (arith, length-bytes w)) ∙ ap (λ (v : List ℕ). v ++ wordsOf zeros) (words-bytes w) in
+    let z : List ℕ = replicate (room - length (bytesOf w)) 0 in
+    let e : wordsOf (bytesOf w ++ z) ≡ w ++ wordsOf z =
+    words-append (bytesOf w) z (omega (arith, length-bytes w)) ∙ ap (λ (v : List ℕ). v ++ wordsOf z) (words-bytes w) in
     ap (λ (v : List ℕ). rowsAt moveRead v 0 3 (length ms)) e
-    ∙ rows-read (w ++ wordsOf zeros) 0 ms
+    ∙ rows-read (w ++ wordsOf z) 0 ms
     (λ k l.
-    let z : 0 + k ≡ k = omega arith in
-    ap (λ (i : ℕ). getD (w ++ wordsOf zeros) i 0) z ∙ List·getD-append w (wordsOf zeros) 0 k (omega (arith, length-move-words ms)))
+    rw zero-add (List·getD-append w (wordsOf z) 0 k (omega (arith, length-move-words ms))))
