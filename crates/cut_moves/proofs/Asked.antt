@@ -162,16 +162,16 @@ module _ (s : List ℕ) (a b : ℕ) (small : (i : ℕ) → getD s i 0 < 256) (p 
     pub asked-again : cutAnswer (withWord s j x) a b side .number ≡ 0
     asked-again = sym (ap (λ (c : Cut). c .number) asked)
 
-    now : sideOf (sideNamed side) (blocksIn s) a b ≡ cutAnswer s a b side .inst
-    now = ap (λ (c : Cut). c .inst) (answer-is s a b side r p)
+    cut-now : sideOf (sideNamed side) (blocksIn s) a b ≡ cutAnswer s a b side .inst
+    cut-now = ap (λ (c : Cut). c .inst) (answer-is s a b side r p)
 
-    then : sideOf (sideNamed side) new a b ≡ cutAnswer (withWord s j x) a b side .inst
-    then =
+    cut-then : sideOf (sideNamed side) new a b ≡ cutAnswer (withWord s j x) a b side .inst
+    cut-then =
         ap (λ (bs : List BlockData). sideOf (sideNamed side) bs a b) (sym blocks-new)
         ∙ ap (λ (c : Cut). c .inst) asked
 
     pub asked-moves : Asked s a b side j x → Moves (blocksIn s) (inst a) (inst b) (sideNamed side) j x
-    asked-moves n q = n (sym then ∙ q ∙ now)
+    asked-moves n q = n (sym cut-then ∙ q ∙ cut-now)
 
     pub moves-asked : Moves (blocksIn s) (inst a) (inst b) (sideNamed side) j x → Asked s a b side j x
-    moves-asked n q = n (then ∙ q ∙ sym now)
+    moves-asked n q = n (cut-then ∙ q ∙ sym cut-now)
