@@ -46,7 +46,7 @@ block-kept (b ∷ bs) zero x i = refl
 block-kept (b ∷ bs) (suc j) x i =
     ap (λ (n : ℕ). elim (ltb i (b .insts)) [ true ↦ 0 | false ↦ suc n ]) (block-kept bs j x (i - b .insts))
 
-insts-kept : (bs : List BlockData) (j x : ℕ) → instsOf (withFrequency bs j x) ≡ instsOf bs
+pub insts-kept : (bs : List BlockData) (j x : ℕ) → instsOf (withFrequency bs j x) ≡ instsOf bs
 insts-kept bs j x =
     sym (start-last (withFrequency bs j x)) ∙ ap (startOf (withFrequency bs j x)) (length-kept bs j x)
     ∙ start-kept bs j x (length bs) ∙ start-last bs

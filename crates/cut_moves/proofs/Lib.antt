@@ -4,3 +4,6 @@ pub mod Same
 pub mod Lists
 pub mod Found
 pub mod Whole
+pub mod Read
+pub mod Asked
+pub mod Promise

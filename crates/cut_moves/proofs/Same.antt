@@ -27,7 +27,7 @@ use Rattle.cut_moves.proofs.Rows.{first, moves-more}
 
 -- ---- the patterns in the table
 
-pattern-at : (bs : List BlockData) (j : ℕ) → j < length bs → patternOf bs j ≡ toBits binary32 (blockAt bs j .frequency)
+pub pattern-at : (bs : List BlockData) (j : ℕ) → j < length bs → patternOf bs j ≡ toBits binary32 (blockAt bs j .frequency)
 unfolding patternOf blockAt
 pattern-at [] j h = absurd (omega arith)
 pattern-at (b ∷ bs) zero h = refl

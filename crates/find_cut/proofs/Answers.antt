@@ -103,7 +103,7 @@ module _ (s : List ℕ) (a b side : ℕ) where
   unfolding testNumber
   turned-down k e f h = by-refusal (lowestOf (cutTests (blocksIn s) (inst a) (inst b))) k (blocksIn s) (inst a) (inst b) (sideNamed side) f h ∙ sym (opened e)
 
-  accepted : (c : ℕ) → readable s side ≡ true → 0 ≡ testNumber s a b → c ≡ sideOf (sideNamed side) (blocksIn s) a b → answered 0 c ≡ cutAnswer s a b side
+  pub accepted : (c : ℕ) → readable s side ≡ true → 0 ≡ testNumber s a b → c ≡ sideOf (sideNamed side) (blocksIn s) a b → answered 0 c ≡ cutAnswer s a b side
   unfolding testNumber
   accepted c e f h = by-cut (lowestOf (cutTests (blocksIn s) (inst a) (inst b))) c (blocksIn s) (inst a) (inst b) (sideNamed side) f h ∙ sym (opened e)
 

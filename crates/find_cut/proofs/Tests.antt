@@ -61,7 +61,7 @@ module _ (s : List ℕ) (a b : ℕ) where
   filled : Bool
   filled = every blockOk (blocksIn s)
 
-  count : length (blocksIn s) ≡ length s / 8
+  pub count : length (blocksIn s) ≡ length s / 8
   count = length-rows-at blockRow (wordsOf s) 0 2 (length s / 8)
 
   pub many : 512 < length s / 8 → 2 ≡ testNumber s a b
