@@ -1,8 +1,7 @@
 -- What the code reads and answers in numbers: a block's pattern in the table of starts, and steps that may be none. Assumes nothing.
-use Prim.Native.Nat.{ℕ, _+_, _*_}
+use Prim.Native.Nat.{ℕ}
 use mathlib.Core.Option.{Option, none, some}
 use mathlib.Core.List.{List}
-use lib.ListN.{getD}
 use Rattle.definition.specs.declared.CutMove.{CutMove}
 use Rattle.split_placement.specs.Places.{bitsOf}
 

@@ -14,15 +14,12 @@ use Rattle.definition.specs.declared.Side.{Side}
 use Rattle.definition.specs.declared.CutMove.{CutMove}
 use Rattle.definition.specs.declared.Refusal.{Refusal}
 use Rattle.definition.specs.declared.Refusal.the-variants.{NotARecord, OverALimit, BadFunction, Full}
-use Rattle.definition.specs.Types.{Out, done, refused, inst, numberOf}
-use Rattle.definition.specs.Entry.{instsOf, every, blockOk, lowestOf, cutTests}
+use Rattle.definition.specs.Types.{Out, done, refused, inst}
+use Rattle.definition.specs.Entry.{instsOf, every, blockOk, lowestOf}
 use Rattle.definition.specs.CutMoves.{cutMoves, movesTests, movesTo, findMoves}
-use Rattle.rows.specs.RowsAt.{length-rows-at}
-use Rattle.words.specs.Words.{wordsOf}
-use Rattle.function.specs.Blocks.{blockRow}
 use Rattle.find_cut.specs.Answer.{blocksIn, sideNamed, readable, numberAt, testNumber}
 use Rattle.find_cut.proofs.Answers.{numbered, no-side, no-rows, no-block, reads}
-use Rattle.find_cut.proofs.Tests.{Passed, was-passed}
+use Rattle.find_cut.proofs.Tests.{Passed, count, was-passed}
 use Rattle.cut_moves.specs.Answer.{movesAt, endOf, movesNumber}
 
 -- ---- the tests by their outcomes: 9 comes where the others find nothing
@@ -84,9 +81,6 @@ module _ (s : List ℕ) (a b side places : ℕ) where
   y : Bool
   y = every blockOk (blocksIn s) && (ltb a b && ltb b (instsOf (blocksIn s)))
 
-  count : length (blocksIn s) ≡ length s / 8
-  count = length-rows-at blockRow (wordsOf s) 0 2 (length s / 8)
-
   closed : readable s side ≡ false → movesAt s a b side places ≡ refused NotARecord
   unfolding movesAt
   closed e = rw e
@@ -119,11 +113,11 @@ module _ (s : List ℕ) (a b side places : ℕ) where
 
     pub short : (k : ℕ) → k ≡ testNumber s a b → k ≡ 0 → places < length s / 8 → 9 ≡ movesNumber s a b side places
     unfolding testNumber few x y
-    short k e n g = by-found (reads s side h w l) 9 (full x y few (sym n ∙ e) (lt-leb (length (blocksIn s)) places (omega (arith, count))))
+    short k e n g = by-found (reads s side h w l) 9 (full x y few (sym n ∙ e) (lt-leb (length (blocksIn s)) places (omega (arith, count s a b))))
 
     pub fine : (k : ℕ) → k ≡ testNumber s a b → k ≡ 0 → length s / 8 ≤ places → 0 ≡ movesNumber s a b side places
     unfolding testNumber few x y
-    fine k e n g = by-found (reads s side h w l) 0 (free x y few (sym n ∙ e) (le-leb (length (blocksIn s)) places (omega (arith, count))))
+    fine k e n g = by-found (reads s side h w l) 0 (free x y few (sym n ∙ e) (le-leb (length (blocksIn s)) places (omega (arith, count s a b))))
 
   -- ---- what holds where there is no refusal
 
@@ -148,7 +142,7 @@ module _ (s : List ℕ) (a b side places : ℕ) where
 
     pub fits : length s / 8 ≤ places
     unfolding few
-    fits = omega (arith, leb-true (length (blocksIn s)) places (both-there .1), count)
+    fits = omega (arith, leb-true (length (blocksIn s)) places (both-there .1), count s a b)
 
     pub accepted : movesAt s a b side places ≡ done (cutMoves (blocksIn s) (inst a) (inst b) (sideNamed side))
     accepted = opened could-read ∙ none-found found (blocksIn s) (inst a) (inst b) (sideNamed side) none-there

@@ -2,7 +2,7 @@
 use Prim.Native.Nat.{ℕ, _+_, _-_, _*_, _/_, _%_, _≤_, _<_}
 use native.Mathlib.Omega.{arith}
 use mathlib.Core.Path.{_≡_, refl, sym, ap, _∙_, subst}
-use mathlib.Core.Bool.{true, _&&_}
+use mathlib.Core.Bool.{_&&_}
 use mathlib.Core.List.{List, _++_}
 use lib.Dec.{leb, ltb, eqb}
 use lib.ListN.{length, getD, take, drop, replicate, length-append, length-replicate, replicate-append-replicate}
@@ -10,14 +10,13 @@ use lib.Seq.{length-take-le, take-at}
 use borrow.Author.Tests.{ltb-true, eqb-true}
 use Rattle.definition.specs.declared.CutMove.{CutMove}
 use Rattle.definition.specs.declared.Side.{Side}
-use Rattle.definition.specs.Types.{Out, done, refused, inst, numberOf}
-use Rattle.definition.specs.Entry.{instsOf, every, blockOk}
+use Rattle.definition.specs.Types.{Out, done, refused, inst}
 use Rattle.definition.specs.CutMoves.{cutMoves}
 use Rattle.rows.specs.Parts.{pad}
-use Rattle.words.specs.Words.{wordCount, wordsOf, bytesOf}
+use Rattle.words.specs.Words.{wordCount, wordsOf}
 use Rattle.words.specs.Laws.{length-words, words-replicate}
 use Rattle.function.specs.Bools.{and-l, and-r}
-use Rattle.find_cut.specs.Answer.{blocksIn, sideNamed, readable}
+use Rattle.find_cut.specs.Answer.{blocksIn, sideNamed}
 use Rattle.find_cut.proofs.Tests.{Passed}
 use Rattle.cut_moves.specs.declared.MovesEnd.{MovesEnd}
 use Rattle.cut_moves.specs.Answer.{moveWords, movesAt, endOf, listOf, movesEnd, listLeft, movesNumber}

@@ -7,7 +7,6 @@ use mathlib.Core.List.{List, [], _∷_}
 use lib.Dec.{eqb}
 use lib.ListN.{getD}
 use Rattle.definition.specs.declared.CutMove.{CutMove}
-use Rattle.definition.specs.declared.Way.{Way}
 use Rattle.definition.specs.declared.Way.the-variants.{Up, Down}
 use Rattle.rows.specs.Parts.{splice}
 use Rattle.rows.specs.RowsAt.{rowsAt}

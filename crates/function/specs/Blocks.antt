@@ -1,9 +1,7 @@
 -- function.rs: the block rows of a job, and the table of block starts that is made from them once. Assumes nothing.
-use Prim.Native.Nat.{ℕ, zero, suc, _+_, _-_, _*_, _≤_, _<_}
+use Prim.Native.Nat.{ℕ, zero, suc, _+_, _*_, _≤_, _<_}
 use mathlib.Core.Path.{_≡_}
-use mathlib.Core.Bool.{true, false}
 use mathlib.Core.List.{List, [], _∷_, _++_}
-use lib.Dec.{ltb}
 use lib.ListN.{length, getD}
 use lib.Ieee.{binary32, ofBits}
 use Rattle.definition.specs.declared.BlockData.{BlockData}
