@@ -1,14 +1,14 @@
 #!/usr/bin/env bash
-# odd_programs.sh: the gate's own programs replay, sheet_samples and find_cut_main (built by `rt check`) under odd input and faults of
-# their streams, as odd_input.sh does for `vregs`. A line for each: what was tried, the last line on standard output or none, the status,
+# odd_programs.sh: the gate's own programs replay, sheet_samples, find_cut_main and cut_moves_main (built by `rt check`) under odd input and
+# faults of their streams, as odd_input.sh does for `vregs`. A line for each: what was tried, the last line on standard output or none, the status,
 # standard error. A line that is not as expected begins with DIFFERS, and the exit status is then 1.
 # The faults need gcc; a tmpfs of 64 KB needs the right to mount one, and the line says so where it was not tried.
 set -u
 ulimit -Ss 8192 # the usual stack
 cd "$(dirname "$0")/.."
 top=$(pwd)
-replay=$top/target/bin/replay samples=$top/target/bin/sheet_samples cuts=$top/target/bin/find_cut_main
-for program in "$replay" "$samples" "$cuts"; do
+replay=$top/target/bin/replay samples=$top/target/bin/sheet_samples vectors=(find_cut_main cut_moves_main)
+for program in "$replay" "$samples" "${vectors[@]/#/$top/target/bin/}"; do
     [ -x "$program" ] || { echo "odd_programs.sh: no program $program; 'rt check' makes it" >&2; exit 2; }
 done
 stored=$top/crates/replay/stdin document=$top/crates/sheet_samples/data/SHEETS.md
@@ -93,19 +93,25 @@ in_folder "a document that is too long" "$d/long" "" "^sheet_samples: SHEETS.md 
 fresh; (cd "$d/whole" && "$samples" >/dev/full 2>"$d/err"); st=$?
 tell "sheet_samples: /dev/full" "" "^sheet_samples: the tally could not be written, and is cut: No space left on device"
 
-# --- find_cut_main
-ten=$(tail -n 1 crates/find_cut_main/stdout)
-all_ten() { cmp -s "$d/out" crates/find_cut_main/stdout || { echo "DIFFERS: not all ten lines"; bad=1; }; }
-fresh; "$cuts" >"$d/out" 2>"$d/err"; st=$?; tell "find_cut_main: as usual" "$ten" ""; all_ten
-fresh; "$cuts" >/dev/full 2>"$d/err"; st=$?
-tell "find_cut_main: /dev/full" "" "^find_cut_main: the answers could not be written, and are cut: No space left on device"
+# --- find_cut_main and cut_moves_main
+whole() { # PROGRAM NAME: all lines, what was tried
+    tell "$1: $2" "$(tail -n 1 "crates/$1/stdout")" ""
+    cmp -s "$d/out" "crates/$1/stdout" || { echo "DIFFERS: not all lines"; bad=1; }
+}
+for program in "${vectors[@]}"; do
+    fresh; "target/bin/$program" >"$d/out" 2>"$d/err"; st=$?; whole "$program" "as usual"
+    fresh; "target/bin/$program" >/dev/full 2>"$d/err"; st=$?
+    tell "$program: /dev/full" "" "^$program: the answers could not be written, and are cut: No space left on device"
+done
 
 # --- interrupted calls and short counts, pipes that would block
 if gcc -O1 -o "$d/faults" oracle/faults.c && gcc -O1 -shared -fPIC -DPRELOADED -o "$d/faults.so" oracle/faults.c; then
     half="half of all reads and writes interrupted, the others short"
     fresh; LD_PRELOAD=$d/faults.so "$replay" <"$stored" >"$d/out" 2>"$d/err"; st=$?; tell "replay: $half" "$all" ""
     fresh; (cd "$d/whole" && LD_PRELOAD=$d/faults.so "$samples" >"$d/out" 2>"$d/err"); st=$?; tell "sheet_samples: $half" "$agree" ""
-    fresh; LD_PRELOAD=$d/faults.so "$cuts" >"$d/out" 2>"$d/err"; st=$?; tell "find_cut_main: $half" "$ten" ""; all_ten
+    for program in "${vectors[@]}"; do
+        fresh; LD_PRELOAD=$d/faults.so "target/bin/$program" >"$d/out" 2>"$d/err"; st=$?; whole "$program" "$half"
+    done
     fresh; "$d/faults" in "$replay" >"$d/out" 2>"$d/err"; st=$?
     tell "replay: a non-blocking standard input, its writer late" "" "${unread}Resource temporarily unavailable"
 else echo "interrupted calls, pipes that would block: not tried, gcc failed"; fi
