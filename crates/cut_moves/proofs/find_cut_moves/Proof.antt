@@ -4,8 +4,8 @@ use mathlib.Core.Path.{_≡_, sym, _∙_}
 use mathlib.Core.List.{List}
 use denote.Ref.{now}
 use lib.ListN.{length, replicate}
-use Rattle.cut_moves.proofs.Whole.{left-empty, part-long, part-zero, Accepted, rows-there, rows-fit, all-passed}
-use Rattle.cut_moves.proofs.Whole.{left-moves}
+use Rattle.words.specs.Laws.{length-whole}
+use Rattle.cut_moves.proofs.Whole.{left-empty, part-zero, Accepted, rows-there, rows-fit, all-passed, left-moves}
 use borrow.Author.Needs.{needs}
 use Rattle.cut_moves.proofs.find_cut_moves.Statement.{statement}
 use Rattle.cut_moves.proofs.find_cut_moves.Tie as tie
@@ -41,7 +41,7 @@ cast-n : tie.Need-cast-n
 cast-n c = omega (arith, all-passed (accepted c) .blocks-few)
 
 slice-aggregate-put-sorted : tie.Need-slice-aggregate-put-sorted
-slice-aggregate-put-sorted c = sym (part-long (list (c .before .before .before)))
+slice-aggregate-put-sorted c = sym (length-whole (list (c .before .before .before)))
 
 put-sorted-requires : tie.Need-put-sorted-requires
 put-sorted-requires c κs =
@@ -57,7 +57,7 @@ put-sorted-requires c κs =
       p .within,
       p .insts-few,
       p .blocks-ok,
-      part-zero (list n) (room n) (cleared n),
+      part-zero (room n) (list n) (cleared n),
     )
 
 returns-2 : tie.Need-returns-2
