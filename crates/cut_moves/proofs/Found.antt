@@ -22,7 +22,7 @@ use Rattle.merge_sort.specs.Merges.{length-sorted}
 use Rattle.cut_margins.specs.Table.{bits}
 use Rattle.cut_margins.proofs.Edge.{edge-above}
 use Rattle.cut_moves.specs.Answer.{moveWords}
-use Rattle.cut_moves.proofs.Rows.{moves-more, first-long}
+use Rattle.cut_moves.proofs.Rows.{moves-more, step-long}
 use Rattle.cut_moves.proofs.Same.{Open, open-there, open-finite, table-chosen, moves-by-table}
 use Rattle.cut_moves.proofs.Lists.{sorted-there}
 
@@ -34,7 +34,7 @@ moves-few side f c e i (suc k) =
     omega (
       arith,
       ap length (moves-more side f c e i k),
-      first-long (moveOf side f c e i) (movesFrom side f c e (suc i) k),
+      step-long (moveOf side f c e i) (movesFrom side f c e (suc i) k),
       moves-few side f c e (suc i) k,
     )
 

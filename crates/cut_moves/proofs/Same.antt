@@ -24,7 +24,8 @@ use Rattle.cut_margins.specs.Promised.{Fair}
 use Rattle.cut_margins.specs.Table.{bits}
 use Rattle.cut_margins.proofs.Choice.{chosen-of, chosen-ext}
 use Rattle.cut_margins.proofs.Table.{open-blocks}
-use Rattle.cut_moves.proofs.Rows.{first, moves-more}
+use Rattle.cut_margins.proofs.Listed.{step}
+use Rattle.cut_moves.proofs.Rows.{moves-more}
 
 -- ---- the patterns in the table
 
@@ -80,8 +81,8 @@ module _ (side : Side) (f g : ℕ → ℕ) (c : ℕ) where
   moves-ext e i zero p h = refl
   moves-ext e i (suc k) p h =
       let own = move-ext e i p (h i (omega arith) (omega arith)) in
-      moves-more side f c e i k ∙ ap (λ (o : Option CutMove). first o (movesFrom side f c e (suc i) k)) own
-      ∙ ap (first (moveOf side g c e i)) (moves-ext e (suc i) k p (λ j l u. h j (omega arith) (omega arith)))
+      moves-more side f c e i k ∙ ap (λ (o : Option CutMove). step o (movesFrom side f c e (suc i) k)) own
+      ∙ ap (step (moveOf side g c e i)) (moves-ext e (suc i) k p (λ j l u. h j (omega arith) (omega arith)))
       ∙ sym (moves-more side g c e i k)
 
 -- ---- the moves by the table

@@ -1,6 +1,7 @@
 -- Change request 12, "What would move this cut": the blocks whose frequency by itself could move a cut, each with its
--- way and its fewest f32 steps. What is asked is `Moves`; what is answered is `cutMoves`, which computes. That each says
--- the other are `moves-listed`, `moves-fewest`, `moves-sorted` and `moves-first` of crates/cut_margins. Assumes nothing.
+-- way and its fewest f32 steps. What is asked is `Moves`; what is answered is `cutMoves`, which computes. That each
+-- says the other are `moves-listed`, `moves-fewest`, `moves-sorted` and `moves-first` of crates/cut_margins.
+-- Assumes nothing.
 use Prim.Native.Nat.{ℕ, zero, suc, _+_, _-_}
 use mathlib.Core.Path.{_≡_}
 use mathlib.Core.Bool.{Bool, true, false, not, _&&_, cond}
@@ -62,8 +63,8 @@ lastOpen Late bs before = blockOf bs (before - 1)
 
 -- ---- which of them is chosen, f giving the patterns
 
--- the steps that i lacks against c at an equal frequency: none where i is ahead (early: before c; late: behind it), else
--- one
+-- the steps that i lacks against c at an equal frequency: none where i is ahead (early: before c; late: behind it),
+-- else one
 abbrev pub tie : Side → ℕ → ℕ → ℕ
 tie Early i c = cond (ltb i c) 0 1
 tie Late i c = cond (ltb c i) 0 1

@@ -31,8 +31,8 @@ module _ (c : tie.After-last-open) where
       let small = words-small (now (a .blocks))
       (λ i. omega (arith, s .before .before .before .before .shared-slice-known .given i)) in
       opened blocks _ _ (a .n) (a .after) (a .before) (a .side) _ _ (s .put-starts .ensures)
-      (omega (arith, length-words (now (a .work)))) small (p .8) (p .5) (p .6) (c .before .before .first-open .ensures .1)
-      (c .last-open .ensures .1)
+      (omega (arith, length-words (now (a .work)))) small (p .8) (p .5) (p .6)
+      (c .before .before .first-open .ensures .1) (c .last-open .ensures .1)
 
 chosen-requires : tie.Need-chosen-requires
 chosen-requires c κs = let o = found (c .before) in (open-order o, omega (arith, open-there o))
