@@ -60,34 +60,34 @@ opened W T₀ T n a b side lo hi made room small ok h l first last =
       high = last bs t count l;
     }
 
-module _ {T : List ℕ} {bs : List BlockData} {n a b : ℕ} {side : Side} {lo hi : ℕ} (o : Open T bs n a b side lo hi) where
-  module _ (c e : ℕ) where
-    -- the moves of the open blocks, by rising block
-    abbrev ms : List CutMove
-    ms = movesFrom side (bits T) c e lo (suc hi - lo)
+module _ {T : List ℕ} {bs : List BlockData} {n a b : ℕ} {side : Side} {lo hi : ℕ} (o : Open T bs n a b side lo hi)
+    (c e : ℕ) where
+  -- the moves of the open blocks, by rising block
+  abbrev ms : List CutMove
+  ms = movesFrom side (bits T) c e lo (suc hi - lo)
 
-    pub no-more : (k : ℕ) → k ≡ length ms → k ≤ n
-    no-more k ek = omega (arith, ek, moves-few side (bits T) c e lo (suc hi - lo), open-there o)
+  pub no-more : (k : ℕ) → k ≡ length ms → k ≤ n
+  no-more k ek = omega (arith, ek, moves-few side (bits T) c e lo (suc hi - lo), open-there o)
 
-    module _ (ec : c ≡ chosenOf side (bits T) lo lo (hi - lo))
-        (ee : e ≡ edgeOf side (bits T) c infinity lo (suc hi - lo)) where
-      pub above : bits T c < e
-      above =
-          let p = table-chosen o ec in
-          omega (arith, ee, edge-above side (bits T) lo hi c p (open-finite o c (p .high)))
+  module _ (ec : c ≡ chosenOf side (bits T) lo lo (hi - lo))
+      (ee : e ≡ edgeOf side (bits T) c infinity lo (suc hi - lo)) where
+    pub above : bits T c < e
+    above =
+        let p = table-chosen o ec in
+        omega (arith, ee, edge-above side (bits T) lo hi c p (open-finite o c (p .high)))
 
-      by-edge : sorted stepsOf ms ≡ cutMoves bs (inst a) (inst b) side
-      unfolding movesAmong
-      by-edge =
-          ap (λ (x : ℕ). sorted stepsOf (movesFrom side (bits T) c x lo (suc hi - lo))) ee ∙ moves-by-table o ec
+    by-edge : sorted stepsOf ms ≡ cutMoves bs (inst a) (inst b) side
+    unfolding movesAmong
+    by-edge =
+        ap (λ (x : ℕ). sorted stepsOf (movesFrom side (bits T) c x lo (suc hi - lo))) ee ∙ moves-by-table o ec
 
-      pub listed : (k m : ℕ) (X Y : List ℕ) → n * 3 ≤ m → k ≡ length ms → X ≡ pad m (moveWords ms)
-          → Y ≡ splice X 0 (rowWords (sorted keyOf (rowsAt rowOf X 0 3 k)))
-          → (k ≡ length (cutMoves bs (inst a) (inst b) side))
-          × (Y ≡ pad m (moveWords (cutMoves bs (inst a) (inst b) side)))
-      listed k m X Y fit ek ex ey =
-          let fits : length ms * 3 ≤ m = omega (arith, no-more k ek, ek) in (
-            ek ∙ sym (length-sorted stepsOf ms) ∙ ap length by-edge,
-            ey ∙ (λ x. splice (ex x) 0 (rowWords (sorted keyOf (rowsAt rowOf (ex x) 0 3 (ek x)))))
-                ∙ sorted-there m ms fits ∙ ap (λ (z : List CutMove). pad m (moveWords z)) by-edge,
-          )
+    pub listed : (k m : ℕ) (X Y : List ℕ) → n * 3 ≤ m → k ≡ length ms → X ≡ pad m (moveWords ms)
+        → Y ≡ splice X 0 (rowWords (sorted keyOf (rowsAt rowOf X 0 3 k)))
+        → (k ≡ length (cutMoves bs (inst a) (inst b) side))
+        × (Y ≡ pad m (moveWords (cutMoves bs (inst a) (inst b) side)))
+    listed k m X Y fit ek ex ey =
+        let fits : length ms * 3 ≤ m = omega (arith, no-more k ek, ek) in (
+          ek ∙ sym (length-sorted stepsOf ms) ∙ ap length by-edge,
+          ey ∙ (λ x. splice (ex x) 0 (rowWords (sorted keyOf (rowsAt rowOf (ex x) 0 3 (ek x)))))
+              ∙ sorted-there m ms fits ∙ ap (λ (z : List CutMove). pad m (moveWords z)) by-edge,
+        )
