@@ -4,15 +4,15 @@ use Prim.Native.Nat.{ℕ, suc, _+_, _-_, _*_, _≤_, _<_}
 use native.Mathlib.Omega.{arith}
 use native.Mathlib.Numerals.{add-one}
 use mathlib.Core.Path.{_≡_, refl, sym, ap, _∙_}
-use mathlib.Core.Bool.{Bool, true, false, cond}
+use mathlib.Core.Bool.{cond}
 use mathlib.Core.Option.{Option, none, some}
 use mathlib.Core.List.{List, [], _∷_, _++_, append-assoc, append-nil}
 use lib.Dec.{eqb}
 use lib.ListN.{length, replicate, length-append}
-use borrow.Author.Tests.{eq-eqb, ne-eqb, eqb-true, eqb-false}
+use borrow.Author.Tests.{eq-eqb, ne-eqb}
 use Rattle.definition.specs.declared.CutMove.{CutMove}
 use Rattle.definition.specs.declared.Side.{Side}
-use Rattle.definition.specs.CutMoves.{tie, moveOf, movesFrom, stepsOf, wayNumber}
+use Rattle.definition.specs.CutMoves.{moveOf, movesFrom, stepsOf, wayNumber}
 use Rattle.rows.specs.Parts.{splice, splice-none, pad, pad-splice, pad-none}
 use Rattle.cut_margins.specs.Margins.{Chosen}
 use Rattle.cut_margins.specs.Table.{stepsIn}
@@ -53,15 +53,6 @@ module _ (W : List ℕ) (k i c steps : ℕ) where
       (one-more k steps n, rw (ne-eqb steps 0 n) (q ∙ ap (λ (v : ℕ). splice W (k * 3) (i ∷ v ∷ steps ∷ [])) e))
 
 -- ---- the row of a move
-
--- none has less with its tie than the one chosen
-pub chosen-within : {side : Side} {f : ℕ → ℕ} {a b c : ℕ} (i : ℕ) → Chosen side f a b c → a ≤ i → i ≤ b
-    → f c ≤ f i + tie side i c
-chosen-within {side} {f} {a} {b} {c} i p g h = go (eqb i c) refl
-  where
-    go : (t : Bool) → eqb i c ≡ t → f c ≤ f i + tie side i c
-    go true e = omega (arith, ap f (eqb-true i c e))
-    go false e = omega (arith, p .first i g h (eqb-false i c e))
 
 -- block i has no move and no steps; or it has one, whose row is put
 data Turn (side : Side) (f : ℕ → ℕ) (c e i steps : ℕ) : Type 0 where

@@ -4,7 +4,8 @@ use native.Mathlib.Omega.{arith}
 use lib.ListN.{length}
 use Rattle.words.specs.Words.{wordCount, wordsOf}
 use Rattle.cut_margins.specs.Table.{bits}
-use Rattle.cut_moves.proofs.Rows.{chosen-within, Putting, put-first, put-next, put-end}
+use Rattle.cut_margins.proofs.Choice.{chosen-least}
+use Rattle.cut_moves.proofs.Rows.{Putting, put-first, put-next, put-end}
 use borrow.Author.Needs.{needs}
 use Rattle.cut_moves.proofs.put_moves.Statement.{statement}
 use Rattle.cut_moves.proofs.put_moves.Tie as tie
@@ -29,7 +30,7 @@ steps-requires c κs =
       omega arith,
       q .3 _ (omega arith),
       omega (arith, q .5),
-      chosen-within _ (q .4) i (omega arith),
+      omega (arith, chosen-least _ _ _ _ _ (q .4) _ i (omega arith)),
     )
 
 put-move-requires : tie.Need-put-move-requires Inv-loop μ-loop
