@@ -113,7 +113,8 @@ last-chosen {f} {a} {b} {c} w =
     go i l h true e = omega (arith, w .last i (ltb-true c i e) h)
     go i l h false e = omega (arith, w .least i l h)
 
-chosen-least : (side : Side) (f : ℕ → ℕ) (a b c : ℕ) → Chosen side f a b c → (i : ℕ) → a ≤ i → i ≤ b → f c ≤ f i
+-- none has less than the one chosen
+pub chosen-least : (side : Side) (f : ℕ → ℕ) (a b c : ℕ) → Chosen side f a b c → (i : ℕ) → a ≤ i → i ≤ b → f c ≤ f i
 chosen-least side f a b c p i l h = go (eqb i c) refl
   where
     go : (t : Bool) → eqb i c ≡ t → f c ≤ f i

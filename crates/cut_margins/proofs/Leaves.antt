@@ -83,10 +83,13 @@ module _ (side : Side) (f : ℕ → ℕ) (c : ℕ) where
   edge-next {lo} {end} {e} {i} x s h q =
       let k : end - i ≡ suc (end - (i + 1)) = omega arith in
       record {
-        is = s .is ∙ ap (edgeOf side f c e i) k ∙ ap (λ (m : ℕ). edgeOf side f c m (suc i) (end - (i + 1))) (sym q) ∙ ap (λ (m : ℕ). edgeOf side f c x m (end - (i + 1))) (sym (add-one i));
+        is =
+            s .is ∙ ap (edgeOf side f c e i) k ∙ ap (λ (m : ℕ). edgeOf side f c m (suc i) (end - (i + 1))) (sym q)
+            ∙ ap (λ (m : ℕ). edgeOf side f c x m (end - (i + 1))) (sym (add-one i));
       }
 
-  pub edge-end : {lo end e i : ℕ} (to : ℕ) → EdgeSoFar lo end e i → end ≤ i → end ≡ to + 1 → e ≡ edgeOf side f c infinity lo (suc to - lo)
+  pub edge-end : {lo end e i : ℕ} (to : ℕ) → EdgeSoFar lo end e i → end ≤ i → end ≡ to + 1
+      → e ≡ edgeOf side f c infinity lo (suc to - lo)
   unfolding edgeOf
   edge-end {lo} {end} {e} {i} to s h q =
       let k : end - i ≡ 0 = omega arith in
@@ -105,7 +108,8 @@ module _ (side : Side) (f : ℕ → ℕ) (c e i : ℕ) where
   pub steps-below : (x t : ℕ) → (i ≡ c → ⊥) → x ≡ f c → t ≡ tie side i c → x < t → 0 ≡ stepsIn (moveOf side f c e i)
   steps-below x t n q r l = rw (ne-eqb i c n, lt-ltb (f c) (tie side i c) (omega arith))
 
-  pub steps-down : (x t y : ℕ) → (i ≡ c → ⊥) → x ≡ f c → t ≡ tie side i c → t ≤ x → y ≡ f i + tie side i c → y - x ≡ stepsIn (moveOf side f c e i)
+  pub steps-down : (x t y : ℕ) → (i ≡ c → ⊥) → x ≡ f c → t ≡ tie side i c → t ≤ x → y ≡ f i + tie side i c
+      → y - x ≡ stepsIn (moveOf side f c e i)
   steps-down x t y n q r l s = rw (ne-eqb i c n, le-ltb (f c) (tie side i c) (omega arith), q, s)
 
 -- ---- the chosen block

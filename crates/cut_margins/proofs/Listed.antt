@@ -22,6 +22,10 @@ blockOfMove m = m .block .0
 abbrev Rising : CutMove → CutMove → Type 0
 Rising x y = blockOfMove x < blockOfMove y
 
+-- a move, if there is one, before others
+abbrev pub step : Option CutMove → List CutMove → List CutMove
+step o ms = elim o [ none ↦ ms | some m ↦ m ∷ ms ]
+
 no-row : (m : CutMove) → none ≡ some m → ⊥
 no-row m q = let z : _≡_ {A = ℕ} 0 1 = cc in omega arith
 
@@ -37,11 +41,11 @@ module _ (side : Side) (f : ℕ → ℕ) (c e : ℕ) where
     up : i ≡ c → e < infinity → upRow ≡ m → Row i m
     down : (i ≡ c → ⊥) → tie side i c ≤ f c → downRow i ≡ m → Row i m
 
-  row-block : (i : ℕ) (m : CutMove) → Row i m → blockOfMove m ≡ i
+  pub row-block : (i : ℕ) (m : CutMove) → Row i m → blockOfMove m ≡ i
   row-block i m (up q h r) = sym (ap blockOfMove r) ∙ sym q
   row-block i m (down n h r) = sym (ap blockOfMove r)
 
-  move-row : (i : ℕ) (m : CutMove) → moveOf side f c e i ≡ some m → Row i m
+  pub move-row : (i : ℕ) (m : CutMove) → moveOf side f c e i ≡ some m → Row i m
   move-row i m = go (eqb i c) (ltb e infinity) (ltb (f c) (tie side i c)) refl refl refl
     where
       go : (r s t : Bool) → eqb i c ≡ r → ltb e infinity ≡ s → ltb (f c) (tie side i c) ≡ t
@@ -66,9 +70,6 @@ module _ (side : Side) (f : ℕ → ℕ) (c e : ℕ) where
 
   later : (i n : ℕ) (m : CutMove) → Among (suc i) n m → Among i n m
   later i n m r = record { block = r .block; low = omega (arith, r .low); high = r .high; row = r .row }
-
-  abbrev step : Option CutMove → List CutMove → List CutMove
-  step o l = elim o [ none ↦ l | some m ↦ m ∷ l ]
 
   from-row : (i k : ℕ) (m : CutMove) → In m (movesFrom side f c e i k) → Among i (i + k) m
   unfolding movesFrom

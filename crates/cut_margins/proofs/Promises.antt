@@ -23,7 +23,8 @@ module _ (bs : List BlockData) (after before : Inst) (side : Side) (p : Fair bs 
   -- A block is left off "exactly if no finite frequency from zero up moves the cut".
   -- Ruled out: a list of all the open blocks, also of one that would have to go below zero; a list without the block
   -- chosen.
-  pub moves-listed : (j : ℕ) → (Named (cutMoves bs after before side) j → Movable (patternOf bs) (Moves bs after before side) j)
+  pub moves-listed : (j : ℕ)
+      → (Named (cutMoves bs after before side) j → Movable (patternOf bs) (Moves bs after before side) j)
       × (Movable (patternOf bs) (Moves bs after before side) j → Named (cutMoves bs after before side) j)
   moves-listed j = (movable, λ m. movable-named bs after before side p j (m .pattern) (m .finite) (m .moved))
     where

@@ -41,13 +41,16 @@ module _ (bs : List BlockData) (after before : Inst) (side : Side) (p : Fair bs 
   abbrev list : List CutMove
   list = cutMoves bs after before side
 
+  abbrev FewestOf : CutMove → Type 0
+  FewestOf m = Fewest (patternOf bs) (Moves bs after before side) m
+
   chosen-finite : f c < infinity
   chosen-finite =
       p .finite c (omega (arith, chosen bs after before side p .high, open-blocks bs after before p side .1))
 
   -- ---- the fewest steps
 
-  up-fewest : e < infinity → Fewest (patternOf bs) (Moves bs after before side) (upRow side f c e)
+  up-fewest : e < infinity → FewestOf (upRow side f c e)
   up-fewest h =
       let l : f c < e = edge-above side f a b c (chosen bs after before side p) chosen-finite in
       let g : f c + (e - f c) ≡ e = omega arith in
@@ -59,8 +62,7 @@ module _ (bs : List BlockData) (after before : Inst) (side : Side) (p : Fair bs 
         further = λ x k o. high-moves bs after before side p x k (omega arith);
       }
 
-  down-fewest : (i : ℕ) → a ≤ i → i ≤ b → (i ≡ c → ⊥) → tie side i c ≤ f c
-      → Fewest (patternOf bs) (Moves bs after before side) (downRow side f c e i)
+  down-fewest : (i : ℕ) → a ≤ i → i ≤ b → (i ≡ c → ⊥) → tie side i c ≤ f c → FewestOf (downRow side f c e i)
   down-fewest i l u n h =
       let k : f c < f i + tie side i c = chosen bs after before side p .first i l u n in
       let g : f i - (f i + tie side i c - f c) ≡ f c - tie side i c = omega arith in
@@ -73,12 +75,12 @@ module _ (bs : List BlockData) (after before : Inst) (side : Side) (p : Fair bs 
         further = λ x z o. low-moves bs after before side p i x z l u n (omega arith);
       }
 
-  row-fewest : (m : CutMove) → Among side f c e a (suc b) m → Fewest (patternOf bs) (Moves bs after before side) m
+  row-fewest : (m : CutMove) → Among side f c e a (suc b) m → FewestOf m
   row-fewest m r = go (r .block) (r .low) (omega (arith, r .high)) (r .row)
     where
-      go : (i : ℕ) → a ≤ i → i ≤ b → Row side f c e i m → Fewest (patternOf bs) (Moves bs after before side) m
-      go i l u (up q h g) = subst (λ (w : CutMove). Fewest (patternOf bs) (Moves bs after before side) w) g (up-fewest h)
-      go i l u (down n h g) = subst (λ (w : CutMove). Fewest (patternOf bs) (Moves bs after before side) w) g (down-fewest i l u n h)
+      go : (i : ℕ) → a ≤ i → i ≤ b → Row side f c e i m → FewestOf m
+      go i l u (up q h g) = subst FewestOf g (up-fewest h)
+      go i l u (down n h g) = subst FewestOf g (down-fewest i l u n h)
 
   pub list-fewest : (k : ℕ) → k < length list → Fewest (patternOf bs) (Moves bs after before side) (moveAt list k)
   unfolding cutMoves

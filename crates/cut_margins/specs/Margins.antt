@@ -1,5 +1,5 @@
--- A choice among the numbers a to b by the least f, of equal ones the one ahead, and what changing one f does to it: change
--- request 12 over numbers, once for both sides. `changed`, `Chosen`. Assumes nothing.
+-- A choice among the numbers a to b by the least f, of equal ones the one ahead, and what changing one f does to it:
+-- change request 12 over numbers, once for both sides. `changed`, `Chosen`. Assumes nothing.
 use Prim.Native.Nat.{ℕ, _+_, _≤_, _<_}
 use native.Mathlib.Omega.{arith}
 use mathlib.Core.Path.{_≡_, refl, sym, ap, _∙_, subst}
@@ -73,12 +73,14 @@ other-moves side f a b c j x d l h n q s e =
 
 pub other-stays : (side : Side) (f : ℕ → ℕ) (a b c j x : ℕ) → Chosen side f a b c → (j ≡ c → ⊥)
     → f c < x + tie side j c → Chosen side (changed f j x) a b c
-other-stays side f a b c j x p n s = record { low = p .low; high = p .high; first = λ i l h k. go i l h k (eqb i j) refl }
+other-stays side f a b c j x p n s =
+    record { low = p .low; high = p .high; first = λ i l h k. go i l h k (eqb i j) refl }
   where
     own : changed f j x c ≡ f c
     own = at-other f j x c (λ k. n (sym k))
 
-    go : (i : ℕ) → a ≤ i → i ≤ b → (i ≡ c → ⊥) → (t : Bool) → eqb i j ≡ t → changed f j x c < cond t x (f i) + tie side i c
+    go : (i : ℕ) → a ≤ i → i ≤ b → (i ≡ c → ⊥) → (t : Bool) → eqb i j ≡ t
+        → changed f j x c < cond t x (f i) + tie side i c
     go i l h k true e =
         let g : tie side i c ≡ tie side j c = ap (λ (z : ℕ). tie side z c) (eqb-true i j e) in
         omega (arith, own, s, g)

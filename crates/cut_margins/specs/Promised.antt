@@ -1,5 +1,5 @@
--- What is promised of the list of moves, in words: each record is a sentence of change request 12. `proofs/Promises.antt` proves
--- them of the definition's `cutMoves`. Assumes nothing.
+-- What is promised of the list of moves, in words: each record is a sentence of change request 12.
+-- `proofs/Promises.antt` proves them of the definition's `cutMoves`. Assumes nothing.
 use Prim.Native.Nat.{ℕ, _+_, _-_, _≤_, _<_}
 use mathlib.Core.Path.{_≡_}
 use mathlib.Core.Bool.{true}
@@ -54,7 +54,8 @@ Off Down own k x = x + k ≤ own
 abbrev pub apart : ℕ → ℕ → ℕ
 apart x y = (x - y) + (y - x)
 
--- ---- what is promised, `own` giving each block's pattern and `moves j x` saying that the pattern x in block j moves the cut
+-- ---- what is promised, `own` giving each block's pattern and `moves j x` saying that the pattern x in block j moves
+-- the cut
 
 module _ (own : ℕ → ℕ) (moves : ℕ → ℕ → Type 0) where
   -- some "finite frequency from zero up moves the cut" at block j
@@ -63,8 +64,8 @@ module _ (own : ℕ → ℕ) (moves : ℕ → ℕ → Type 0) where
     pub finite : pattern < infinity
     pub moved : moves j pattern
 
-  -- "the fewest f32 steps needed": so many that way are there and move the cut; what moves it lies that way and so far off; and all
-  -- that lies so far off moves it
+  -- "the fewest f32 steps needed": so many that way are there and move the cut; what moves it lies that way and so far
+  -- off; and all that lies so far off moves it
   pub record Fewest (m : CutMove) : Type 0 where
     pub there : Off (m .way) (own (m .block .0)) (m .steps) (target (m .way) (own (m .block .0)) (m .steps))
     pub finite : target (m .way) (own (m .block .0)) (m .steps) < infinity
@@ -75,5 +76,6 @@ module _ (own : ℕ → ℕ) (moves : ℕ → ℕ → Type 0) where
 -- "The list runs from the fewest steps, equal ones by block."
 pub record InOrder (ms : List CutMove) : Type 0 where
   pub fewest : (j k : ℕ) → j < k → k < length ms → moveAt ms j .steps ≤ moveAt ms k .steps
-  pub equal : (j k : ℕ) → j < k → k < length ms → moveAt ms j .steps ≡ moveAt ms k .steps → moveAt ms j .block .0 < moveAt ms k .block .0
+  pub equal : (j k : ℕ) → j < k → k < length ms → moveAt ms j .steps ≡ moveAt ms k .steps
+      → moveAt ms j .block .0 < moveAt ms k .block .0
   pub once : (j k : ℕ) → j < k → k < length ms → moveAt ms j .block .0 ≡ moveAt ms k .block .0 → ⊥

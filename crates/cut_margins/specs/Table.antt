@@ -1,4 +1,5 @@
--- What the code reads and answers in numbers: a block's pattern in the table of starts, and steps that may be none. Assumes nothing.
+-- What the code reads and answers in numbers: a block's pattern in the table of starts, and steps that may be none.
+-- Assumes nothing.
 use Prim.Native.Nat.{ℕ}
 use mathlib.Core.Option.{Option, none, some}
 use mathlib.Core.List.{List}

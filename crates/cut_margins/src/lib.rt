@@ -1,5 +1,5 @@
-// The blocks that are open to a cut, the one chosen, and the steps by which each of them would move it, over the table of block starts.
-// Frequencies are compared by their bits, as in split_placement.
+// The blocks that are open to a cut, the one chosen, and the steps by which each of them would move it, over the table
+// of block starts. Frequencies are compared by their bits, as in split_placement.
 use definition::Block;
 use definition::Inst;
 use definition::Side;
@@ -19,7 +19,8 @@ ghost use Rattle.cut_margins.specs.Table.{bits, stepsIn};
 // The first open block of n: early, that of `after` + 1; late, that of `after`.
 pub fn first_open(starts: &[u8], n: u32, after: Inst, side: Side) -> Block
     requires { ⌜ (0 < n) × (n * 2 + 2 ≤ wordCount (now starts)) × (after .0 + 1 < 4294967296) ⌝ }
-    ensures { λ r. ⌜ (r .0 < n) × ((bs : List BlockData) → Starts (wordsOf (now (starts .entry))) 0 bs → length bs ≡ n → after .0 + 1 < instsOf bs → r .0 ≡ firstOpen side bs (after .0)) ⌝ }
+    ensures { λ r. ⌜ (r .0 < n) × ((bs : List BlockData) → Starts (wordsOf (now (starts .entry))) 0 bs → length bs ≡ n
+        → after .0 + 1 < instsOf bs → r .0 ≡ firstOpen side bs (after .0)) ⌝ }
 {
     match side {
         Side::Early => block_starts::block_of(starts, 0, n, Inst(after.0 + 1)),
@@ -30,7 +31,8 @@ pub fn first_open(starts: &[u8], n: u32, after: Inst, side: Side) -> Block
 // The last: early, that of `before`; late, that of `before` - 1.
 pub fn last_open(starts: &[u8], n: u32, before: Inst, side: Side) -> Block
     requires { ⌜ (0 < n) × (n * 2 + 2 ≤ wordCount (now starts)) × (0 < before .0) ⌝ }
-    ensures { λ r. ⌜ (r .0 < n) × ((bs : List BlockData) → Starts (wordsOf (now (starts .entry))) 0 bs → length bs ≡ n → before .0 < instsOf bs → r .0 ≡ lastOpen side bs (before .0)) ⌝ }
+    ensures { λ r. ⌜ (r .0 < n) × ((bs : List BlockData) → Starts (wordsOf (now (starts .entry))) 0 bs → length bs ≡ n
+        → before .0 < instsOf bs → r .0 ≡ lastOpen side bs (before .0)) ⌝ }
 {
     match side {
         Side::Early => block_starts::block_of(starts, 0, n, before),
@@ -41,7 +43,8 @@ pub fn last_open(starts: &[u8], n: u32, before: Inst, side: Side) -> Block
 // The chosen one of the blocks `from` to `to`: of least frequency, of equal ones the one ahead.
 pub fn chosen(starts: &[u8], from: Block, to: Block, side: Side) -> Block
     requires { ⌜ (from .0 ≤ to .0) × (to .0 * 2 + 2 ≤ wordCount (now starts)) ⌝ }
-    ensures { λ r. ⌜ r .0 ≡ chosenOf side (bits (wordsOf (now (starts .entry)))) (from .0) (from .0) (to .0 - from .0) ⌝ }
+    ensures { λ r. ⌜ r .0
+        ≡ chosenOf side (bits (wordsOf (now (starts .entry)))) (from .0) (from .0) (to .0 - from .0) ⌝ }
 {
     match side {
         Side::Early => split_placement::first_least(starts, 0, from, to),
@@ -70,7 +73,9 @@ fn with_tie(starts: &[u8], side: Side, i: Block, c: Block) -> u32
 // The lesser of e and what block i has with its tie; e for c itself.
 fn lower(starts: &[u8], side: Side, i: Block, c: Block, e: u32) -> u32
     requires { ⌜ (i .0 * 2 + 2 ≤ wordCount (now starts)) × (bits (wordsOf (now starts)) (i .0) < infinity) ⌝ }
-    ensures { λ r. ⌜ r ≡ cond (not (eqb (i .0) (c .0)) && ltb (bits (wordsOf (now (starts .entry))) (i .0) + tie side (i .0) (c .0)) e) (bits (wordsOf (now (starts .entry))) (i .0) + tie side (i .0) (c .0)) e ⌝ }
+    ensures { λ r. ⌜ r
+        ≡ cond (not (eqb (i .0) (c .0)) && ltb (bits (wordsOf (now (starts .entry))) (i .0) + tie side (i .0) (c .0)) e)
+        (bits (wordsOf (now (starts .entry))) (i .0) + tie side (i .0) (c .0)) e ⌝ }
 {
     if i.0 == c.0 {
         return e;
@@ -81,8 +86,10 @@ fn lower(starts: &[u8], side: Side, i: Block, c: Block, e: u32) -> u32
 
 // The edge of the chosen block c: the least that another of the blocks `from` to `to` has with its tie.
 pub fn edge_of(starts: &[u8], from: Block, to: Block, side: Side, c: Block) -> u32
-    requires { ⌜ (to .0 < 4294967295) × (to .0 * 2 + 2 ≤ wordCount (now starts)) × ((i : ℕ) → i ≤ to .0 → bits (wordsOf (now starts)) i < infinity) ⌝ }
-    ensures { λ r. ⌜ r ≡ edgeOf side (bits (wordsOf (now (starts .entry)))) (c .0) infinity (from .0) (suc (to .0) - from .0) ⌝ }
+    requires { ⌜ (to .0 < 4294967295) × (to .0 * 2 + 2 ≤ wordCount (now starts))
+        × ((i : ℕ) → i ≤ to .0 → bits (wordsOf (now starts)) i < infinity) ⌝ }
+    ensures { λ r. ⌜ r
+        ≡ edgeOf side (bits (wordsOf (now (starts .entry)))) (c .0) infinity (from .0) (suc (to .0) - from .0) ⌝ }
 {
     let mut e: u32 = 0x7f80_0000;
     let mut i = from.0;
@@ -96,7 +103,9 @@ pub fn edge_of(starts: &[u8], from: Block, to: Block, side: Side, c: Block) -> u
 
 // The steps of block i: up for the chosen block c, down for another; 0 where no frequency moves the cut.
 pub fn steps(starts: &[u8], side: Side, c: Block, e: u32, i: Block) -> u32
-    requires { ⌜ (c .0 * 2 + 2 ≤ wordCount (now starts)) × (i .0 * 2 + 2 ≤ wordCount (now starts)) × (bits (wordsOf (now starts)) (i .0) < infinity) × (bits (wordsOf (now starts)) (c .0) ≤ e) × (bits (wordsOf (now starts)) (c .0) ≤ bits (wordsOf (now starts)) (i .0) + tie side (i .0) (c .0)) ⌝ }
+    requires { ⌜ (c .0 * 2 + 2 ≤ wordCount (now starts)) × (i .0 * 2 + 2 ≤ wordCount (now starts))
+        × (bits (wordsOf (now starts)) (i .0) < infinity) × (bits (wordsOf (now starts)) (c .0) ≤ e)
+        × (bits (wordsOf (now starts)) (c .0) ≤ bits (wordsOf (now starts)) (i .0) + tie side (i .0) (c .0)) ⌝ }
     ensures { λ r. ⌜ r ≡ stepsIn (moveOf side (bits (wordsOf (now (starts .entry)))) (c .0) e (i .0)) ⌝ }
 {
     let own = function::bits_at(starts, 0, c);

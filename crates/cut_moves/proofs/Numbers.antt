@@ -18,7 +18,7 @@ use Rattle.definition.specs.Types.{Out, done, refused, inst}
 use Rattle.definition.specs.Entry.{instsOf, every, blockOk, lowestOf}
 use Rattle.definition.specs.CutMoves.{cutMoves, movesTests, movesTo, findMoves}
 use Rattle.find_cut.specs.Answer.{blocksIn, sideNamed, readable, numberAt, testNumber}
-use Rattle.find_cut.proofs.Answers.{numbered, no-side, no-rows, no-block, reads}
+use Rattle.find_cut.proofs.Answers.{numbered, no-side, no-rows, no-block}
 use Rattle.find_cut.proofs.Tests.{Passed, count, was-passed}
 use Rattle.cut_moves.specs.Answer.{movesAt, endOf, movesNumber}
 
@@ -58,12 +58,14 @@ was-free true true false e = absurd (omega arith)
 
 -- ---- the answer by what the tests find
 
-number-found : (o : Option Refusal) (bs : List BlockData) (a b : Inst) (side : Side) → endOf (movesTo o bs a b side) .number ≡ numberAt o
+number-found : (o : Option Refusal) (bs : List BlockData) (a b : Inst) (side : Side)
+    → endOf (movesTo o bs a b side) .number ≡ numberAt o
 unfolding endOf movesTo numberAt
 number-found none bs a b side = refl
 number-found (some r) bs a b side = refl
 
-none-found : (o : Option Refusal) (bs : List BlockData) (a b : Inst) (side : Side) → 0 ≡ numberAt o → movesTo o bs a b side ≡ done (cutMoves bs a b side)
+none-found : (o : Option Refusal) (bs : List BlockData) (a b : Inst) (side : Side) → 0 ≡ numberAt o
+    → movesTo o bs a b side ≡ done (cutMoves bs a b side)
 unfolding movesTo numberAt
 none-found none bs a b side e = refl
 none-found (some r) bs a b side e = absurd (numbered r e)
@@ -89,13 +91,16 @@ module _ (s : List ℕ) (a b side places : ℕ) where
   unfolding movesNumber endOf
   unread e = sym (ap (λ (o : Out (List CutMove)). endOf o .number) (closed e))
 
-  opened : readable s side ≡ true → movesAt s a b side places ≡ movesTo found (blocksIn s) (inst a) (inst b) (sideNamed side)
+  opened : readable s side ≡ true
+      → movesAt s a b side places ≡ movesTo found (blocksIn s) (inst a) (inst b) (sideNamed side)
   unfolding movesAt findMoves
   opened e = rw e
 
-  by-found : readable s side ≡ true → (k : ℕ) → k ≡ numberAt found → k ≡ movesNumber s a b side places
+  by-found : readable s side ≡ true → movesNumber s a b side places ≡ numberAt found
   unfolding movesNumber
-  by-found e k h = h ∙ sym (ap (λ (o : Out (List CutMove)). endOf o .number) (opened e) ∙ number-found found (blocksIn s) (inst a) (inst b) (sideNamed side))
+  by-found e =
+      ap (λ (o : Out (List CutMove)). endOf o .number) (opened e)
+      ∙ number-found found (blocksIn s) (inst a) (inst b) (sideNamed side)
 
   pub off-list : 1 < side → 1 ≡ movesNumber s a b side places
   off-list h = unread (no-side s side h)
@@ -106,18 +111,20 @@ module _ (s : List ℕ) (a b side places : ℕ) where
   pub nothing : length s ≡ 0 → 1 ≡ movesNumber s a b side places
   nothing h = unread (no-block s side h)
 
-  module _ (h : side ≤ 1) (w : length s % 8 ≡ 0) (l : length s ≡ 0 → ⊥) where
+  module _ (r : readable s side ≡ true) where
     pub failed : (k : ℕ) → k ≡ testNumber s a b → (k ≡ 0 → ⊥) → k ≡ movesNumber s a b side places
     unfolding testNumber few x y
-    failed k e n = by-found (reads s side h w l) k (stays x y few k e n)
+    failed k e n = stays x y few k e n ∙ sym (by-found r)
 
     pub short : (k : ℕ) → k ≡ testNumber s a b → k ≡ 0 → places < length s / 8 → 9 ≡ movesNumber s a b side places
     unfolding testNumber few x y
-    short k e n g = by-found (reads s side h w l) 9 (full x y few (sym n ∙ e) (lt-leb (length (blocksIn s)) places (omega (arith, count s a b))))
+    short k e n g =
+        full x y few (sym n ∙ e) (lt-leb (length (blocksIn s)) places (omega (arith, count s a b))) ∙ sym (by-found r)
 
     pub fine : (k : ℕ) → k ≡ testNumber s a b → k ≡ 0 → length s / 8 ≤ places → 0 ≡ movesNumber s a b side places
     unfolding testNumber few x y
-    fine k e n g = by-found (reads s side h w l) 0 (free x y few (sym n ∙ e) (le-leb (length (blocksIn s)) places (omega (arith, count s a b))))
+    fine k e n g =
+        free x y few (sym n ∙ e) (le-leb (length (blocksIn s)) places (omega (arith, count s a b))) ∙ sym (by-found r)
 
   -- ---- what holds where there is no refusal
 
@@ -130,8 +137,7 @@ module _ (s : List ℕ) (a b side places : ℕ) where
         go false f = absurd (let z : _≡_ {A = ℕ} 1 0 = unread f ∙ sym e in omega arith)
 
     none-there : 0 ≡ numberAt found
-    unfolding movesNumber
-    none-there = e ∙ ap (λ (o : Out (List CutMove)). endOf o .number) (opened could-read) ∙ number-found found (blocksIn s) (inst a) (inst b) (sideNamed side)
+    none-there = e ∙ by-found could-read
 
     both-there : (0 ≡ testNumber s a b) × (few ≡ true)
     unfolding testNumber few x y

@@ -1,5 +1,5 @@
--- The table of starts holds the patterns of the blocks, and the moves turn on the patterns of the open blocks alone: so the moves by the
--- table are the definition's (`moves-by-table`). Assumes nothing.
+-- The table of starts holds the patterns of the blocks, and the moves turn on the patterns of the open blocks alone: so
+-- the moves by the table are the definition's (`moves-by-table`). Assumes nothing.
 use Prim.Native.Nat.{ℕ, zero, suc, _+_, _-_, _≤_, _<_}
 use native.Mathlib.Omega.{arith}
 use mathlib.Core.Path.{_≡_, refl, sym, ap, _∙_, subst}
@@ -15,7 +15,8 @@ use Rattle.definition.specs.declared.Side.{Side}
 use Rattle.definition.specs.declared.Way.the-variants.{Up, Down}
 use Rattle.definition.specs.Types.{inst}
 use Rattle.definition.specs.Entry.{instsOf, every, blockOk}
-use Rattle.definition.specs.CutMoves.{infinity, patternOf, firstOpen, lastOpen, tie, chosenOf, edgeOf, moveOf, movesFrom, stepsOf, sorted, movesAmong, cutMoves}
+use Rattle.definition.specs.CutMoves.{infinity, patternOf, firstOpen, lastOpen, tie, chosenOf, edgeOf, moveOf}
+use Rattle.definition.specs.CutMoves.{upOf, downOf, movesFrom, stepsOf, sorted, movesAmong, cutMoves}
 use Rattle.floats.proofs.Bits.{bits-back}
 use Rattle.function.specs.Blocks.{blockAt, Starts}
 use Rattle.cut_margins.specs.Margins.{Chosen, chosen-once}
@@ -23,11 +24,13 @@ use Rattle.cut_margins.specs.Promised.{Fair}
 use Rattle.cut_margins.specs.Table.{bits}
 use Rattle.cut_margins.proofs.Choice.{chosen-of, chosen-ext}
 use Rattle.cut_margins.proofs.Table.{open-blocks}
-use Rattle.cut_moves.proofs.Rows.{first, moves-more}
+use Rattle.cut_margins.proofs.Listed.{step}
+use Rattle.cut_moves.proofs.Rows.{moves-more}
 
 -- ---- the patterns in the table
 
-pub pattern-at : (bs : List BlockData) (j : ℕ) → j < length bs → patternOf bs j ≡ toBits binary32 (blockAt bs j .frequency)
+pub pattern-at : (bs : List BlockData) (j : ℕ) → j < length bs
+    → patternOf bs j ≡ toBits binary32 (blockAt bs j .frequency)
 unfolding patternOf blockAt
 pattern-at [] j h = absurd (omega arith)
 pattern-at (b ∷ bs) zero h = refl
@@ -35,7 +38,9 @@ pattern-at (b ∷ bs) (suc j) h = pattern-at bs j (omega arith)
 
 module _ (T : List ℕ) (bs : List BlockData) (s : Starts T 0 bs) where
   pub pattern-bits : (j : ℕ) → j < length bs → patternOf bs j ≡ bits T j
-  pattern-bits j h = pattern-at bs j h ∙ ap (toBits binary32) (sym (s .bits j h)) ∙ bits-back (bits T j) (omega (arith, s .finite j h))
+  pattern-bits j h =
+      pattern-at bs j h ∙ ap (toBits binary32) (sym (s .bits j h))
+      ∙ bits-back (bits T j) (omega (arith, s .finite j h))
 
   pub fair : (a b : ℕ) → every blockOk bs ≡ true → a < b → b < instsOf bs → Fair bs (inst a) (inst b)
   fair a b ok h l =
@@ -54,58 +59,79 @@ module _ (side : Side) (f g : ℕ → ℕ) (c : ℕ) where
   unfolding edgeOf
   edge-ext e i zero h = refl
   edge-ext e i (suc k) h =
-      ap (λ (z : ℕ). edgeOf side f c (cond (not (eqb i c) && ltb (z + tie side i c) e) (z + tie side i c) e) (suc i) k) (h i (omega arith) (omega arith))
+      let t = tie side i c in
+      ap (λ (z : ℕ). edgeOf side f c (cond (not (eqb i c) && ltb (z + t) e) (z + t) e) (suc i) k)
+      (h i (omega arith) (omega arith))
       ∙ edge-ext _ (suc i) k (λ j l u. h j (omega arith) (omega arith))
 
   move-ext : (e i : ℕ) → f c ≡ g c → f i ≡ g i → moveOf side f c e i ≡ moveOf side g c e i
-  move-ext e i p q =
-      λ x. cond (eqb i c) (cond (ltb e infinity) (some (record { block = record { 0 = c }; way = Up; steps = e - p x })) none)
-      (cond (ltb (p x) (tie side i c)) none (some (record { block = record { 0 = i }; way = Down; steps = q x + tie side i c - p x })))
+  move-ext e i p q = λ x. cond (eqb i c) (up x) (down x)
+    where
+      up : upOf side f c e ≡ upOf side g c e
+      up = λ x. cond (ltb e infinity) (some (record { block = record { 0 = c }; way = Up; steps = e - p x })) none
 
-  moves-ext : (e i k : ℕ) → f c ≡ g c → ((j : ℕ) → i ≤ j → j < i + k → f j ≡ g j) → movesFrom side f c e i k ≡ movesFrom side g c e i k
+      down : downOf side f c i ≡ downOf side g c i
+      down =
+          let t = tie side i c in
+          λ x. cond (ltb (p x) t) none (some (record { block = record { 0 = i }; way = Down; steps = q x + t - p x }))
+
+  moves-ext : (e i k : ℕ) → f c ≡ g c → ((j : ℕ) → i ≤ j → j < i + k → f j ≡ g j)
+      → movesFrom side f c e i k ≡ movesFrom side g c e i k
   unfolding movesFrom
   moves-ext e i zero p h = refl
   moves-ext e i (suc k) p h =
-      moves-more side f c e i k
-      ∙ ap (λ (o : Option CutMove). first o (movesFrom side f c e (suc i) k)) (move-ext e i p (h i (omega arith) (omega arith)))
-      ∙ ap (first (moveOf side g c e i)) (moves-ext e (suc i) k p (λ j l u. h j (omega arith) (omega arith)))
+      let own = move-ext e i p (h i (omega arith) (omega arith)) in
+      moves-more side f c e i k ∙ ap (λ (o : Option CutMove). step o (movesFrom side f c e (suc i) k)) own
+      ∙ ap (step (moveOf side g c e i)) (moves-ext e (suc i) k p (λ j l u. h j (omega arith) (omega arith)))
       ∙ sym (moves-more side g c e i k)
 
 -- ---- the moves by the table
 
-module _ (T : List ℕ) (bs : List BlockData) (s : Starts T 0 bs) (a b : ℕ) (side : Side) (ok : every blockOk bs ≡ true) (h : a < b) (l : b < instsOf bs)
-    (lo hi c : ℕ) (el : lo ≡ firstOpen side bs a) (eh : hi ≡ lastOpen side bs b) where
-  open-at : (lo ≤ hi) × (hi < length bs)
+-- T is the table of starts of the n blocks, which are accepted with the ends a and b; of them lo to hi are open
+pub record Open (T : List ℕ) (bs : List BlockData) (n a b : ℕ) (side : Side) (lo hi : ℕ) : Type 0 where
+  pub table : Starts T 0 bs
+  pub count : length bs ≡ n
+  pub ok : every blockOk bs ≡ true
+  pub order : a < b
+  pub within : b < instsOf bs
+  pub low : lo ≡ firstOpen side bs a
+  pub high : hi ≡ lastOpen side bs b
+
+module _ {T : List ℕ} {bs : List BlockData} {n a b : ℕ} {side : Side} {lo hi : ℕ} (o : Open T bs n a b side lo hi) where
+  open-at : (lo ≤ hi) × (hi < n)
   open-at =
-      let o = open-blocks bs (inst a) (inst b) (fair T bs s a b ok h l) side in
-      (omega (arith, o .0), omega (arith, o .1))
+      let p = open-blocks bs (inst a) (inst b) (fair T bs (o .table) a b (o .ok) (o .order) (o .within)) side in
+      (omega (arith, p .0, o .low, o .high), omega (arith, p .1, o .high, o .count))
 
   pub open-order : lo ≤ hi
   open-order = open-at .0
 
-  pub open-there : hi < length bs
+  pub open-there : hi < n
   open-there = open-at .1
 
   pub open-finite : (i : ℕ) → i ≤ hi → bits T i < infinity
-  open-finite i u = omega (arith, s .finite i (omega (arith, open-there)))
+  open-finite i u = omega (arith, o .table .finite i (omega (arith, open-there, o .count)))
 
   same : (i : ℕ) → i ≤ hi → bits T i ≡ patternOf bs i
-  same i u = sym (pattern-bits T bs s i (omega (arith, open-there)))
+  same i u = sym (pattern-bits T bs (o .table) i (omega (arith, open-there, o .count)))
 
-  module _ (ec : c ≡ chosenOf side (bits T) lo lo (hi - lo)) where
+  module _ {c : ℕ} (ec : c ≡ chosenOf side (bits T) lo lo (hi - lo)) where
     pub table-chosen : Chosen side (bits T) lo hi c
-    table-chosen = subst (λ (k : ℕ). Chosen side (bits T) lo hi k) (sym ec) (chosen-of side (bits T) lo hi open-order)
+    table-chosen =
+        subst (λ (k : ℕ). Chosen side (bits T) lo hi k) (sym ec) (chosen-of side (bits T) lo hi open-order)
 
     same-chosen : c ≡ chosenOf side (patternOf bs) lo lo (hi - lo)
     same-chosen =
-        chosen-once side (patternOf bs) lo hi _ _ (chosen-ext side (bits T) (patternOf bs) lo hi c (λ i g u. same i u) table-chosen)
+        chosen-once side (patternOf bs) lo hi _ _
+        (chosen-ext side (bits T) (patternOf bs) lo hi c (λ i g u. same i u) table-chosen)
         (chosen-of side (patternOf bs) lo hi open-order)
 
     same-among : movesAmong side (bits T) lo hi c ≡ movesAmong side (patternOf bs) lo hi c
     unfolding movesAmong
     same-among =
         let k = suc hi - lo in
-        let e : edgeOf side (bits T) c infinity lo k ≡ edgeOf side (patternOf bs) c infinity lo k = edge-ext side (bits T) (patternOf bs) c infinity lo k (λ j g u. same j (omega arith)) in
+        let e : edgeOf side (bits T) c infinity lo k ≡ edgeOf side (patternOf bs) c infinity lo k =
+        edge-ext side (bits T) (patternOf bs) c infinity lo k (λ j g u. same j (omega arith)) in
         ap (sorted stepsOf)
         (ap (λ (x : ℕ). movesFrom side (bits T) c x lo k) e
         ∙ moves-ext side (bits T) (patternOf bs) c _ lo k (same c (table-chosen .high)) (λ j g u. same j (omega arith)))
@@ -113,5 +139,6 @@ module _ (T : List ℕ) (bs : List BlockData) (s : Starts T 0 bs) (a b : ℕ) (s
     pub moves-by-table : movesAmong side (bits T) lo hi c ≡ cutMoves bs (inst a) (inst b) side
     unfolding cutMoves
     moves-by-table =
-        same-among ∙ ap (movesAmong side (patternOf bs) lo hi) same-chosen
-        ∙ (λ x. movesAmong side (patternOf bs) (el x) (eh x) (chosenOf side (patternOf bs) (el x) (el x) (eh x - el x)))
+        let among : ℕ → ℕ → List CutMove = λ l h. movesAmong side (patternOf bs) l h
+        (chosenOf side (patternOf bs) l l (h - l)) in
+        same-among ∙ ap (movesAmong side (patternOf bs) lo hi) same-chosen ∙ (λ x. among (o .low x) (o .high x))

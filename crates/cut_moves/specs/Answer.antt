@@ -1,4 +1,5 @@
--- The answer on what would move a cut, for any bytes and numbers: through the definition's `findMoves`. Assumes nothing.
+-- The answer on what would move a cut, for any bytes and numbers: through the definition's `findMoves`.
+-- Assumes nothing.
 use Prim.Native.Nat.{ℕ, _/_}
 use mathlib.Core.Bool.{cond}
 use mathlib.Core.List.{List, [], _∷_}
@@ -22,7 +23,8 @@ moveWords (m ∷ ms) = m .block .0 ∷ wayNumber (m .way) ∷ m .steps ∷ moveW
 unfoldable pub movesAt : List ℕ → ℕ → ℕ → ℕ → ℕ → Out (List CutMove)
 unfolding findMoves sideNamed
 movesAt s after before side places =
-    cond (readable s side) (findMoves (blocksIn s) (inst after) (inst before) (sideNamed side) places) (refused NotARecord)
+    cond (readable s side) (findMoves (blocksIn s) (inst after) (inst before) (sideNamed side) places)
+    (refused NotARecord)
 
 -- the list having `room` bytes, twelve to a place
 abbrev pub movesOut : List ℕ → ℕ → ℕ → ℕ → ℕ → Out (List CutMove)

@@ -1,5 +1,5 @@
-// What would move a cut, as an entry point on bytes and numbers: each block whose frequency by itself could move it, with the way and the
-// fewest f32 steps, in a lent list. Nothing is asked of the caller.
+// What would move a cut, as an entry point on bytes and numbers: each block whose frequency by itself could move it,
+// with the way and the fewest f32 steps, in a lent list. Nothing is asked of the caller.
 use definition::Block;
 use definition::Inst;
 use definition::Side;
@@ -58,7 +58,8 @@ fn way_of(i: Block, c: Block) -> u32
 // Behind k rows of the list that of block i, where it has steps; how many rows there are then.
 fn put_move(list: &mut [u8], k: u32, i: Block, c: Block, steps: u32) -> u32
     requires { ⌜ (k < 4096) × (k * 3 + 3 ≤ wordCount (now list)) ⌝ }
-    ensures { λ r. ⌜ (r ≡ k + cond (eqb steps 0) 0 1) × (wordsOf (now (list .exit)) ≡ splice (wordsOf (now (list .entry))) (k * 3) (moveRow (i .0) (c .0) steps)) ⌝ }
+    ensures { λ r. ⌜ (r ≡ k + cond (eqb steps 0) 0 1)
+        × (wordsOf (now (list .exit)) ≡ splice (wordsOf (now (list .entry))) (k * 3) (moveRow (i .0) (c .0) steps)) ⌝ }
 {
     if steps == 0 {
         return k;
@@ -67,7 +68,8 @@ fn put_move(list: &mut [u8], k: u32, i: Block, c: Block, steps: u32) -> u32
     k + 1
 }
 
-// The moves of the open blocks `from` to `to` at the front of the list, by rising block: how many. Block c is chosen, e its edge.
+// The moves of the open blocks `from` to `to` at the front of the list, by rising block: how many. Block c is chosen, e
+// its edge.
 fn put_moves(
     list: &mut [u8],
     starts: &[u8],
@@ -78,10 +80,13 @@ fn put_moves(
     e: u32,
 ) -> u32
     requires { ⌜ (to .0 < 512) × (to .0 * 2 + 2 ≤ wordCount (now starts)) × ((to .0 + 1) * 3 ≤ wordCount (now list))
-        × ((i : ℕ) → i ≤ to .0 → bits (wordsOf (now starts)) i < infinity) × Chosen side (bits (wordsOf (now starts))) (from .0) (to .0) (c .0)
+        × ((i : ℕ) → i ≤ to .0 → bits (wordsOf (now starts)) i < infinity)
+        × Chosen side (bits (wordsOf (now starts))) (from .0) (to .0) (c .0)
         × (bits (wordsOf (now starts)) (c .0) < e) × (wordsOf (now list) ≡ replicate (wordCount (now list)) 0) ⌝ }
-    ensures { λ r. ⌜ (r ≡ length (movesFrom side (bits (wordsOf (now (starts .entry)))) (c .0) e (from .0) (suc (to .0) - from .0)))
-        × (wordsOf (now (list .exit)) ≡ pad (wordCount (now (list .entry))) (moveWords (movesFrom side (bits (wordsOf (now (starts .entry)))) (c .0) e (from .0) (suc (to .0) - from .0)))) ⌝ }
+    ensures { λ r. ⌜ (r
+        ≡ length (movesFrom side (bits (wordsOf (now (starts .entry)))) (c .0) e (from .0) (suc (to .0) - from .0)))
+        × (wordsOf (now (list .exit)) ≡ pad (wordCount (now (list .entry))) (moveWords
+        (movesFrom side (bits (wordsOf (now (starts .entry)))) (c .0) e (from .0) (suc (to .0) - from .0)))) ⌝ }
 {
     let mut k: u32 = 0;
     let mut i = from.0;
@@ -94,7 +99,8 @@ fn put_moves(
     k
 }
 
-// The moves of accepted blocks, sorted, at the front of a list of zeros: how many. The table of starts is made in `work`, which then serves the sort.
+// The moves of accepted blocks, sorted, at the front of a list of zeros: how many. The table of starts is made in
+// `work`, which then serves the sort.
 fn put_sorted(
     blocks: &[u8],
     n: u32,
@@ -104,11 +110,16 @@ fn put_sorted(
     list: &mut [u8],
     work: &mut [u8],
 ) -> u32
-    requires { ⌜ (0 < n) × (n ≤ 512) × (n * 2 ≤ wordCount (now blocks)) × (1026 ≤ wordCount (now work)) × (n * 3 ≤ wordCount (now list)) × (after < before)
-        × (before < instsOf (blocksAt (wordsOf (now blocks)) 0 n)) × (instsOf (blocksAt (wordsOf (now blocks)) 0 n) ≤ 4096)
-        × (every blockOk (blocksAt (wordsOf (now blocks)) 0 n) ≡ true) × (wordsOf (now list) ≡ replicate (wordCount (now list)) 0) ⌝ }
-    ensures { λ r. ⌜ (r ≡ length (cutMoves (blocksAt (wordsOf (now (blocks .entry))) 0 n) (inst after) (inst before) side))
-        × (wordsOf (now (list .exit)) ≡ pad (wordCount (now (list .entry))) (moveWords (cutMoves (blocksAt (wordsOf (now (blocks .entry))) 0 n) (inst after) (inst before) side))) ⌝ }
+    requires { ⌜ (0 < n) × (n ≤ 512) × (n * 2 ≤ wordCount (now blocks)) × (1026 ≤ wordCount (now work))
+        × (n * 3 ≤ wordCount (now list)) × (after < before)
+        × (before < instsOf (blocksAt (wordsOf (now blocks)) 0 n))
+        × (instsOf (blocksAt (wordsOf (now blocks)) 0 n) ≤ 4096)
+        × (every blockOk (blocksAt (wordsOf (now blocks)) 0 n) ≡ true)
+        × (wordsOf (now list) ≡ replicate (wordCount (now list)) 0) ⌝ }
+    ensures { λ r. ⌜ (r
+        ≡ length (cutMoves (blocksAt (wordsOf (now (blocks .entry))) 0 n) (inst after) (inst before) side))
+        × (wordsOf (now (list .exit)) ≡ pad (wordCount (now (list .entry))) (moveWords
+        (cutMoves (blocksAt (wordsOf (now (blocks .entry))) 0 n) (inst after) (inst before) side))) ⌝ }
 {
     block_starts::put_starts(blocks, 0, n, work, 0);
     let from = cut_margins::first_open(work, n, Inst(after), side);
@@ -120,9 +131,10 @@ fn put_sorted(
     count
 }
 
-// blocks: rows of two little-endian words, instruction count and frequency bits. side: 0 early, 1 late. list: rows of three words, block, way
-// (0 up, 1 down) and steps, from the fewest steps on, equal ones by block; zeros behind them. work: what it holds does not matter.
-// The contract rules out, for one, a row for a block that only an infinite frequency would let move the cut, and a list left as it was lent on 9.
+// blocks: rows of two little-endian words, instruction count and frequency bits. side: 0 early, 1 late. list: rows of
+// three words, block, way (0 up, 1 down) and steps, from the fewest steps on, equal ones by block; zeros behind them.
+// work: what it holds does not matter. The contract rules out, for one, a row for a block that only an infinite
+// frequency would let move the cut, and a list left as it was lent on 9.
 #[no_mangle]
 pub extern "C" fn find_cut_moves(
     blocks: &[u8],
@@ -133,7 +145,8 @@ pub extern "C" fn find_cut_moves(
     work: &mut [u8; 4104],
 ) -> MovesEnd
     ensures { λ r. ⌜ r ≡ movesEnd (now (blocks .entry)) after before side (length (now (list .entry))) ⌝ }
-    ensures { λ _. ⌜ now (list .exit) ≡ listLeft (now (blocks .entry)) after before side (length (now (list .entry))) ⌝ }
+    ensures { λ _. ⌜ now (list .exit)
+        ≡ listLeft (now (blocks .entry)) after before side (length (now (list .entry))) ⌝ }
 {
     spans::clear(list);
     let number = number_of(blocks, after, before, side, list.len() / 12);

@@ -1,5 +1,5 @@
-// Runs the exported function on what would move a cut, on the marked cases F and G, on ties and on each of its refusals, and writes number, count
-// and the list's words of each answer. A write that fails is said on standard error.
+// Runs the exported function on what would move a cut, on the marked cases F and G, on ties and on each of its
+// refusals, and writes number, count and the list's words of each answer. A write that fails is said on standard error.
 ghost use Prim.Native.Nat.{_+_, _*_, _/_, _≤_};
 ghost use lib.ListN.{length};
 use libc::STDOUT_FILENO;
@@ -29,7 +29,8 @@ fn put_answer(out: &mut [u8], at: usize, number: u32, count: u32, list: &[u8]) -
     lines::put_bytes(out, c, b"\n")
 }
 
-// One answer behind the first `at` bytes: its name, the number, the count and the list, which comes with what it held before.
+// One answer behind the first `at` bytes: its name, the number, the count and the list, which comes with what it held
+// before.
 fn show(
     out: &mut [u8],
     at: usize,

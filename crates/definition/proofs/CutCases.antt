@@ -1,4 +1,5 @@
--- What would move a cut, computed: `cases` is a table of blocks, ends, side and answer, `cases-computed` computes it. Assumes nothing.
+-- What would move a cut, computed: `cases` is a table of blocks, ends, side and answer, `cases-computed` computes it.
+-- Assumes nothing.
 use Prim.Native.Nat.{ℕ}
 use mathlib.Core.Path.{_≡_, refl}
 use mathlib.Core.List.{List, [], _∷_, map}
@@ -65,6 +66,7 @@ cases =
     ∷ case (three 12 10 12) 0 11 Late (move 1 Up 2 ∷ move 2 Down 2 ∷ move 0 Down 3 ∷ [])
     ∷ []
 
-cases-computed : map (λ (c : Case). cutMoves (c .blocks) (inst (c .after)) (inst (c .before)) (c .side)) cases ≡ map (λ (c : Case). c .moves) cases
+cases-computed : map (λ (c : Case). cutMoves (c .blocks) (inst (c .after)) (inst (c .before)) (c .side)) cases
+    ≡ map (λ (c : Case). c .moves) cases
 unfolding cutMoves ofBits
 cases-computed = refl

@@ -1,6 +1,7 @@
--- Change request 12, "What would move this cut": the blocks whose frequency by itself could move a cut, each with its way
--- and its fewest f32 steps. What is asked is `Moves`; what is answered is `cutMoves`, which computes. That each says the
--- other are `moves-listed`, `moves-fewest`, `moves-sorted` and `moves-first` of crates/cut_margins. Assumes nothing.
+-- Change request 12, "What would move this cut": the blocks whose frequency by itself could move a cut, each with its
+-- way and its fewest f32 steps. What is asked is `Moves`; what is answered is `cutMoves`, which computes. That each
+-- says the other are `moves-listed`, `moves-fewest`, `moves-sorted` and `moves-first` of crates/cut_margins.
+-- Assumes nothing.
 use Prim.Native.Nat.{ℕ, zero, suc, _+_, _-_}
 use mathlib.Core.Path.{_≡_}
 use mathlib.Core.Bool.{Bool, true, false, not, _&&_, cond}
@@ -27,7 +28,8 @@ withFrequency (b ∷ bs) (suc j) x = b ∷ withFrequency bs j x
 
 -- the pattern x in block j "moves the cut": it is another instruction then
 abbrev pub Moves : List BlockData → Inst → Inst → Side → ℕ → ℕ → Type 0
-Moves bs after before side j x = sideOf side (withFrequency bs j x) (after .0) (before .0) ≡ sideOf side bs (after .0) (before .0) → ⊥
+Moves bs after before side j x =
+    sideOf side (withFrequency bs j x) (after .0) (before .0) ≡ sideOf side bs (after .0) (before .0) → ⊥
 
 -- a "finite frequency from zero up" has a pattern below this one, which is infinity's
 abbrev pub infinity : ℕ
@@ -61,7 +63,8 @@ lastOpen Late bs before = blockOf bs (before - 1)
 
 -- ---- which of them is chosen, f giving the patterns
 
--- the steps that i lacks against c at an equal frequency: none where i is ahead (early: before c; late: behind it), else one
+-- the steps that i lacks against c at an equal frequency: none where i is ahead (early: before c; late: behind it),
+-- else one
 abbrev pub tie : Side → ℕ → ℕ → ℕ
 tie Early i c = cond (ltb i c) 0 1
 tie Late i c = cond (ltb c i) 0 1
@@ -86,7 +89,8 @@ module _ (side : Side) (f : ℕ → ℕ) where
   -- down, until it is chosen; "left off exactly if no finite frequency from zero up" is so low
   abbrev pub downOf : ℕ → ℕ → Option CutMove
   downOf c i =
-      cond (ltb (f c) (tie side i c)) none (some (record { block = record { 0 = i }; way = Down; steps = f i + tie side i c - f c }))
+      cond (ltb (f c) (tie side i c)) none
+      (some (record { block = record { 0 = i }; way = Down; steps = f i + tie side i c - f c }))
 
   abbrev pub moveOf : ℕ → ℕ → ℕ → Option CutMove
   moveOf c e i = cond (eqb i c) (upOf c e) (downOf c i)
@@ -118,7 +122,8 @@ unfoldable pub movesAmong : Side → (ℕ → ℕ) → ℕ → ℕ → ℕ → L
 unfolding sorted movesFrom edgeOf
 movesAmong side f a b c = sorted stepsOf (movesFrom side f c (edgeOf side f c infinity a (suc b - a)) a (suc b - a))
 
--- "name each block whose frequency by itself could move the cut, with the way, up or down, and the fewest f32 steps needed"
+-- "name each block whose frequency by itself could move the cut, with the way, up or down, and the fewest f32 steps
+-- needed"
 unfoldable pub cutMoves : List BlockData → Inst → Inst → Side → List CutMove
 unfolding patternOf firstOpen lastOpen chosenOf movesAmong
 cutMoves bs after before side =

@@ -17,7 +17,9 @@ loop-holds : tie.Need-loop-holds Inv-loop μ-loop
 loop-holds c = edge-start _ _ _ _ _
 
 lower-requires : tie.Need-lower-requires Inv-loop μ-loop
-lower-requires c κs = (omega (arith, c .loop-test .taken), c .before .before .before .before .pre .2 _ (omega (arith, c .loop-test .taken)))
+lower-requires c κs =
+    let h = c .loop-test .taken in
+    (omega arith, c .before .before .before .before .pre .2 _ (omega arith))
 
 loop-again : tie.Need-loop-again Inv-loop μ-loop
 loop-again c = edge-next _ _ _ _ (c .before .before .loop .inv) (c .before .loop-test .taken) (c .lower .ensures)
@@ -28,4 +30,13 @@ returns c = edge-end _ _ _ _ (c .before .loop .inv) (c .loop-test .left) (omega 
 pub edge-of-spec : {M : Type 1} → statement M
 edge-of-spec =
     tie.close
-    (tie.spec Inv-loop μ-loop (λ c. search needs) loop-holds lower-requires (λ c. search needs) (λ c. search needs) loop-again returns)
+    (tie.spec
+    Inv-loop
+    μ-loop
+    (λ c. search needs)
+    loop-holds
+    lower-requires
+    (λ c. search needs)
+    (λ c. search needs)
+    loop-again
+    returns)

@@ -7,7 +7,9 @@ returns : tie.Need-returns
 returns c = put-none _ _ _ _ _ (c .if1 .taken)
 
 returns-2 : tie.Need-returns-2
-returns-2 c = put-one _ _ _ _ _ _ _ (c .before .before .before .before .before .if1 .left) (c .before .before .before .way-of .ensures) (c .before .before .put-3 .ensures)
+returns-2 c =
+    let w = c .before .before .before in
+    put-one _ _ _ _ _ _ _ (w .before .before .if1 .left) (w .way-of .ensures) (c .before .before .put-3 .ensures)
 
 pub put-move-spec : {M : Type 1} → statement M
 put-move-spec =

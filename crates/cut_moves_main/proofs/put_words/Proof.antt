@@ -16,13 +16,16 @@ loop-holds : tie.Need-loop-holds Inv-loop μ-loop
 loop-holds c = (refl, omega arith, omega arith)
 
 put-field-requires : tie.Need-put-field-requires Inv-loop μ-loop
-put-field-requires c κs = omega (arith, c .before .before .before .loop .inv .0, c .before .before .before .loop .inv .2, c .before .before .loop-test .taken)
+put-field-requires c κs =
+    let l = c .before .before .before .loop .inv in
+    omega (arith, l .0, l .2, c .before .before .loop-test .taken)
 
 loop-again : tie.Need-loop-again Inv-loop μ-loop
 loop-again c =
-    let l = c .before .before .before .before .before .before .loop .inv in
+    let t = c .before .before .before .before .before in
+    let l = t .before .loop .inv in
     let p = c .before .before .put-field in
-    (p .kept .0 ∙ l .0, omega (arith, c .before .before .before .before .before .loop-test .taken), omega (arith, l .2, p .ensures .most))
+    (p .kept .0 ∙ l .0, omega (arith, t .loop-test .taken), omega (arith, l .2, p .ensures .most))
 
 same-length : tie.Need-same-length Inv-loop μ-loop
 same-length c = c .before .loop .inv .0
