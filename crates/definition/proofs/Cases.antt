@@ -35,6 +35,11 @@ sized : ℕ → ℕ → ClassData
 unfolding one
 sized m n = record { mask = m; cost = one; size = n; spillslots = false }
 
+-- a class of size 1: its mask and its cost
+costing : ℕ → ℕ → ClassData
+unfolding f32
+costing m c = record { mask = m; cost = f32 c; size = 1; spillslots = false }
+
 class : ℕ → ClassData
 unfolding sized
 class m = sized m 1
@@ -199,6 +204,56 @@ marked =
 marked-hold : map (λ c. reply (c .0)) marked ≡ map (λ c. c .1) marked
 unfolding reply marked
 marked-hold = refl
+
+-- ---- the side of a cut, change request 7: class 1 is held forwards, and class 2 backwards
+
+-- a book of three classes like A's, with the costs of classes 1 and 2
+leaning : ℕ → ℕ → List ClassData
+unfolding class costing
+leaning c d = class 7 ∷ costing 2 c ∷ costing 4 d ∷ []
+
+-- A's value in A's blocks
+likeA : List ClassData → Job
+unfolding single seg uses defines
+likeA cs = single cs (seg 0 2 14 0 (defines 0 1 ∷ uses 3 0 2 ∷ []) ∷ [])
+
+-- the same with a failing use of class 3, whose lowest class in common with the top is class 2
+likeA₃ : Job
+unfolding single seg uses defines class costing
+likeA₃ = single (class 15 ∷ costing 2 0x3f000000 ∷ class 4 ∷ costing 12 0x3e800000 ∷ []) (seg 0 2 14 0 (defines 0 1 ∷ uses 3 0 3 ∷ []) ∷ [])
+
+-- three blocks, the middle one of half the frequency; it ends at instruction 4
+blocksK : List BlockData
+unfolding block
+blocksK = block 2 0x3f800000 ∷ block 2 0x3f000000 ∷ block 2 0x3f800000 ∷ []
+
+acrossK : List ClassData → Job
+unfolding job blocksK led seg uses defines
+acrossK cs = job cs blocksK (led 0 ∷ []) [] [] (seg 0 2 22 0 (defines 0 1 ∷ uses 5 0 2 ∷ []) ∷ [])
+
+-- the registers of two pieces, parted at a point: the first one's class use defines at 0, the second one's is the other
+partedAt : ℕ → ℕ → ℕ → ℕ → Use → List Register
+unfolding plain own seg defines
+partedAt at end w x u = plain 1 w (own (seg 0 2 at 2 (defines 0 1 ∷ [])) ∷ []) ∷ plain 2 x (own (seg 0 at end 1 (u ∷ [])) ∷ []) ∷ []
+
+sides : List (Job × Out Result)
+unfolding leaning likeA likeA₃ acrossK partedAt accept uses
+sides =
+    -- A with class 1's cost halved: the end's class costs more, and the cut is late, at 12
+    (likeA (leaning 0x3f000000 0x3f800000), accept (partedAt 12 14 0x3e2aaaab 0x7f800000 (uses 3 0 2)) [])
+    -- with class 2's halved instead: early, at 8
+    ∷ (likeA (leaning 0x3f800000 0x3f000000), accept (partedAt 8 14 0x3f000000 0x3e000000 (uses 3 0 2)) [])
+    -- late at the end of a block that costs less than the end's: 16, where the early rule has 8
+    ∷ (acrossK (leaning 0x3f000000 0x3f800000), accept (partedAt 16 22 0x3e000000 0x3f000000 (uses 5 0 2)) [])
+    -- equal costs: early
+    ∷ (acrossK (leaning 0x3f000000 0x3f000000), accept (partedAt 8 22 0x3e800000 0x3e000000 (uses 5 0 2)) [])
+    -- Classes held are compared, not those of the uses: the failing use is of class 3, which costs least, and class 2 is held, which costs most.
+    ∷ (likeA₃, accept (partedAt 12 14 0x3e2aaaab 0x7f800000 (uses 3 0 3)) [])
+    ∷ []
+
+sides-hold : map (λ c. answer (c .0) vregsRoom) sides ≡ map (λ c. c .1) sides
+unfolding answer sides
+sides-hold = refl
 
 -- ---- traps that A to J do not show
 

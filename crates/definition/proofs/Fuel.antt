@@ -20,7 +20,7 @@ use Rattle.definition.specs.Build.{Built, classUses, placeFront, step, s
 use Rattle.definition.proofs.Cuts.{cut-uses}
 use Rattle.definition.proofs.Scans.{Admits, scan-before}
 use Rattle.definition.proofs.Counts.{classUses-append, classUses-at, classUses-turn, uses-turn}
-use Rattle.definition.proofs.Moves.{CutAt, move-turn, move-cut, early-in}
+use Rattle.definition.proofs.Moves.{CutAt, sideAt, move-turn, move-cut, cut-in}
 use Rattle.definition.proofs.Places.{All, all-append, all-getD, bind-cong}
 use Rattle.definition.proofs.Fits.{UsesFit, SegsFit, rising, rising-from, rising-le, turn-fit, right-fit}
 
@@ -84,58 +84,58 @@ module _ (job : Job) (st : State) (top : RegClass) (ss : List Segment) (q : ℕ)
   unfolding L R
   both = cut-uses (job .hints) p ss
 
-  between : (useAt (usesOf ss) (c .0) .pos .0 < p .0) × (p .0 ≤ useAt (usesOf ss) (c .1) .pos .0)
-  between =
-      let a = useAt (usesOf ss) (c .0) .pos .0 in
-      let b = useAt (usesOf ss) (c .1) .pos .0 in
-      let le : a ≤ b = rising-le (usesOf ss) 0 (c .0) (c .1) (rising ss 0 q h (omega arith)) (c .2 .order) (c .2 .end .0) in
-      let ne : a ≢ b = c .3 in
-      let i = early-in (job .blocks) a b (omega arith) in
-      rw (c .4) i
+  -- a cut lies behind its start's instruction, and not behind its end's
+  pub cut-between : (useAt (usesOf ss) (c .start) .pos .0 < p .0) × (p .0 ≤ useAt (usesOf ss) (c .end) .pos .0)
+  cut-between =
+      let a = useAt (usesOf ss) (c .start) .pos .0 in
+      let b = useAt (usesOf ss) (c .end) .pos .0 in
+      let le : a ≤ b = rising-le (usesOf ss) 0 (c .start) (c .end) (rising ss 0 q h (omega arith)) (c .clash .order) (c .clash .end .0) in
+      let ne : a ≢ b = c .apart in
+      rw (c .place) (cut-in (sideAt job st top (usesOf ss) (c .end)) (job .blocks) a b (omega arith))
 
   total : length (usesOf ss) ≡ length L + length R
   total = rw (← both) (length-append L R)
 
-  start-left : c .0 < length L
+  start-left : c .start < length L
   unfolding R
-  start-left = go (ltb (c .0) (length L)) refl
+  start-left = go (ltb (c .start) (length L)) refl
     where
-      go : (t : Bool) → ltb (c .0) (length L) ≡ t → c .0 < length L
+      go : (t : Bool) → ltb (c .start) (length L) ≡ t → c .start < length L
       go true e = ltb-true _ _ e
       go false e =
-          let k : length L ≤ c .0 = ltb-false _ _ e in
-          let n = c .0 - length L in
-          let m : n < length R = omega (arith, total, c .2 .start .0) in
-          let at : useAt (usesOf ss) (c .0) ≡ useAt R n =
+          let k : length L ≤ c .start = ltb-false _ _ e in
+          let n = c .start - length L in
+          let m : n < length R = omega (arith, total, c .clash .start .0) in
+          let at : useAt (usesOf ss) (c .start) ≡ useAt R n =
           rw (← both) (ap (λ (i : ℕ). getD (L ++ R) i noUse) (omega arith) ∙ getD-append-add L R n noUse) in
           let ge : p .0 ≤ useAt R n .pos .0 = rising-from R (p .0) n (rising (rightCut (job .hints) p ss) (p .0) (4 * p .0) (right-fit (job .hints) p ss q h) (omega arith)) m in
-          let lt : useAt R n .pos .0 < p .0 = rw at at (between .0) in
+          let lt : useAt R n .pos .0 < p .0 = rw at at (cut-between .0) in
           omega arith
 
-  end-right : length L ≤ c .1
+  end-right : length L ≤ c .end
   unfolding L
-  end-right = go (ltb (c .1) (length L)) refl
+  end-right = go (ltb (c .end) (length L)) refl
     where
-      go : (t : Bool) → ltb (c .1) (length L) ≡ t → length L ≤ c .1
+      go : (t : Bool) → ltb (c .end) (length L) ≡ t → length L ≤ c .end
       go false e = ltb-false _ _ e
       go true e =
-          let k : c .1 < length L = ltb-true _ _ e in
-          let at : useAt (usesOf ss) (c .1) ≡ useAt L (c .1) = rw (← both) (List·getD-append L R noUse (c .1) k) in
-          let lt : useAt L (c .1) .pos .0 < p .0 = below-at p L (c .1) (left-below (job .hints) p ss q h) (rw at at (c .2 .end .1)) in
-          let ge : p .0 ≤ useAt L (c .1) .pos .0 = rw at at (between .1) in
+          let k : c .end < length L = ltb-true _ _ e in
+          let at : useAt (usesOf ss) (c .end) ≡ useAt L (c .end) = rw (← both) (List·getD-append L R noUse (c .end) k) in
+          let lt : useAt L (c .end) .pos .0 < p .0 = below-at p L (c .end) (left-below (job .hints) p ss q h) (rw at at (c .clash .end .1)) in
+          let ge : p .0 ≤ useAt L (c .end) .pos .0 = rw at at (cut-between .1) in
           absurd (omega arith)
 
   -- the part before a cut never conflicts
   pub front-admitted : Admits job st (usesOf (leftCut (job .hints) p ss)) (fresh top)
   unfolding L
-  front-admitted = scan-before job st L R (fresh top) (c .1) (rw both (c .2 .forward)) end-right
+  front-admitted = scan-before job st L R (fresh top) (c .end) (rw both (c .clash .forward)) end-right
 
   -- and a class use less is left behind it
   pub cut-falls : classUses (usesOf (rightCut (job .hints) p ss)) < classUses (usesOf ss)
   unfolding R
   cut-falls =
-      let at : useAt (usesOf ss) (c .0) ≡ useAt L (c .0) = rw (← both) (List·getD-append L R noUse (c .0) start-left) in
-      let some′ : 0 < classUses L = classUses-at L (c .0) start-left (rw at at (c .2 .start .1)) in
+      let at : useAt (usesOf ss) (c .start) ≡ useAt L (c .start) = rw (← both) (List·getD-append L R noUse (c .start) start-left) in
+      let some′ : 0 < classUses L = classUses-at L (c .start) start-left (rw at at (c .clash .start .1)) in
       let sum : classUses (usesOf ss) ≡ classUses L + classUses R = rw (← both) (classUses-append L R) in
       omega arith
 

@@ -4,9 +4,9 @@ use Prim.Native.Nat.{ℕ, zero, suc, _≤_}
 use native.Mathlib.Omega.{arith}
 use mathlib.Core.Option.{Option, none, some}
 use mathlib.Core.List.{List, [], _∷_, _++_}
-use lib.ListN.{length}
+use lib.ListN.{length, take}
 use Rattle.definition.specs.Types.{Held, Job, State, Use}
-use Rattle.definition.specs.Admit.{Scan, admit, fails-at, later, onAdmit, scan, through}
+use Rattle.definition.specs.Admit.{Scan, admit, fails-at, heldBy, later, onAdmit, scan, through}
 
 abbrev pub Admits : Job → State → List Use → Held → Type 0
 Admits job st us h = (g : Held) × (scan job st us h ≡ through g)
@@ -69,6 +69,21 @@ module _ (job : Job) (st : State) where
       let r = scan-later u (us ++ vs) h n e in
       let q = scan-before us vs (r .0) n (r .2) (omega arith) in
       (q .0, scan-cons u us h (r .0) (q .0) (r .1) (q .1))
+
+  -- ---- what is held when a scan ends: what it went through with, or what the uses before the one that it can't admit leave
+
+  pub held-through : (us : List Use) (h g : Held) → scan job st us h ≡ through g → heldBy job st us h ≡ g
+  unfolding scan heldBy
+  held-through [] h g e = cc
+  held-through (u ∷ us) h g e = let r = scan-step u us h g e in rw (r .1, heldBy) (held-through us (r .0) g (r .2))
+
+  pub held-before : (us : List Use) (h : Held) (n : ℕ) → scan job st us h ≡ fails-at n → scan job st (take n us) h ≡ through (heldBy job st us h)
+  unfolding scan heldBy
+  held-before [] h n e = let z : _≡_ {A = ℕ} 0 1 = cc in absurd (omega arith)
+  held-before (u ∷ us) h zero e = rw (scan-first u us h e, heldBy) refl
+  held-before (u ∷ us) h (suc n) e =
+      let r = scan-later u us h n e in
+      rw (r .1, heldBy) (ap later (held-before us (r .0) n (r .2)))
 
   -- a fact on what is held that every admission keeps
   pub scan-keeps : (P : Held → Type 0) → ((h k : Held) (u : Use) → P h → admit job st h u ≡ some k → P k)

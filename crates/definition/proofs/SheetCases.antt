@@ -115,11 +115,11 @@ everyRecord =
 
 printedRecords : List String
 printedRecords =
-    "vreg 0 0 1 7f800000 - 0 1"
-    ∷ "seg 0 2 4 6 own"
+    "vreg 0 0 1 3dcccccd - 0 1"
+    ∷ "seg 0 2 16 6 own"
     ∷ "use 5 0 0 1"
-    ∷ "vreg 1 0 2 3e924925 - 0 1"
-    ∷ "seg 0 4 26 5 own"
+    ∷ "vreg 1 0 2 3f000000 - 0 1"
+    ∷ "seg 0 16 26 5 own"
     ∷ "use 4 6 0 2"
     ∷ "vreg 2 0 1 7f800000 - 0 0"
     ∷ "seg 5 28 30 1 own"

@@ -5,11 +5,12 @@ use mathlib.Core.Option.{Option, none, some, bind}
 use mathlib.Core.List.{List, [], _∷_, _++_, map, reverse}
 use lib.Dec.{eqb}
 use lib.ListN.{length, getD, take, replicate}
-use Rattle.definition.specs.Types.{Inst, Value, ValueSet, RegClass, VirtReg, VirtRegGroup, UseKind, FixedDef, FixedUse, TiedUse, ConstraintConflict, ClassUse, ClassDef, GroupClassUse, GroupClassDef, BlockparamIn, BlockparamOut, Use, Operand, Job, HeldGroup, Held, Register, Mapped, State, Stop, NoStart, TurnedDef, inst, vset, cls}
+use lib.Ieee.{le}
+use Rattle.definition.specs.Types.{Inst, Value, ValueSet, RegClass, VirtReg, VirtRegGroup, UseKind, FixedDef, FixedUse, TiedUse, ConstraintConflict, ClassUse, ClassDef, GroupClassUse, GroupClassDef, BlockparamIn, BlockparamOut, Use, Operand, Job, HeldGroup, Held, Register, Mapped, State, Side, Early, Late, Stop, NoStart, TurnedDef, inst, vset, cls}
 use Rattle.definition.specs.Limits.{maxGroup}
-use Rattle.definition.specs.RegInfo.{zeroF, commonSubclass, setOf}
+use Rattle.definition.specs.RegInfo.{zeroF, classAt, commonSubclass, setOf}
 use Rattle.definition.specs.Uses.{isDef}
-use Rattle.definition.specs.SplitPlacement.{earlyCut}
+use Rattle.definition.specs.SplitPlacement.{earlyCut, lateCut, sideOf}
 
 -- ---- reading the tables that are built
 
@@ -144,6 +145,12 @@ unfolding admit
 scan job st [] h = through h
 scan job st (u ∷ us) h = onAdmit (admit job st h u) λ g. scan job st us g
 
+-- what is held when a scan ends: after the last use, or at one that it can't admit, where "nothing held changes"
+unfoldable pub heldBy : Job → State → List Use → Held → Held
+unfolding admit
+heldBy job st [] h = h
+heldBy job st (u ∷ us) h = elim (admit job st h u) [ some g ↦ heldBy job st us g | none ↦ h ]
+
 -- ---- the step that the forward scan leads to: place all; or turn the use at a place, or cut at an instruction; or stop
 
 pub data Move : Type 0 where
@@ -162,26 +169,44 @@ useAt us n = getD us n noUse
 unfoldable pub turning : List Use → ℕ → Move
 turning us n = cond (isDef (useAt us n .kind)) (halt TurnedDef) (turn n)
 
+-- Change request 7. "The class at the end of a conflict is now the one that the backward scan held when it failed. The cut is early if the forward class costs
+-- at least as much as that one, and late otherwise."
+unfoldable pub cutSide : Job → (forward end : RegClass) → Side
+unfolding le classAt
+cutSide job forward end = cond (le (classAt job end .cost) (classAt job forward .cost)) Early Late
+
 -- "If start and end share an instruction, the end is turned into a conflict (kind 3), or the start where the end is a definition, and the scan restarts; else a cut is made".
--- "every cut is early". Start and end are places s and e of the uses.
-unfoldable pub parted : Job → List Use → ℕ → ℕ → Move
-unfolding turning earlyCut
-parted job us s e =
+-- Start and end are places s and e of the uses.
+unfoldable pub parted : Job → Side → List Use → ℕ → ℕ → Move
+unfolding turning earlyCut lateCut
+parted job side us s e =
     cond (eqb (useAt us s .pos .0) (useAt us e .pos .0))
     (turning us (cond (isDef (useAt us e .kind)) s e))
-    (cut (inst (earlyCut (job .blocks) (useAt us s .pos .0) (useAt us e .pos .0))))
+    (cut (inst (sideOf side (job .blocks) (useAt us s .pos .0) (useAt us e .pos .0))))
 
 -- "no start in the backward scan": it went through; or it failed j places before the end
-unfoldable pub fromStart : Job → List Use → ℕ → Scan → Move
+unfoldable pub fromStart : Job → Side → List Use → ℕ → Scan → Move
 unfolding parted
-fromStart job us e (through h) = halt NoStart
-fromStart job us e (fails-at j) = parted job us (e - j) e
+fromStart job side us e (through h) = halt NoStart
+fromStart job side us e (fails-at j) = parted job side us (e - j) e
+
+-- the uses of the backward scan, where the forward one failed at place e: "back from the failing use"
+abbrev pub backFrom : ℕ → List Use → List Use
+backFrom e us = reverse (take (suc e) us)
+
+-- "the forward class", and the "class at the end of a conflict": those that the two scans held when they failed
+abbrev pub forwardClass : Job → State → RegClass → List Use → RegClass
+forwardClass job st top us = heldBy job st us (fresh top) .class
+
+abbrev pub endClass : Job → State → RegClass → List Use → ℕ → RegClass
+endClass job st top us e = heldBy job st (backFrom e us) (fresh top) .class
 
 -- "The backward scan uses constraints of its own". "It goes back from the failing use, from the top class, to the first use it can't admit: the start."
 unfoldable pub fromEnd : Job → State → RegClass → List Use → Scan → Move
-unfolding scan fresh fromStart
+unfolding scan fresh fromStart heldBy cutSide
 fromEnd job st top us (through h) = whole h
-fromEnd job st top us (fails-at e) = fromStart job us e (scan job st (reverse (take (suc e) us)) (fresh top))
+fromEnd job st top us (fails-at e) =
+    fromStart job (cutSide job (forwardClass job st top us) (endClass job st top us e)) us e (scan job st (backFrom e us) (fresh top))
 
 unfoldable pub move : Job → State → RegClass → List Use → Move
 unfolding scan fresh fromEnd

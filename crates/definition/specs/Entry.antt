@@ -12,6 +12,7 @@ use Rattle.definition.specs.Limits.{maxInsts, maxBlocks, maxValues, maxV
 use Rattle.definition.specs.RegInfo.{classAt, setOf}
 use Rattle.definition.specs.Uses.{endPoint}
 use Rattle.definition.specs.SplitPlacement.{earlyCut, lateCut}
+pub use Rattle.definition.specs.SplitPlacement.{sideOf}
 use Rattle.definition.specs.Hints.{asKey}
 use Rattle.definition.specs.Place.{total}
 use Rattle.definition.specs.Build.{Result, build}
@@ -239,10 +240,6 @@ answer job room = answerTo (entry job) job room
 
 -- ---- the cut finder. "Public, over blocks, both ends and a side." A count above its limit is 2; a block empty or of bad frequency, or
 -- "cut ends not `after` < `before` < instructions", is 4. (A side off its list, 1, is no `Side`.)
-
-abbrev pub sideOf : Side → List BlockData → ℕ → ℕ → ℕ
-sideOf Early bs after before = earlyCut bs after before
-sideOf Late bs after before = lateCut bs after before
 
 abbrev pub cutTests : List BlockData → Inst → Inst → List (Bool × Refusal)
 cutTests bs after before =

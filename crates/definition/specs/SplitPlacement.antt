@@ -4,7 +4,7 @@ use mathlib.Core.Bool.{Bool, true, false, _&&_, cond}
 use mathlib.Core.List.{List, [], _∷_, _++_}
 use lib.Dec.{leb, ltb}
 use lib.Ieee.{Float, lt}
-use Rattle.definition.specs.Types.{BlockData}
+use Rattle.definition.specs.Types.{BlockData, Side, Early, Late}
 use Rattle.definition.specs.RegInfo.{zeroF}
 
 -- the frequency of the block that holds instruction i
@@ -58,3 +58,8 @@ unfoldable pub lateCut : List BlockData → ℕ → ℕ → ℕ
 unfolding freqAt ends keep lateFrom
 lateCut bs after before =
     lateFrom (λ i. freqAt bs (i - 1)) (keep (λ i. ltb after i && leb i before) (ends 0 bs)) before
+
+-- the place of a cut of each side
+abbrev pub sideOf : Side → List BlockData → ℕ → ℕ → ℕ
+sideOf Early bs after before = earlyCut bs after before
+sideOf Late bs after before = lateCut bs after before

@@ -7,6 +7,7 @@ use native.Mathlib.Omega.{arith}
 use mathlib.Core.Bool.{Bool, true, false, not, cond, _&&_, _||_}
 use lib.Dec.{T, leb, eqb, ltb, ltb→lt, lt→ltb, eqb→eq, leb→le, le→leb, nleb→lt, not-T, lit<}
 use lib.Pow.{pow-pos, pow-mono}
+use borrow.Author.Tests.{ltb-true, ltb-false, le-leb, lt-leb}
 use lib.IntN.{pos}
 use lib.Ieee.{Float, nan, inf, fin, binary32, up, down, round, odd, mul, lt, le, ofBits, ofFields, toBits, fits, nanBits}
 use lib.Ieee.Bits.{ofBits-toBits, ofBits-fits, toBits-ofBits, toBits-lt, nanBits-is, is-true, is-false}
@@ -361,7 +362,7 @@ or-not a b =
     right false true t = tt
     right false false t = t
 
-le-not-lt : (x y : Float) → T (plain x) → T (plain y) → le x y ≡ not (lt y x)
+pub le-not-lt : (x y : Float) → T (plain x) → T (plain y) → le x y ≡ not (lt y x)
 unfolding le lt
 le-not-lt nan y p q = absurd p
 le-not-lt (inf s) y p q = absurd p
@@ -370,6 +371,13 @@ le-not-lt (fin false m e) nan p q = absurd q
 le-not-lt (fin false m e) (inf t) p q = absurd q
 le-not-lt (fin false m e) (fin true n d) p q = absurd q
 le-not-lt (fin false m e) (fin false n d) p q = or-not (m * up e * down d) (n * up d * down e)
+
+pub le-bits : (a b : ℕ) → a < 2139095040 → b < 2139095040 → le (ofBits binary32 a) (ofBits binary32 b) ≡ leb a b
+le-bits a b ha hb = le-not-lt _ _ (bits-plain a ha) (bits-plain b hb) ∙ ap not (lt-bits b a hb ha) ∙ go (ltb b a) refl
+  where
+    go : (t : Bool) → ltb b a ≡ t → not t ≡ leb a b
+    go true e = sym (lt-leb a b (ltb-true b a e))
+    go false e = sym (le-leb a b (ltb-false b a e))
 
 -- 2 ^ 20
 abbrev top : Float

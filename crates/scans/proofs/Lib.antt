@@ -1,3 +1,4 @@
+pub mod Costs
 pub mod Uses
 pub mod Scanning
 pub mod Steps

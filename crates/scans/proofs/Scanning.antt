@@ -9,12 +9,12 @@ use Rattle.rows.specs.Tab.{tab, down, tab-more, tab-done, down-more}
 use Rattle.definition.specs.declared.Use.{Use}
 use Rattle.definition.specs.Types.{Job, State}
 use Rattle.definition.specs.Types as types
-use Rattle.definition.specs.Admit.{admit, Scan, through, fails-at, later, onAdmit, scan}
+use Rattle.definition.specs.Admit.{admit, Scan, through, fails-at, later, onAdmit, scan, heldBy}
 use Rattle.constraints.specs.declared.Held.{Held}
 use Rattle.constraints.specs.declared.Admission.{Admission}
 use Rattle.constraints.specs.Held.{heldOf, admissionOf}
 use Rattle.constraints.proofs.Admitted.{answer-yes, answer-no}
-use Rattle.scans.specs.Answers.{scanOf, backOf, shifted}
+use Rattle.scans.specs.Answers.{scanOf, backOf, shifted, Ends}
 
 -- ---- one use
 
@@ -37,29 +37,48 @@ module _ (job : Job) (st : State) (k : ℕ) (u : Use) (us : List Use) (h : types
   unfolding scan shifted
   shift-no e = ap (λ (o : Option types.Held). shifted k (onAdmit o (λ x. scan job st us x))) e ∙ (let z : k + 0 ≡ k = omega arith in ap fails-at z)
 
+  held-yes : (g : types.Held) → admit job st h u ≡ some g → heldBy job st (u ∷ us) h ≡ heldBy job st us g
+  unfolding heldBy
+  held-yes g e = rw (e, heldBy) refl
+
+  held-no : admit job st h u ≡ none → heldBy job st (u ∷ us) h ≡ h
+  unfolding heldBy
+  held-no e = rw (e, heldBy) refl
+
 shift-end : (job : Job) (st : State) (k : ℕ) (h : types.Held) → shifted k (scan job st [] h) ≡ through h
 unfolding scan shifted
 shift-end job st k h = refl
 
+held-end : (job : Job) (st : State) (h : types.Held) → heldBy job st [] h ≡ h
+unfolding heldBy
+held-end job st h = refl
+
 -- ---- what is left gives the whole answer
 
--- the scan of `all` from h₀ on is that of `rest` from h on, behind k uses, in each state that S names
+-- the scan of `all` from h₀ on is that of `rest` from h on, behind k uses, and ends with the same held, in each state that S names
 pub record Along (S : State → Type 0) (job : Job) (all : List Use) (h₀ : types.Held) (k : ℕ) (rest : List Use) (h : types.Held) : Type 0 where
   pub is : (st : State) → S st → scan job st all h₀ ≡ shifted k (scan job st rest h)
+  pub held : (st : State) → S st → heldBy job st all h₀ ≡ heldBy job st rest h
 
 along-start : (S : State → Type 0) (job : Job) (all : List Use) (h : types.Held) → Along S job all h 0 all h
-along-start S job all h = record { is = λ st s. shift-none (scan job st all h) }
+along-start S job all h = record { is = λ st s. shift-none (scan job st all h); held = λ st s. refl }
 
 module _ {S : State → Type 0} {job : Job} {all : List Use} {h₀ : types.Held} {k : ℕ} {u : Use} {us : List Use} {h : types.Held} (f : Along S job all h₀ k (u ∷ us) h)
     (r : Admission) (e : (st : State) → S st → admissionOf r ≡ admit job st h u) where
   along-next : r .ok ≡ true → Along S job all h₀ (suc k) us (heldOf (r .held))
-  along-next q = record { is = λ st s. f .is st s ∙ shift-yes job st k u us h (heldOf (r .held)) (answer-yes r _ (e st s) q) }
+  along-next q = record {
+    is = λ st s. f .is st s ∙ shift-yes job st k u us h (heldOf (r .held)) (answer-yes r _ (e st s) q);
+    held = λ st s. f .held st s ∙ held-yes job st k u us h (heldOf (r .held)) (answer-yes r _ (e st s) q);
+  }
 
-  along-stop : r .ok ≡ false → (st : State) → S st → scan job st all h₀ ≡ fails-at k
-  along-stop q st s = f .is st s ∙ shift-no job st k u us h (answer-no r _ (e st s) q)
+  along-stop : r .ok ≡ false → (st : State) → S st → (scan job st all h₀ ≡ fails-at k) × (heldBy job st all h₀ ≡ h)
+  along-stop q st s =
+      let no = answer-no r _ (e st s) q in
+      (f .is st s ∙ shift-no job st k u us h no, f .held st s ∙ held-no job st k u us h no)
 
-along-end : {S : State → Type 0} {job : Job} {all : List Use} {h₀ : types.Held} {k : ℕ} {h : types.Held} → Along S job all h₀ k [] h → (st : State) → S st → scan job st all h₀ ≡ through h
-along-end {S} {job} {all} {h₀} {k} {h} f st s = f .is st s ∙ shift-end job st k h
+along-end : {S : State → Type 0} {job : Job} {all : List Use} {h₀ : types.Held} {k : ℕ} {h : types.Held} → Along S job all h₀ k [] h → (st : State) → S st
+    → (scan job st all h₀ ≡ through h) × (heldBy job st all h₀ ≡ h)
+along-end {S} {job} {all} {h₀} {k} {h} f st s = (f .is st s ∙ shift-end job st k h, f .held st s ∙ held-end job st h)
 
 -- ---- forwards: uses a to b - 1, read by f; those from n on are left
 
@@ -92,14 +111,15 @@ module _ {S : State → Type 0} {job : Job} {f : ℕ → Use} {a b : ℕ} {h₀ 
       }
 
   pub forward-stop : (r : Admission) → n < b → ((st : State) → S st → admissionOf r ≡ admit job st (heldOf h) (f n)) → r .ok ≡ false
-      → (st : State) → S st → scanOf a (record { ok = false; at = n; held = h }) ≡ scan job st (tab f a (b - a)) (heldOf h₀)
+      → (st : State) → S st → Ends job st (tab f a (b - a)) (heldOf h₀) (scanOf a (record { ok = false; at = n; held = h })) h
   unfolding scanOf
-  forward-stop r l e q st s = sym (along-stop (first l) r e q st s)
+  forward-stop r l e q st s = let t = along-stop (first l) r e q st s in (sym (t .0), sym (t .1))
 
-  pub forward-end : b ≤ n → (st : State) → S st → scanOf a (record { ok = true; at = n; held = h }) ≡ scan job st (tab f a (b - a)) (heldOf h₀)
+  pub forward-end : b ≤ n → (st : State) → S st → Ends job st (tab f a (b - a)) (heldOf h₀) (scanOf a (record { ok = true; at = n; held = h })) h
   unfolding scanOf
   forward-end l st s =
-      sym (along-end (subst (λ (us : List Use). Along S job (tab f a (b - a)) (heldOf h₀) (n - a) us (heldOf h)) (tab-done f n b l) (w .along)) st s)
+      let t = along-end (subst (λ (us : List Use). Along S job (tab f a (b - a)) (heldOf h₀) (n - a) us (heldOf h)) (tab-done f n b l) (w .along)) st s in
+      (sym (t .0), sym (t .1))
 
 -- ---- backwards: uses e down to a; those below n are left
 
@@ -144,15 +164,17 @@ module _ {S : State → Type 0} {job : Job} {f : ℕ → Use} {a e : ℕ} {h₀ 
       }
 
   pub backward-stop : (r : Admission) → ((st : State) → S st → admissionOf r ≡ admit job st (heldOf h) (f m)) → r .ok ≡ false
-      → (st : State) → S st → backOf e (record { ok = false; at = m; held = h }) ≡ scan job st (down (after f a) (e + 1 - a)) (heldOf h₀)
+      → (st : State) → S st → Ends job st (down (after f a) (e + 1 - a)) (heldOf h₀) (backOf e (record { ok = false; at = m; held = h })) h
   unfolding backOf
   backward-stop r ea q st s =
       let z : e - m ≡ e + 1 - n = omega (arith, w .to-e) in
-      sym (along-stop here r ea q st s ∙ sym (ap fails-at z))
+      let t = along-stop here r ea q st s in
+      (sym (t .0 ∙ sym (ap fails-at z)), sym (t .1))
 
 pub backward-end : {S : State → Type 0} {job : Job} {f : ℕ → Use} {a e : ℕ} {h₀ : Held} {n : ℕ} {h : Held} → Backward S job f a e h₀ n h → n ≤ a
-    → (st : State) → S st → backOf e (record { ok = true; at = n; held = h }) ≡ scan job st (down (after f a) (e + 1 - a)) (heldOf h₀)
+    → (st : State) → S st → Ends job st (down (after f a) (e + 1 - a)) (heldOf h₀) (backOf e (record { ok = true; at = n; held = h })) h
 unfolding backOf
 backward-end {S} {job} {f} {a} {e} {h₀} {n} {h} w l st s =
     let z : n - a ≡ 0 = omega arith in
-    sym (along-end (subst (λ (k : ℕ). Along S job (down (after f a) (e + 1 - a)) (heldOf h₀) (e + 1 - n) (down (after f a) k) (heldOf h)) z (w .along)) st s)
+    let t = along-end (subst (λ (k : ℕ). Along S job (down (after f a) (e + 1 - a)) (heldOf h₀) (e + 1 - n) (down (after f a) k) (heldOf h)) z (w .along)) st s in
+    (sym (t .0), sym (t .1))

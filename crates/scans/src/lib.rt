@@ -3,6 +3,7 @@ use constraints::Admission;
 use constraints::Held;
 use definition::Inst;
 use definition::RegClass;
+use definition::Side;
 use definition::Stop;
 use definition::Use;
 use definition::UseKind;
@@ -15,21 +16,25 @@ ghost use mathlib.Core.Bool.{false};
 ghost use mathlib.Core.List.{List};
 ghost use Prim.Native.Nat.{ℕ, _+_, _-_, _*_, _≤_, _<_};
 ghost use lib.ListN.{length};
+ghost use lib.Ieee.{binary32, ofBits};
 ghost use Rattle.rows.specs.Tab.{tab, down};
 ghost use Rattle.words.specs.Words.{wordCount, wordsOf};
 ghost use Rattle.definition.specs.declared.BlockData.{BlockData};
 ghost use Rattle.definition.specs.Types.{State};
 ghost use Rattle.definition.specs.Types as types;
 ghost use Rattle.definition.specs.Entry.{instsOf};
-ghost use Rattle.definition.specs.SplitPlacement.{earlyCut};
-ghost use Rattle.definition.specs.Admit.{admit, scan, fresh, turning, parted, move};
-ghost use Rattle.function.specs.Blocks.{Starts};
+ghost use Rattle.definition.specs.SplitPlacement.{earlyCut, lateCut, sideOf};
+ghost use Rattle.definition.specs.RegInfo.{classAt};
+ghost use Rattle.definition.specs.Admit.{admit, scan, heldBy, fresh, turning, cutSide, parted, move};
+ghost use Rattle.layout.specs.Layout.{Fits};
+ghost use Rattle.use_costs.specs.Book.{SmallBook};
+ghost use Rattle.function.specs.Blocks.{blocksAt, Starts};
 ghost use Rattle.job.specs.Job.{jobOf};
 ghost use Rattle.virt_regs.specs.Encoding.{tablesEnd};
 ghost use Rattle.constraints.specs.Held.{heldOf, admissionOf};
 ghost use Rattle.constraints.specs.Ready.{Ready, Stands};
 ghost use Rattle.set_part.specs.Part.{markedUse};
-ghost use Rattle.scans.specs.Answers.{scanOf, backOf, kindMove, moveOf};
+ghost use Rattle.scans.specs.Answers.{scanOf, backOf, Ends, kindMove, moveOf};
 
 // A scan that went through, with what is then held; or the number of the use that it could not admit.
 pub struct ScanAnswer {
@@ -106,7 +111,7 @@ pub fn scan_uses(
 ) -> ScanAnswer
     requires { ⌜ Ready (wordCount (now job)) (wordCount (now work)) (wordsOf (now job)) (wordsOf (now work)) lay wl × (tablesEnd ol ≤ wordCount (now out)) × (a ≤ b) × (b ≤ lay .uses .n) × (0 < lay .segments .n) ⌝ }
     ensures { λ r. ⌜ (a ≤ r .at) × (r .ok ≡ false → r .at < b) ⌝ }
-    ensures { λ r. ⌜ ((st : State) → Stands ol (wordsOf (now (out .entry))) (wordsOf (now (job .entry))) (wordsOf (now (work .entry))) lay wl st → scanOf a r ≡ scan (jobOf (wordsOf (now (job .entry))) lay) st (tab (markedUse (wordsOf (now (work .entry))) (wl .marks) (wordsOf (now (job .entry))) lay) a (b - a)) (heldOf first)) ⌝ }
+    ensures { λ r. ⌜ ((st : State) → Stands ol (wordsOf (now (out .entry))) (wordsOf (now (job .entry))) (wordsOf (now (work .entry))) lay wl st → Ends (jobOf (wordsOf (now (job .entry))) lay) st (tab (markedUse (wordsOf (now (work .entry))) (wl .marks) (wordsOf (now (job .entry))) lay) a (b - a)) (heldOf first) (scanOf a r) (r .held)) ⌝ }
 {
     let mut held = first;
     let mut n = a;
@@ -143,7 +148,7 @@ pub fn scan_back(
 ) -> ScanAnswer
     requires { ⌜ Ready (wordCount (now job)) (wordCount (now work)) (wordsOf (now job)) (wordsOf (now work)) lay wl × (tablesEnd ol ≤ wordCount (now out)) × (a ≤ e) × (e < lay .uses .n) × (0 < lay .segments .n) ⌝ }
     ensures { λ r. ⌜ (a ≤ r .at) × (r .ok ≡ false → r .at ≤ e) ⌝ }
-    ensures { λ r. ⌜ ((st : State) → Stands ol (wordsOf (now (out .entry))) (wordsOf (now (job .entry))) (wordsOf (now (work .entry))) lay wl st → backOf e r ≡ scan (jobOf (wordsOf (now (job .entry))) lay) st (down (λ j. markedUse (wordsOf (now (work .entry))) (wl .marks) (wordsOf (now (job .entry))) lay (a + j)) (e + 1 - a)) (heldOf first)) ⌝ }
+    ensures { λ r. ⌜ ((st : State) → Stands ol (wordsOf (now (out .entry))) (wordsOf (now (job .entry))) (wordsOf (now (work .entry))) lay wl st → Ends (jobOf (wordsOf (now (job .entry))) lay) st (down (λ j. markedUse (wordsOf (now (work .entry))) (wl .marks) (wordsOf (now (job .entry))) lay (a + j)) (e + 1 - a)) (heldOf first) (backOf e r) (r .held)) ⌝ }
 {
     let mut held = first;
     let mut n = e + 1;
@@ -181,7 +186,7 @@ fn turn_at(job: &[u8], lay: Layout, work: &[u8], wl: WorkLayout, n: usize) -> Mo
 }
 
 // The early cut between instructions x and y. Uses do not fall, so x is before y.
-fn cut_at(lay: Layout, work: &[u8], wl: WorkLayout, x: Inst, y: Inst) -> Inst
+fn early_at(lay: Layout, work: &[u8], wl: WorkLayout, x: Inst, y: Inst) -> Inst
     requires { ⌜ (0 < lay .blocks .n) × (lay .blocks .n ≤ 512) × (wl .starts + lay .blocks .n * 2 + 2 ≤ wordCount (now work)) × (x .0 < 4096) ⌝ }
     ensures { λ r. ⌜ ((bs : List BlockData) → Starts (wordsOf (now (work .entry))) (wl .starts) bs → length bs ≡ lay .blocks .n → y .0 < instsOf bs → r .0 ≡ earlyCut bs (x .0) (y .0)) ⌝ }
 {
@@ -193,10 +198,81 @@ fn cut_at(lay: Layout, work: &[u8], wl: WorkLayout, x: Inst, y: Inst) -> Inst
     Inst(x.0 + 1)
 }
 
-// What start s and end e lead to. If they share an instruction the end is turned, or the start where the end is a definition; else a cut is made between them.
-fn part_at(job: &[u8], lay: Layout, work: &[u8], wl: WorkLayout, s: usize, e: usize) -> MoveKind
-    requires { ⌜ Ready (wordCount (now job)) (wordCount (now work)) (wordsOf (now job)) (wordsOf (now work)) lay wl × (s < lay .uses .n) × (e < lay .uses .n) × (0 < lay .segments .n) ⌝ }
-    ensures { λ r. ⌜ ((h : types.Held) (a b : ℕ) → a ≤ s → s < b → a ≤ e → e < b → kindMove a h r ≡ parted (jobOf (wordsOf (now (job .entry))) lay) (tab (markedUse (wordsOf (now (work .entry))) (wl .marks) (wordsOf (now (job .entry))) lay) a (b - a)) (s - a) (e - a)) ⌝ }
+// The late cut between them.
+fn late_at(lay: Layout, work: &[u8], wl: WorkLayout, x: Inst, y: Inst) -> Inst
+    requires { ⌜ (0 < lay .blocks .n) × (lay .blocks .n ≤ 512) × (wl .starts + lay .blocks .n * 2 + 2 ≤ wordCount (now work)) × (x .0 < 4096) ⌝ }
+    ensures { λ r. ⌜ ((bs : List BlockData) → Starts (wordsOf (now (work .entry))) (wl .starts) bs → length bs ≡ lay .blocks .n → y .0 < instsOf bs → r .0 ≡ lateCut bs (x .0) (y .0)) ⌝ }
+{
+    if x.0 < y.0 {
+        let at = wl.starts;
+        let n = lay.blocks.n;
+        return split_placement::late_cut(work, at, n as u32, x, y);
+    }
+    y
+}
+
+// The bits of the cost of class c; an unknown class costs nothing.
+fn cost_bits(job: &[u8], lay: Layout, c: RegClass) -> u32
+    requires { ⌜ Fits (wordCount (now job)) lay × SmallBook (wordsOf (now job)) lay ⌝ }
+    ensures { λ r. ⌜ (r ≤ 0x4980_0000) × (ofBits binary32 r ≡ classAt (jobOf (wordsOf (now (job .entry))) lay) c .cost) ⌝ }
+{
+    let k = c.0 as usize;
+    let n = lay.classes.n;
+    let at = lay.classes.at;
+    if k < n {
+        return words::word_at(job, at + k * 4 + 1);
+    }
+    0
+}
+
+// The side of a cut: early if the forward class costs at least as much as the class at the end, else late.
+// Costs are compared by their bits: all are finite and not negative.
+fn cut_side(job: &[u8], lay: Layout, forward: RegClass, end: RegClass) -> Side
+    requires { ⌜ Fits (wordCount (now job)) lay × SmallBook (wordsOf (now job)) lay ⌝ }
+    ensures { λ r. ⌜ r ≡ cutSide (jobOf (wordsOf (now (job .entry))) lay) forward end ⌝ }
+{
+    let f = cost_bits(job, lay, forward);
+    let e = cost_bits(job, lay, end);
+    if e <= f {
+        return Side::Early;
+    }
+    Side::Late
+}
+
+// The cut between instructions x and y, of the side that the two classes lean to.
+fn cut_at(
+    job: &[u8],
+    lay: Layout,
+    work: &[u8],
+    wl: WorkLayout,
+    forward: RegClass,
+    end: RegClass,
+    x: Inst,
+    y: Inst,
+) -> Inst
+    requires { ⌜ Ready (wordCount (now job)) (wordCount (now work)) (wordsOf (now job)) (wordsOf (now work)) lay wl × SmallBook (wordsOf (now job)) lay × (x .0 < 4096) × (y .0 < instsOf (blocksAt (wordsOf (now job)) (lay .blocks .at) (lay .blocks .n))) ⌝ }
+    ensures { λ r. ⌜ r .0 ≡ sideOf (cutSide (jobOf (wordsOf (now (job .entry))) lay) forward end) (blocksAt (wordsOf (now (job .entry))) (lay .blocks .at) (lay .blocks .n)) (x .0) (y .0) ⌝ }
+{
+    match cut_side(job, lay, forward, end) {
+        Side::Early => early_at(lay, work, wl, x, y),
+        Side::Late => late_at(lay, work, wl, x, y),
+    }
+}
+
+// What start s and end e lead to. If they share an instruction the end is turned, or the start where the end is a definition; else a cut is made between them,
+// of the side of the classes that the scans held when they failed.
+fn part_at(
+    job: &[u8],
+    lay: Layout,
+    work: &[u8],
+    wl: WorkLayout,
+    forward: RegClass,
+    end: RegClass,
+    s: usize,
+    e: usize,
+) -> MoveKind
+    requires { ⌜ Ready (wordCount (now job)) (wordCount (now work)) (wordsOf (now job)) (wordsOf (now work)) lay wl × (s < lay .uses .n) × (e < lay .uses .n) × (0 < lay .segments .n) × SmallBook (wordsOf (now job)) lay ⌝ }
+    ensures { λ r. ⌜ ((h : types.Held) (a b : ℕ) → a ≤ s → s < b → a ≤ e → e < b → kindMove a h r ≡ parted (jobOf (wordsOf (now (job .entry))) lay) (cutSide (jobOf (wordsOf (now (job .entry))) lay) forward end) (tab (markedUse (wordsOf (now (work .entry))) (wl .marks) (wordsOf (now (job .entry))) lay) a (b - a)) (s - a) (e - a)) ⌝ }
 {
     let x = marked_use(job, lay, work, wl, s);
     let y = marked_use(job, lay, work, wl, e);
@@ -209,7 +285,7 @@ fn part_at(job: &[u8], lay: Layout, work: &[u8], wl: WorkLayout, s: usize, e: us
         }
         return turn_at(job, lay, work, wl, e);
     }
-    MoveKind::Cut(cut_at(lay, work, wl, p, q))
+    MoveKind::Cut(cut_at(job, lay, work, wl, forward, end, p, q))
 }
 
 // The step that the scans over the uses with numbers a to b - 1 lead to, from the top class.
@@ -224,7 +300,7 @@ pub fn next_move(
     a: usize,
     b: usize,
 ) -> MoveAnswer
-    requires { ⌜ Ready (wordCount (now job)) (wordCount (now work)) (wordsOf (now job)) (wordsOf (now work)) lay wl × (tablesEnd ol ≤ wordCount (now out)) × (a ≤ b) × (b ≤ lay .uses .n) × (0 < lay .segments .n) ⌝ }
+    requires { ⌜ Ready (wordCount (now job)) (wordCount (now work)) (wordsOf (now job)) (wordsOf (now work)) lay wl × (tablesEnd ol ≤ wordCount (now out)) × (a ≤ b) × (b ≤ lay .uses .n) × (0 < lay .segments .n) × SmallBook (wordsOf (now job)) lay ⌝ }
     ensures { λ r. ⌜ ((st : State) → Stands ol (wordsOf (now (out .entry))) (wordsOf (now (job .entry))) (wordsOf (now (work .entry))) lay wl st → moveOf a r ≡ move (jobOf (wordsOf (now (job .entry))) lay) st top (tab (markedUse (wordsOf (now (work .entry))) (wl .marks) (wordsOf (now (job .entry))) lay) a (b - a))) ⌝ }
 {
     let first = fresh_held(top);
@@ -244,8 +320,9 @@ pub fn next_move(
             held,
         };
     }
+    let end = back.held;
     MoveAnswer {
-        kind: part_at(job, lay, work, wl, back.at, e),
+        kind: part_at(job, lay, work, wl, held.class, end.class, back.at, e),
         held,
     }
 }

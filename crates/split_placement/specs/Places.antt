@@ -1,6 +1,6 @@
 -- Document 01's rules for a cut in its own words: the open places, and the earliest or latest of them whose block frequency is least.
 -- `proofs/Rules.antt` proves that the definition's `earlyCut` and `lateCut` are these places. Assumes nothing.
-use Prim.Native.Nat.{ℕ, zero, suc, _+_, _*_, _≤_, _<_}
+use Prim.Native.Nat.{ℕ, zero, suc, _+_, _-_, _*_, _≤_, _<_}
 use mathlib.Core.Path.{_≡_}
 use mathlib.Core.Bool.{true, false, cond}
 use mathlib.Core.List.{List}
@@ -8,6 +8,9 @@ use lib.Dec.{ltb}
 use lib.ListN.{length, getD}
 use lib.Ieee.{Float, lt}
 use Rattle.definition.specs.declared.BlockData.{BlockData}
+use Rattle.definition.specs.declared.Side.{Side}
+use Rattle.definition.specs.declared.Side.the-variants.{Early, Late}
+use Rattle.definition.specs.SplitPlacement.{freqAt}
 use Rattle.function.specs.Blocks.{startOf}
 
 -- ---- the open places
@@ -45,6 +48,23 @@ pub record LatestLeast (Place : ℕ → Type 0) (price : ℕ → Float) (c : ℕ
   pub place : Place c
   pub least : (p : ℕ) → Place p → lt (price p) (price c) ≡ false
   pub latest : (p : ℕ) → Place p → c < p → lt (price c) (price p) ≡ true
+
+-- ---- both sides at once
+
+-- the open places of a side
+abbrev pub OpenPlace : Side → List BlockData → ℕ → ℕ → ℕ → Type 0
+OpenPlace Early bs after before p = EarlyPlace bs after before p
+OpenPlace Late bs after before p = LatePlace bs after before p
+
+-- the frequency that a side judges a place by: "block frequency", and "preceding instruction's block frequency"
+abbrev pub judged : Side → List BlockData → ℕ → Float
+judged Early bs p = freqAt bs p
+judged Late bs p = freqAt bs (p - 1)
+
+-- Change request 7: "The cut's frequency is still least among the open places of its side."
+pub record LeastOpen (side : Side) (bs : List BlockData) (after before c : ℕ) : Type 0 where
+  pub place : OpenPlace side bs after before c
+  pub least : (p : ℕ) → OpenPlace side bs after before p → lt (judged side bs p) (judged side bs c) ≡ false
 
 -- ---- what the code answers, over the rows of a table of starts
 

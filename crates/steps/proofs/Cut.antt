@@ -19,7 +19,7 @@ use Rattle.definition.proofs.Fits.{SegsFit, right-fit}
 use Rattle.definition.proofs.Moves.{CutAt, move-cut}
 use Rattle.definition.proofs.Cuts.{cut-uses}
 use Rattle.definition.proofs.Places.{All}
-use Rattle.definition.proofs.Fuel.{cut-falls}
+use Rattle.definition.proofs.Fuel.{cut-between, cut-falls}
 use Rattle.hints.specs.Hints.{hintAt}
 use Rattle.layout.specs.declared.Layout.{Layout}
 use Rattle.job.specs.Job.{jobBy, jobOf}
@@ -42,7 +42,6 @@ use Rattle.vreg_weight.specs.Fair.{Fair, fair-own}
 use Rattle.vreg_weight.specs.Sorted.{sorted-left, sorted-right}
 use Rattle.vreg_weight.specs.Sound.{each-left, each-right, each-all, sound-left, sound-right}
 use Rattle.steps.specs.Laid.{UseFits, SegsFair, usesLeft, Laid}
-use Rattle.steps.proofs.Run.{cut-between}
 
 pub job-hints : (W : List ℕ) (lay : Layout) → jobOf W lay .hints ≡ rowsAt hintAt W (lay .hints .at) 3 (lay .hints .n)
 unfolding jobOf jobBy
@@ -109,7 +108,7 @@ module _ (t w : ℕ) (W K : List ℕ) (lay : Layout) (wl : WorkLayout) (sp : Set
   cut-bounds =
       let c : CutAt J st top (usesOf ss) p = move-cut J st top (usesOf ss) p e in
       let b = cut-between J st top ss 0 p (l .fair .fit) c in
-      (cut-open K (wl .marks) W lay sp (l .ok) 0 (c .0) p (l .fair .fit) (c .2 .start .0) (b .0), cut-end K (wl .marks) W lay sp (l .ok) 0 (c .1) p (l .fair .fit) (c .2 .end .0) (b .1) (c .2 .end .1))
+      (cut-open K (wl .marks) W lay sp (l .ok) 0 (c .start) p (l .fair .fit) (c .clash .start .0) (b .0), cut-end K (wl .marks) W lay sp (l .ok) 0 (c .end) p (l .fair .fit) (c .clash .end .0) (b .1) (c .clash .end .1))
 
   pub cut-parts : Sides W lay sp (cutPart hs W lay p sp)
   cut-parts = cut-sides hs W lay p sp (l .ok) (cut-bounds .0) (cut-bounds .1)

@@ -16,7 +16,7 @@ use Rattle.definition.specs.Admit.{Move, whole, turn, cut, halt, move, Scan, th
 use Rattle.definition.specs.Place.{_>>=_, place, usesOf}
 use Rattle.definition.specs.Build.{Built, asOwn, placeFront, placeScan, step, turnAt, turnedAt}
 use Rattle.definition.proofs.Fits.{SegsFit, rising, rising-le}
-use Rattle.definition.proofs.Moves.{CutAt, move-cut, early-in}
+use Rattle.definition.proofs.Moves.{move-cut}
 use Rattle.definition.proofs.Fuel.{run, run-step, front-admitted}
 use Rattle.constraints.specs.Held.{heldOf}
 use Rattle.scans.specs.declared.ScanAnswer.{ScanAnswer}
@@ -57,14 +57,3 @@ cut-through J st top ss q p f e a r er = let t = front-admitted J st top ss q p 
         → scan J st (usesOf (leftCut (J .hints) p ss)) (fresh top) ≡ through h → scan J st (usesOf (leftCut (J .hints) p ss)) (fresh top) ≡ through (heldOf (r .held))
     go true w h t = sym w
     go false w h t = let z : _≡_ {A = ℕ} 0 1 = cc in absurd (omega arith)
-
--- a cut lies behind its start, and not behind its end
-pub cut-between : (J : Job) (st : State) (top : RegClass) (ss : List Segment) (q : ℕ) (p : Inst) → SegsFit q ss → (c : CutAt J st top (usesOf ss) p)
-    → (useAt (usesOf ss) (c .0) .pos .0 < p .0) × (p .0 ≤ useAt (usesOf ss) (c .1) .pos .0)
-cut-between J st top ss q p h c =
-    let a = useAt (usesOf ss) (c .0) .pos .0 in
-    let b = useAt (usesOf ss) (c .1) .pos .0 in
-    let le : a ≤ b = rising-le (usesOf ss) 0 (c .0) (c .1) (rising ss 0 q h (omega arith)) (c .2 .order) (c .2 .end .0) in
-    let ne : a ≢ b = c .3 in
-    let i = early-in (J .blocks) a b (omega arith) in
-    rw (c .4) i

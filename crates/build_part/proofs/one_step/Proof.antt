@@ -14,7 +14,7 @@ next-move-requires : tie.Need-next-move-requires
 next-move-requires c κs =
     let g = c .before .before .before .before .before .pre in
     let r = part-range _ _ _ (g .laid .ok) in
-    (g .laid .ready, g .builds .long, r .0, r .1, r .2)
+    (g .laid .ready, g .builds .long, r .0, r .1, r .2, g .builds .book)
 
 place-part-requires : tie.Need-place-part-requires
 place-part-requires c κs =
