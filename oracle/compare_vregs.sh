@@ -9,7 +9,7 @@ cargo build --offline --release --quiet
 bin=${CARGO_TARGET_DIR:-target}/release
 program=$(cd .. && pwd)/target/bin/vregs
 status=0
-for profile in small classes groups hints floats damaged rooms bad-uses; do
+for profile in small classes groups hints floats damaged rooms bad-uses leaning; do
     "$bin/compare" "$program" "$profile" "$seed" "$count" || status=1
 done
 for profile in limits full-tables many-merges long-sheets; do

@@ -1,5 +1,5 @@
 #!/usr/bin/env bash
-# Generates jobs of the profiles small to rooms (of limits: those up to 8,000 bytes) and damaged sheets, has the oracle answer them, and holds the definition to the answers
+# Generates jobs of the profiles small to rooms and leaning (of limits: those up to 8,000 bytes) and damaged sheets, has the oracle answer them, and holds the definition to the answers
 # by computation (eval.py). usage: evaluate.sh [JOBS_PER_PROFILE [DAMAGED [SEED]]]   (default 200, 400, 1)
 set -eu
 cd "$(dirname "$0")"
@@ -9,7 +9,7 @@ bin=${CARGO_TARGET_DIR:-target}/release
 aside=$(mktemp -d)
 trap 'rm -rf "$aside"' EXIT
 : > "$aside/manifest"
-for profile in small classes groups hints floats rooms; do
+for profile in small classes groups hints floats rooms leaning; do
   "$bin/gen" "$profile" "$seed" "$jobs" | python3 eval/frames.py "$bin/oracle" "$aside/$profile" "$profile" >> "$aside/manifest"
 done
 "$bin/gen" damaged "$seed" "$damaged" | python3 eval/frames.py "$bin/oracle" "$aside/damaged" damaged >> "$aside/manifest"

@@ -1,7 +1,7 @@
 #!/usr/bin/env bash
 # frames.sh: writes the answers that crates/replay replays, and the line that it has to write: the marked cases of
-# docs/samples; 80 sheets of every profile from small to rooms, of damaged 160 and of limits 8, those of them that have
-# at most 70,000 bytes; and the four families of stored answers. Each sheet with the oracle's answer in the room of
+# docs/samples; 80 sheets of every profile from small to rooms and of leaning, of damaged 160 and of limits 8, those of
+# them that have at most 70,000 bytes; and the four families of stored answers. Each sheet with the oracle's answer in the room of
 # `vregs`. stored.txt has a line for each: number, where it comes from, bytes of the sheet and of the answer, outcome,
 # what it is made for or -. The same sources give the same bytes. A sheet has at most 262,144 bytes, an answer 524,288.
 set -eu
@@ -13,6 +13,7 @@ trap 'rm -rf "$aside"' EXIT
 for profile in small classes groups hints floats rooms; do "$bin/store" "$aside" "$profile" 1 80 70000; done
 "$bin/store" "$aside" damaged 1 160 70000
 "$bin/store" "$aside" limits 1 8 70000
+"$bin/store" "$aside" leaning 1 80
 # every cause of 7 twice; the tables full and overfull; groups and merges; long sheets
 "$bin/store" "$aside" bad-uses 0 200
 "$bin/store" "$aside" full-tables 0 84

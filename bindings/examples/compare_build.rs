@@ -14,6 +14,7 @@ use oracle::answer::Room;
 use oracle::frames::Frame;
 use oracle::job::Job;
 use oracle::make::{PROFILES, make, sheet_of};
+use oracle::{cuts, entry, run};
 use std::hint::black_box;
 use std::io::Read;
 use std::process::exit;
@@ -67,6 +68,8 @@ struct Trials {
     typed: u64,
     /// Calls in the jobs' own rows.
     own: u64,
+    /// How many jobs of the profiles have cuts of each kind.
+    cuts: [u64; cuts::NAMES.len()],
     /// How often each number was given, 0 for a result: in this part, and in those before.
     numbers: [u64; 10],
     total: [u64; 10],
@@ -125,6 +128,7 @@ impl Trials {
             builder: Builder::new(),
             typed: 0,
             own: 0,
+            cuts: [0; cuts::NAMES.len()],
             numbers: [0; 10],
             total: [0; 10],
         }
@@ -275,9 +279,21 @@ impl Trials {
                 job: Some(&job),
             };
             self.rooms(&case, frame.room);
+            self.count_cuts(&job);
         }
         let typed = std::mem::take(&mut self.typed);
         self.line(profile, &format!("{jobs} jobs, {typed} by the types too"));
+    }
+
+    /// Takes note of the cuts that the Rust makes in a job that passes the tests.
+    fn count_cuts(&mut self, job: &Job) {
+        if entry::refusal(job).is_some() {
+            return;
+        }
+        let counts = cuts::counts(job, &run::run(job, None).log);
+        for (jobs, count) in self.cuts.iter_mut().zip(counts) {
+            *jobs += u64::from(count > 0);
+        }
     }
 
     /// Jobs of all profiles with their bytes damaged, each in any room.
@@ -395,4 +411,7 @@ fn main() {
     let own = trials.own;
     println!("in all: {}: no difference", told(&trials.total));
     println!("of these {own} in the job's own rows: the answer of the usual room each time");
+    for (name, jobs) in cuts::NAMES.iter().zip(trials.cuts) {
+        println!("jobs of the profiles with {name}: {jobs}");
+    }
 }

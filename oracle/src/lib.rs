@@ -2,6 +2,7 @@
 
 pub mod answer;
 pub mod cut;
+pub mod cuts;
 pub mod entry;
 pub mod exact;
 pub mod feed;

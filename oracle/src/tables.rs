@@ -11,6 +11,7 @@ use reference::reginfo::{
     PhysReg, PhysRegSet, RegBank, RegClass, RegClassSet, RegGroup, RegGroupSet, RegInfo, RegUnit,
     SpillSlotSize,
 };
+use reference::watch;
 
 use crate::job::{Job, Operand};
 
@@ -212,7 +213,9 @@ impl RegInfo for Tables<'_> {
     }
 
     fn class_spill_cost(&self, class: RegClass) -> f32 {
-        self.job.classes[class.index()].cost
+        let cost = self.job.classes[class.index()].cost;
+        watch::asked(cost);
+        cost
     }
 
     fn sub_classes(&self, class: RegClass) -> RegClassSet {

@@ -3,6 +3,7 @@
 use std::collections::BTreeMap;
 
 use crate::answer::{Room, answer_job, tested};
+use crate::cuts;
 use crate::frames::Frame;
 use crate::job::{BLOCKPARAM_IN, Job};
 use crate::print;
@@ -58,12 +59,14 @@ impl Tally {
             End::Odd(message) => self.odd.push(message.clone()),
             _ => self.add_result(job, &whole),
         }
-        self.add_log(&whole);
+        self.add_log(job, &whole);
     }
 
-    fn add_log(&mut self, whole: &Run) {
+    fn add_log(&mut self, job: &Job, whole: &Run) {
         let log = &whole.log;
-        self.see("cuts", log.conflicts - log.turns);
+        for (name, count) in cuts::NAMES.iter().zip(cuts::counts(job, log)) {
+            self.see(name, count);
+        }
         self.see("turns", log.turns);
         let count = |how: Placed| log.placed.iter().filter(|&&placed| placed == how).count();
         self.see("new groups", count(Placed::InNewGroup));
@@ -117,12 +120,12 @@ impl Tally {
     }
 
     pub fn table(&self) -> String {
-        let mut text = format!("{:<36}{:>9}{:>10}\n", "what", "sheets", "in all");
-        text += &format!("{:<36}{:>9}\n", "sheets", self.jobs);
+        let mut text = format!("{:<44}{:>9}{:>10}\n", "what", "sheets", "in all");
+        text += &format!("{:<44}{:>9}\n", "sheets", self.jobs);
         for (thing, (jobs, times)) in &self.things {
-            text += &format!("{thing:<36}{jobs:>9}{times:>10}\n");
+            text += &format!("{thing:<44}{jobs:>9}{times:>10}\n");
         }
-        text + &format!("{:<36}{:>9}\n", "ends that are no stop", self.odd.len())
+        text + &format!("{:<44}{:>9}\n", "ends that are no stop", self.odd.len())
     }
 }
 

@@ -48,6 +48,36 @@ end 2 0
     assert_eq!(answers(&sheet), tabs(expected));
 }
 
+/// Case A with the costs of classes 1 and 2: where it is cut, and the weights of both registers.
+fn leaning(cost: &str, other: &str) -> (String, Vec<String>) {
+    let book = BOOK
+        .replace("00000002 3f800000", &format!("00000002 {cost}"))
+        .replace("00000004 3f800000", &format!("00000004 {other}"));
+    let sheet = job("seg 0 2 14 0\nuse 5 0 0 1\nuse 4 3 0 2\n").replace(BOOK, &book);
+    let text = answers(&sheet);
+    let field = |line: &str, place: usize| line.split('\t').nth(place).unwrap().to_string();
+    let lines = |kind: &'static str| text.lines().filter(move |line| line.starts_with(kind));
+    let to = lines("seg").next().map(|line| field(line, 3)).unwrap();
+    (to, lines("vreg").map(|line| field(line, 4)).collect())
+}
+
+#[test]
+fn a_cut_leans_toward_the_cheaper_class() {
+    let cut = |to: &str, weights: [&str; 2]| (to.to_string(), weights.map(str::to_string).to_vec());
+    assert_eq!(
+        leaning("3f000000", "3f800000"),
+        cut("12", ["3e2aaaab", "7f800000"])
+    );
+    assert_eq!(
+        leaning("3f800000", "3f000000"),
+        cut("8", ["3f000000", "3e000000"])
+    );
+    assert_eq!(
+        leaning("3f000000", "3f000000"),
+        cut("8", ["3e800000", "3e000000"])
+    );
+}
+
 /// A book whose class 1 shares nothing with the top class 0.
 const APART: &str = "opt 0 3f800000 3f800000 3f800000
 bank 0

@@ -6,7 +6,7 @@ use std::sync::OnceLock;
 use oracle::exact::counts::Counts;
 use oracle::exact::survey::Survey;
 
-/// 54,871 weights.
+/// 55,132 weights.
 fn short() -> &'static Survey {
     static SHORT: OnceLock<Survey> = OnceLock::new();
     SHORT.get_or_init(|| Survey::of(40, 1, &mut io::sink()).unwrap())
@@ -22,7 +22,7 @@ fn all_weights_hold_and_wrong_readings_do_not() {
     let sum = short().sum();
     assert_eq!((short().differ(), sum.failed), (0, 0));
     assert!(sum.failed_by_25 > 1_000 && sum.failed_less_a_use > 1_000);
-    assert_eq!(sum.weights, 54_871);
+    assert_eq!(sum.weights, 55_132);
     assert!(sum.within > 40_000);
     assert!(short().held());
 }

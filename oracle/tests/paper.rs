@@ -101,3 +101,8 @@ fn many_merges_agree() {
 fn long_sheets_agree() {
     assert!(compare("long-sheets", 45).0 > 10);
 }
+
+#[test]
+fn leaning_jobs_agree() {
+    assert!(compare("leaning", 20_000).0 > 10_000);
+}

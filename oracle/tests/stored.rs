@@ -9,7 +9,9 @@ use std::{env, fs};
 
 use model::Refused;
 use oracle::answer::{Room, answer, tested};
+use oracle::cuts;
 use oracle::job::Job;
+use oracle::run::run;
 
 const ROOM: [usize; 4] = [4096, 4096, 8192, 512];
 const TABLES: [&str; 4] = ["registers", "segments", "uses", "groups"];
@@ -308,6 +310,22 @@ fn groups_and_merges_are_many() {
         "accepted, 100 or more groups and 100 or more merges",
         hundreds,
     );
+}
+
+/// Accepted jobs with cuts of each kind, as the reference makes them.
+#[test]
+fn late_cuts_are_many() {
+    let stored = stored();
+    let mut counts = [0; cuts::NAMES.len()];
+    for (_, job) in jobs(&stored, "accepted") {
+        let kinds = cuts::counts(&job, &run(&job, None).log);
+        let pairs = counts.iter_mut().zip(kinds);
+        pairs.for_each(|(jobs, count)| *jobs += usize::from(count > 0));
+    }
+    for (name, jobs) in cuts::NAMES.iter().zip(counts) {
+        assert!(jobs >= 20, "{name}");
+        told(&format!("accepted, with {name}"), jobs);
+    }
 }
 
 /// Long sheets, without those that are made to fill the tables.

@@ -1,5 +1,5 @@
-//! The reference pass: the supplied files, compiled as they are, over stand-ins
-//! for what is not supplied.
+//! The reference pass: the supplied files, compiled as they are but for the one
+//! alteration of builder.rs, over stand-ins for what is not supplied.
 
 extern crate alloc;
 extern crate self as hashbrown;
@@ -17,3 +17,7 @@ pub use stand_ins::settings::{Options, Stats};
 pub use stand_ins::{debug_utils, union_find};
 
 include!(concat!(env!("OUT_DIR"), "/tree.rs"));
+
+#[cfg(test)]
+#[path = "../alteration.rs"]
+mod alteration;

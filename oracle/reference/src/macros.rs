@@ -64,13 +64,13 @@ macro_rules! entity_def {
     };
 }
 
-/// Prints nothing; tells the watch which line was reached.
+/// Prints nothing; tells the watch which line was reached, and what it says where that is wanted.
 macro_rules! trace {
     ($text:literal $($args:tt)*) => {{
-        if false {
-            let _ = format_args!($text $($args)*);
-        }
         const POINT: $crate::watch::Point = $crate::watch::point_of($text);
+        if const { $crate::watch::is_read(POINT) } {
+            $crate::watch::said(POINT, format_args!($text $($args)*));
+        }
         $crate::watch::reached(POINT);
     }};
 }

@@ -10,7 +10,7 @@ use super::counts::{Counts, row};
 use super::registers::{Register, read};
 
 /// The profiles that make accepted jobs; of the last four a tenth as many sheets are made.
-pub const PROFILES: [&str; 11] = [
+pub const PROFILES: [&str; 12] = [
     "small",
     "classes",
     "groups",
@@ -18,12 +18,13 @@ pub const PROFILES: [&str; 11] = [
     "floats",
     "damaged",
     "rooms",
+    "leaning",
     "limits",
     "full-tables",
     "many-merges",
     "long-sheets",
 ];
-const WHOLE: usize = 7;
+const WHOLE: usize = 8;
 
 #[derive(Default)]
 pub struct Results {

@@ -36,7 +36,7 @@ const COSTS: [u32; 12] = [
     0x4980_0000,
 ];
 
-const PLAIN: [f32; 10] = [0.0, 0.25, 0.5, 0.75, 1.0, 1.0, 1.5, 2.0, 3.0, 10.0];
+pub const PLAIN: [f32; 10] = [0.0, 0.25, 0.5, 0.75, 1.0, 1.0, 1.5, 2.0, 3.0, 10.0];
 
 pub fn fill(job: &mut Job, rng: &mut Rng, style: &Style) {
     job.adjust = match rng.below(8) {

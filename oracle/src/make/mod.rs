@@ -7,6 +7,7 @@ mod breaks;
 mod damage;
 mod falling;
 mod full;
+mod leaning;
 mod limits;
 mod long;
 mod pieces;
@@ -24,7 +25,7 @@ use rng::Rng;
 
 pub use write::sheet_of;
 
-pub const PROFILES: [&str; 12] = [
+pub const PROFILES: [&str; 13] = [
     "small",
     "classes",
     "groups",
@@ -37,6 +38,7 @@ pub const PROFILES: [&str; 12] = [
     "full-tables",
     "many-merges",
     "long-sheets",
+    "leaning",
 ];
 
 /// One sheet of a profile, with a room where the profile sets one.
@@ -61,6 +63,7 @@ pub fn make(profile: &str, seed: u64) -> Option<Frame> {
         "bad-uses" => plain(bad_uses::make(&mut rng, seed)),
         "full-tables" => plain(full::make(&mut rng, seed)),
         "many-merges" => plain(weave::make(&mut rng, seed)),
+        "leaning" => plain(leaning::make(&mut rng)),
         "small" if seed.is_multiple_of(2) => plain(tiny::mixed(seed / 2)),
         "classes" if rng.chance(6) => plain(falling::make(&mut rng)),
         "groups" => plain(match rng.below(10) {

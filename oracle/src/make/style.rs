@@ -145,6 +145,24 @@ pub fn of(profile: &str) -> Option<Style> {
             operands: (0, 3),
             ..CLASSES
         },
+        // Long pieces over many blocks, with few uses in one instruction.
+        "leaning" => Style {
+            insts: (12, 64),
+            blocks: (4, 16),
+            classes: (3, 8),
+            banks: (1, 1),
+            values: (1, 4),
+            segs: (1, 2),
+            long: 85,
+            uses: (2, 5),
+            kinds: [1, 2, 2, 0, 70, 5, 0, 0, 2, 1],
+            crowd: 3,
+            edges: 10,
+            vgroups: (0, 2),
+            operands: (0, 6),
+            books: [30, 10, 0, 60],
+            ..CLASSES
+        },
         _ => return None,
     })
 }

@@ -35,6 +35,9 @@ pub struct Reg {
     pub pieces: Vec<Piece>,
 }
 
+/// Of a use: its piece, and its place in the piece's list.
+type Place = (usize, usize);
+
 /// A use taken out of its list.
 struct Turned {
     value: u32,
@@ -121,13 +124,19 @@ impl Model<'_> {
             let Some(end) = failing else {
                 return self.place(held, pieces);
             };
-            let start = self.backward(&pieces, end)?;
+            let (start, at_end) = self.backward(&pieces, end)?;
             let (first, last) = (pieces[start.0].uses[start.1], pieces[end.0].uses[end.1]);
             if first.inst == last.inst {
                 self.turn(&mut pieces, if is_def(&last) { start } else { end })?;
                 continue;
             }
-            let (left, right) = self.split(pieces, self.early(first.inst, last.inst));
+            let cost = |held: &Held| self.job.classes[held.class as usize].cost;
+            let cut = if cost(&held) >= cost(&at_end) {
+                self.early(first.inst, last.inst)
+            } else {
+                self.late(first.inst, last.inst)
+            };
+            let (left, right) = self.split(pieces, cut);
             let (held, failing) = self.forward(&left);
             assert!(failing.is_none(), "the part before a cut conflicts");
             self.place(held, left)?;
@@ -136,7 +145,7 @@ impl Model<'_> {
     }
 
     /// What all uses leave held, or the first that is not admitted.
-    fn forward(&self, pieces: &[Piece]) -> (Held, Option<(usize, usize)>) {
+    fn forward(&self, pieces: &[Piece]) -> (Held, Option<Place>) {
         let mut held = Held::new(self.top);
         for (i, piece) in pieces.iter().enumerate() {
             for (j, u) in piece.uses.iter().enumerate() {
@@ -149,7 +158,8 @@ impl Model<'_> {
         (held, None)
     }
 
-    fn backward(&self, pieces: &[Piece], end: (usize, usize)) -> Result<(usize, usize), Refused> {
+    /// The first use back from the failing one that is not admitted, and what is held there.
+    fn backward(&self, pieces: &[Piece], end: Place) -> Result<(Place, Held), Refused> {
         let mut held = Held::new(self.top);
         for i in (0..=end.0).rev() {
             let count = if i == end.0 {
@@ -160,14 +170,14 @@ impl Model<'_> {
             for j in (0..count).rev() {
                 match held.admit(self, &pieces[i].uses[j]) {
                     Some(next) => held = next,
-                    None => return Ok((i, j)),
+                    None => return Ok(((i, j), held)),
                 }
             }
         }
         Err(Refused::Stop("no-start"))
     }
 
-    fn turn(&mut self, pieces: &mut [Piece], at: (usize, usize)) -> Result<(), Refused> {
+    fn turn(&mut self, pieces: &mut [Piece], at: Place) -> Result<(), Refused> {
         let piece = &mut pieces[at.0];
         let u = piece.uses[at.1];
         if is_def(&u) {
@@ -202,6 +212,23 @@ impl Model<'_> {
         *places
             .iter()
             .find(|&&inst| frequency(inst) == least)
+            .unwrap()
+    }
+
+    /// Among `before` and the block ends from `after` + 1 to it, the latest
+    /// whose preceding instruction's block frequency is least.
+    fn late(&self, after: u32, before: u32) -> u32 {
+        let block = |inst: u32| self.block_of[inst as usize];
+        let ends = |&inst: &u32| inst == before || block(inst) != block(inst - 1);
+        let frequency = |inst: u32| self.job.blocks[block(inst - 1)].frequency;
+        let places: Vec<u32> = (after + 1..=before).filter(ends).collect();
+        let least = places
+            .iter()
+            .map(|&inst| frequency(inst))
+            .fold(f32::INFINITY, f32::min);
+        *places
+            .iter()
+            .rfind(|&&inst| frequency(inst) == least)
             .unwrap()
     }
 
