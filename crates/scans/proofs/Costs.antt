@@ -1,12 +1,13 @@
 -- The cost of a class by its bits, and the side of a cut. Assumes nothing.
 use mathlib.Core.Path.{_≡_, refl, sym, ap, ap₂, _∙_, subst}
-use mathlib.Core.Bool.{Bool, cond}
+use mathlib.Core.Bool.{Bool, true, false, cond}
 use mathlib.Core.List.{List}
 use Prim.Native.Nat.{ℕ, _+_, _*_, _≤_, _<_}
 use native.Mathlib.Omega.{arith}
 use lib.Dec.{leb}
 use lib.ListN.{getD}
 use lib.Ieee.{Float, binary32, ofBits, le}
+use borrow.Author.Tests.{le-leb, lt-leb}
 use Rattle.definition.specs.declared.RegClass.{RegClass}
 use Rattle.definition.specs.declared.ClassData.{ClassData}
 use Rattle.definition.specs.declared.Side.the-variants.{Early, Late}
@@ -37,9 +38,16 @@ module _ (W : List ℕ) (lay : Layout) (c : RegClass) (k : ℕ) where
 
 -- ---- the side of a cut
 
-pub side-is : (job : Job) (forward end : RegClass) (f e : ℕ) (t : Bool) → f ≤ 0x4980_0000 → e ≤ 0x4980_0000
-    → ofBits binary32 f ≡ classAt job forward .cost → ofBits binary32 e ≡ classAt job end .cost → leb e f ≡ t → cond t Early Late ≡ cutSide job forward end
-unfolding cutSide
-side-is job forward end f e t lf l ef ee q =
-    ap (λ (u : Bool). cond u Early Late) (sym q ∙ sym (le-bits e f (omega arith) (omega arith)))
-    ∙ ap₂ (λ (x y : Float). cond (le x y) Early Late) ee ef
+module _ (job : Job) (forward end : RegClass) (f e : ℕ) (lf : f ≤ 0x4980_0000) (l : e ≤ 0x4980_0000) (ef : ofBits binary32 f ≡ classAt job forward .cost)
+    (ee : ofBits binary32 e ≡ classAt job end .cost) where
+  by-bits : (t : Bool) → leb e f ≡ t → cond t Early Late ≡ cutSide job forward end
+  unfolding cutSide
+  by-bits t q =
+      ap (λ (u : Bool). cond u Early Late) (sym q ∙ sym (le-bits e f (omega arith) (omega arith)))
+      ∙ ap₂ (λ (x y : Float). cond (le x y) Early Late) ee ef
+
+  pub side-early : e ≤ f → Early ≡ cutSide job forward end
+  side-early h = by-bits true (le-leb e f h)
+
+  pub side-late : f < e → Late ≡ cutSide job forward end
+  side-late h = by-bits false (lt-leb e f h)

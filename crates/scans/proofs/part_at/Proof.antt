@@ -23,7 +23,7 @@ cut-at-requires c κs =
     let r = s .pre .0 in
     let px = pos-within _ _ _ (s .args .lay) _ _ _ (y .before .marked-use .ensures) (r .within (s .pre .3) _ (s .pre .1)) in
     let py = pos-within _ _ _ (s .args .lay) _ _ _ (y .marked-use2 .ensures) (r .within (s .pre .3) _ (s .pre .2)) in
-    (r, s .pre .4, omega (arith, r .few-insts, px, py), py)
+    (r, s .pre .4, omega (arith, r .few-insts, px, py), omega (arith, px, py))
 
 returns-3 : tie.Need-returns-3
 returns-3 c h a b ls ms le me =
