@@ -220,7 +220,9 @@ likeA cs = single cs (seg 0 2 14 0 (defines 0 1 ∷ uses 3 0 2 ∷ []) ∷ [])
 -- the same with a failing use of class 3, whose lowest class in common with the top is class 2
 likeA₃ : Job
 unfolding single seg uses defines class costing
-likeA₃ = single (class 15 ∷ costing 2 0x3f000000 ∷ class 4 ∷ costing 12 0x3e800000 ∷ []) (seg 0 2 14 0 (defines 0 1 ∷ uses 3 0 3 ∷ []) ∷ [])
+likeA₃ =
+    single (class 15 ∷ costing 2 0x3f000000 ∷ class 4 ∷ costing 12 0x3e800000 ∷ [])
+    (seg 0 2 14 0 (defines 0 1 ∷ uses 3 0 3 ∷ []) ∷ [])
 
 -- three blocks, the middle one of half the frequency; it ends at instruction 4
 blocksK : List BlockData
@@ -234,7 +236,8 @@ acrossK cs = job cs blocksK (led 0 ∷ []) [] [] (seg 0 2 22 0 (defines 0 1 ∷ 
 -- the registers of two pieces, parted at a point: the first one's class use defines at 0, the second one's is the other
 partedAt : ℕ → ℕ → ℕ → ℕ → Use → List Register
 unfolding plain own seg defines
-partedAt at end w x u = plain 1 w (own (seg 0 2 at 2 (defines 0 1 ∷ [])) ∷ []) ∷ plain 2 x (own (seg 0 at end 1 (u ∷ [])) ∷ []) ∷ []
+partedAt at end w x u =
+    plain 1 w (own (seg 0 2 at 2 (defines 0 1 ∷ [])) ∷ []) ∷ plain 2 x (own (seg 0 at end 1 (u ∷ [])) ∷ []) ∷ []
 
 sides : List (Job × Out Result)
 unfolding leaning likeA likeA₃ acrossK partedAt accept uses
@@ -247,7 +250,8 @@ sides =
     ∷ (acrossK (leaning 0x3f000000 0x3f800000), accept (partedAt 16 22 0x3e000000 0x3f000000 (uses 5 0 2)) [])
     -- equal costs: early
     ∷ (acrossK (leaning 0x3f000000 0x3f000000), accept (partedAt 8 22 0x3e800000 0x3e000000 (uses 5 0 2)) [])
-    -- Classes held are compared, not those of the uses: the failing use is of class 3, which costs least, and class 2 is held, which costs most.
+    -- Classes held are compared, not those of the uses: the failing use is of class 3, which costs least, and class 2
+    -- is held, which costs most.
     ∷ (likeA₃, accept (partedAt 12 14 0x3e2aaaab 0x7f800000 (uses 3 0 3)) [])
     ∷ []
 

@@ -89,7 +89,9 @@ module _ (job : Job) (st : State) (top : RegClass) (ss : List Segment) (q : ℕ)
   cut-between =
       let a = useAt (usesOf ss) (c .start) .pos .0 in
       let b = useAt (usesOf ss) (c .end) .pos .0 in
-      let le : a ≤ b = rising-le (usesOf ss) 0 (c .start) (c .end) (rising ss 0 q h (omega arith)) (c .clash .order) (c .clash .end .0) in
+      let le : a ≤ b =
+      rising-le (usesOf ss) 0 (c .start) (c .end) (rising ss 0 q h (omega arith)) (c .clash .order)
+      (c .clash .end .0) in
       let ne : a ≢ b = c .apart in
       rw (c .place) (cut-in (sideAt job st top (usesOf ss) (c .end)) (job .blocks) a b (omega arith))
 
@@ -120,8 +122,10 @@ module _ (job : Job) (st : State) (top : RegClass) (ss : List Segment) (q : ℕ)
       go false e = ltb-false _ _ e
       go true e =
           let k : c .end < length L = ltb-true _ _ e in
-          let at : useAt (usesOf ss) (c .end) ≡ useAt L (c .end) = rw (← both) (List·getD-append L R noUse (c .end) k) in
-          let lt : useAt L (c .end) .pos .0 < p .0 = below-at p L (c .end) (left-below (job .hints) p ss q h) (rw at at (c .clash .end .1)) in
+          let at : useAt (usesOf ss) (c .end) ≡ useAt L (c .end) =
+          rw (← both) (List·getD-append L R noUse (c .end) k) in
+          let lt : useAt L (c .end) .pos .0 < p .0 =
+          below-at p L (c .end) (left-below (job .hints) p ss q h) (rw at at (c .clash .end .1)) in
           let ge : p .0 ≤ useAt L (c .end) .pos .0 = rw at at (cut-between .1) in
           absurd (omega arith)
 
@@ -134,7 +138,8 @@ module _ (job : Job) (st : State) (top : RegClass) (ss : List Segment) (q : ℕ)
   pub cut-falls : classUses (usesOf (rightCut (job .hints) p ss)) < classUses (usesOf ss)
   unfolding R
   cut-falls =
-      let at : useAt (usesOf ss) (c .start) ≡ useAt L (c .start) = rw (← both) (List·getD-append L R noUse (c .start) start-left) in
+      let at : useAt (usesOf ss) (c .start) ≡ useAt L (c .start) =
+      rw (← both) (List·getD-append L R noUse (c .start) start-left) in
       let some′ : 0 < classUses L = classUses-at L (c .start) start-left (rw at at (c .clash .start .1)) in
       let sum : classUses (usesOf ss) ≡ classUses L + classUses R = rw (← both) (classUses-append L R) in
       omega arith

@@ -11,10 +11,15 @@ use lib.Seq.{getD-take, length-take-le}
 use lib.Dec.{leb, ltb, eqb}
 use lib.Ieee.{Float, lt}
 use borrow.Author.Tests.{ltb-true, leb-true, eqb-false}
-use Rattle.definition.specs.Types.{BlockData, BlockparamIn, BlockparamOut, ClassDef, ClassUse, ConstraintConflict, FixedDef, FixedUse, GroupClassDef, GroupClassUse, Held, Inst, Job, RegClass, State, Side, Early, Late, TiedUse, TurnedDef, Use, UseKind, inst}
+use Rattle.definition.specs.Types.{BlockData, BlockparamIn, BlockparamOut, ClassDef, ClassUse, ConstraintConflict}
+use Rattle.definition.specs.Types.{FixedDef, FixedUse, GroupClassDef, GroupClassUse, Held, Inst, Job, RegClass}
+use Rattle.definition.specs.Types.{State, Side, Early, Late, TiedUse, TurnedDef, Use, UseKind, inst}
 use Rattle.definition.specs.Uses.{isClassUse, isDef}
-use Rattle.definition.specs.SplitPlacement.{earliest, latest, lateFrom, earlyCut, lateCut, sideOf, freqAt, keep, starts, ends}
-use Rattle.definition.specs.Admit.{Move, Scan, heldBy, cutSide, backFrom, forwardClass, endClass, admit, admitKind, cut, fails-at, fresh, fromEnd, fromStart, halt, move, noUse, parted, scan, through, turn, turning, useAt, whole}
+use Rattle.definition.specs.SplitPlacement.{earliest, latest, lateFrom, earlyCut, lateCut, sideOf, freqAt, keep}
+use Rattle.definition.specs.SplitPlacement.{starts, ends}
+use Rattle.definition.specs.Admit.{Move, Scan, heldBy, cutSide, backFrom, forwardClass, endClass, admit}
+use Rattle.definition.specs.Admit.{admitKind, cut, fails-at, fresh, fromEnd, fromStart, halt, move, noUse, parted}
+use Rattle.definition.specs.Admit.{scan, through, turn, turning, useAt, whole}
 use Rattle.definition.proofs.Scans.{scan-first, scan-later}
 use Rattle.definition.proofs.Places.{All, all-append}
 use Rattle.definition.proofs.Counts.{getD-reverse}
@@ -61,10 +66,12 @@ unfolding earliest
 earliest-in price lo hi c [] h k = h
 earliest-in price lo hi c (d ∷ ds) h k = earliest-in price lo hi _ ds (either (Within lo hi) (lt (price d) (price c)) d c (k .0) h) (k .1)
 
-latest-in : (price : ℕ → Float) (lo hi c : ℕ) (ds : List ℕ) → Within lo hi c → All (Within lo hi) ds → Within lo hi (latest price c ds)
+latest-in : (price : ℕ → Float) (lo hi c : ℕ) (ds : List ℕ) → Within lo hi c → All (Within lo hi) ds
+    → Within lo hi (latest price c ds)
 unfolding latest
 latest-in price lo hi c [] h k = h
-latest-in price lo hi c (d ∷ ds) h k = latest-in price lo hi _ ds (either (Within lo hi) (lt (price c) (price d)) c d h (k .0)) (k .1)
+latest-in price lo hi c (d ∷ ds) h k =
+    latest-in price lo hi _ ds (either (Within lo hi) (lt (price c) (price d)) c d h (k .0)) (k .1)
 
 -- the places kept lie within, where q is at least lo
 keep-in : (lo q hi : ℕ) → lo ≤ q → (xs : List ℕ) → All (Within lo hi) (keep (λ i. ltb q i && leb i hi) xs)
@@ -73,24 +80,33 @@ keep-in lo q hi h [] = tt
 keep-in lo q hi h (x ∷ xs) = go (ltb q x) (leb x hi) refl refl (keep-in lo q hi h xs)
   where
     go : (a b : Bool) → ltb q x ≡ a → leb x hi ≡ b → All (Within lo hi) (keep (λ i. ltb q i && leb i hi) xs)
-        → All (Within lo hi) (cond (a && b) (x ∷ keep (λ i. ltb q i && leb i hi) xs) (keep (λ i. ltb q i && leb i hi) xs))
-    go true true e f ih = let g : q < x = ltb-true _ _ e in let r : x ≤ hi = leb-true _ _ f in ((omega arith, omega arith), ih)
+        → All (Within lo hi)
+        (cond (a && b) (x ∷ keep (λ i. ltb q i && leb i hi) xs) (keep (λ i. ltb q i && leb i hi) xs))
+    go true true e f ih =
+        let g : q < x = ltb-true _ _ e in
+        let r : x ≤ hi = leb-true _ _ f in
+        ((omega arith, omega arith), ih)
     go true false e f ih = ih
     go false b e f ih = ih
 
 early-in : (bs : List BlockData) (a b : ℕ) → a < b → Within a b (earlyCut bs a b)
 unfolding earlyCut
 early-in bs a b h =
-    earliest-in (λ i. freqAt bs i) a b (suc a) (keep (λ i. ltb (suc a) i && leb i b) (starts 0 bs)) (omega arith, omega arith) (keep-in a (suc a) b (omega arith) (starts 0 bs))
+    earliest-in (λ i. freqAt bs i) a b (suc a) (keep (λ i. ltb (suc a) i && leb i b) (starts 0 bs))
+    (omega arith, omega arith) (keep-in a (suc a) b (omega arith) (starts 0 bs))
 
 from-in : (price : ℕ → Float) (a b : ℕ) (cs : List ℕ) → a < b → All (Within a b) cs → Within a b (lateFrom price cs b)
 unfolding lateFrom
 from-in price a b [] h k = (omega arith, omega arith)
-from-in price a b (c ∷ cs) h k = latest-in price a b c (cs ++ (b ∷ [])) (k .0) (all-append (Within a b) cs (b ∷ []) (k .1) ((omega arith, omega arith), tt))
+from-in price a b (c ∷ cs) h k =
+    latest-in price a b c (cs ++ (b ∷ [])) (k .0)
+    (all-append (Within a b) cs (b ∷ []) (k .1) ((omega arith, omega arith), tt))
 
 late-in : (bs : List BlockData) (a b : ℕ) → a < b → Within a b (lateCut bs a b)
 unfolding lateCut
-late-in bs a b h = from-in (λ i. freqAt bs (i - 1)) a b (keep (λ i. ltb a i && leb i b) (ends 0 bs)) h (keep-in a a b (omega arith) (ends 0 bs))
+late-in bs a b h =
+    from-in (λ i. freqAt bs (i - 1)) a b (keep (λ i. ltb a i && leb i b) (ends 0 bs)) h
+    (keep-in a a b (omega arith) (ends 0 bs))
 
 -- a cut of either side lies behind the first instruction and not behind the second
 pub cut-in : (side : Side) (bs : List BlockData) (a b : ℕ) → a < b → Within a b (sideOf side bs a b)
@@ -109,7 +125,8 @@ pub record Clash (job : Job) (st : State) (top : RegClass) (us : List Use) (s e 
 
 module _ (job : Job) (st : State) (top : RegClass) (us : List Use) where
   -- the backward scan's start is a class use, at or before the end
-  start-of : (e j : ℕ) → scan job st us (fresh top) ≡ fails-at e → scan job st (backFrom e us) (fresh top) ≡ fails-at j → Clash job st top us (e - j) e
+  start-of : (e j : ℕ) → scan job st us (fresh top) ≡ fails-at e → scan job st (backFrom e us) (fresh top) ≡ fails-at j
+      → Clash job st top us (e - j) e
   start-of e j f b =
       let c = fails-class job st us (fresh top) e f in
       let d = fails-class job st (backFrom e us) (fresh top) j b in
@@ -118,7 +135,13 @@ module _ (job : Job) (st : State) (top : RegClass) (us : List Use) where
       let q : getD (backFrom e us) j noUse ≡ getD us (e - j) noUse =
       getD-reverse (take (suc e) us) j noUse m ∙ ap (λ (i : ℕ). getD (take (suc e) us) i noUse) (omega arith) ∙ getD-take (suc e) us (e - j) noUse (omega arith) in
       let z : j ≡ e - (e - j) = omega arith in
-      record { forward = f; backward = b ∙ ap fails-at z; start = (omega arith, rw q at (d .1)); end = c; order = omega arith }
+      record {
+        forward = f;
+        backward = b ∙ ap fails-at z;
+        start = (omega arith, rw q at (d .1));
+        end = c;
+        order = omega arith;
+      }
 
   -- the instruction of the use at a place
   abbrev pub posAt : ℕ → ℕ
@@ -128,7 +151,8 @@ module _ (job : Job) (st : State) (top : RegClass) (us : List Use) where
   abbrev pub sideAt : ℕ → Side
   sideAt e = cutSide job (forwardClass job st top us) (endClass job st top us e)
 
-  -- a cut parts the start that the scans found from the end that they found, at another instruction, by the side of their classes
+  -- a cut parts the start that the scans found from the end that they found, at another instruction, by the side of
+  -- their classes
   pub record CutAt (p : Inst) : Type 0 where
     pub start : ℕ
     pub end : ℕ
@@ -155,11 +179,13 @@ module _ (job : Job) (st : State) (top : RegClass) (us : List Use) where
   parted-says s e c = go (eqb (posAt s) (posAt e)) refl
     where
       go : (b : Bool) → eqb (posAt s) (posAt e) ≡ b
-          → Says (cond b (turning us (cond (isDef (useAt us e .kind)) s e)) (cut (inst (sideOf (sideAt e) (job .blocks) (posAt s) (posAt e)))))
+          → Says (cond b (turning us (cond (isDef (useAt us e .kind)) s e))
+          (cut (inst (sideOf (sideAt e) (job .blocks) (posAt s) (posAt e)))))
       go true q = turning-says _ (either (ClassAt us) (isDef (useAt us e .kind)) s e (c .start) (c .end))
       go false q = record { start = s; end = e; clash = c; apart = eqb-false _ _ q; place = refl }
 
-  start-says : (e : ℕ) → scan job st us (fresh top) ≡ fails-at e → (r : Scan) → scan job st (backFrom e us) (fresh top) ≡ r → Says (fromStart job (sideAt e) us e r)
+  start-says : (e : ℕ) → scan job st us (fresh top) ≡ fails-at e → (r : Scan)
+      → scan job st (backFrom e us) (fresh top) ≡ r → Says (fromStart job (sideAt e) us e r)
   unfolding fromStart
   start-says e a (through h) b = tt
   start-says e a (fails-at j) b = parted-says (e - j) e (start-of e j a b)

@@ -70,14 +70,16 @@ module _ (job : Job) (st : State) where
       let q = scan-before us vs (r .0) n (r .2) (omega arith) in
       (q .0, scan-cons u us h (r .0) (q .0) (r .1) (q .1))
 
-  -- ---- what is held when a scan ends: what it went through with, or what the uses before the one that it can't admit leave
+  -- ---- what is held when a scan ends: what it went through with, or what the uses before the one that it can't admit
+  -- leave
 
   pub held-through : (us : List Use) (h g : Held) → scan job st us h ≡ through g → heldBy job st us h ≡ g
   unfolding scan heldBy
   held-through [] h g e = cc
   held-through (u ∷ us) h g e = let r = scan-step u us h g e in rw (r .1, heldBy) (held-through us (r .0) g (r .2))
 
-  pub held-before : (us : List Use) (h : Held) (n : ℕ) → scan job st us h ≡ fails-at n → scan job st (take n us) h ≡ through (heldBy job st us h)
+  pub held-before : (us : List Use) (h : Held) (n : ℕ) → scan job st us h ≡ fails-at n
+      → scan job st (take n us) h ≡ through (heldBy job st us h)
   unfolding scan heldBy
   held-before [] h n e = let z : _≡_ {A = ℕ} 0 1 = cc in absurd (omega arith)
   held-before (u ∷ us) h zero e = rw (scan-first u us h e, heldBy) refl

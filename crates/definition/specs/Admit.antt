@@ -6,7 +6,11 @@ use mathlib.Core.List.{List, [], _∷_, _++_, map, reverse}
 use lib.Dec.{eqb}
 use lib.ListN.{length, getD, take, replicate}
 use lib.Ieee.{le}
-use Rattle.definition.specs.Types.{Inst, Value, ValueSet, RegClass, VirtReg, VirtRegGroup, UseKind, FixedDef, FixedUse, TiedUse, ConstraintConflict, ClassUse, ClassDef, GroupClassUse, GroupClassDef, BlockparamIn, BlockparamOut, Use, Operand, Job, HeldGroup, Held, Register, Mapped, State, Side, Early, Late, Stop, NoStart, TurnedDef, inst, vset, cls}
+use Rattle.definition.specs.Types.{Inst, Value, ValueSet, RegClass, VirtReg, VirtRegGroup, UseKind, FixedDef}
+use Rattle.definition.specs.Types.{FixedUse, TiedUse, ConstraintConflict, ClassUse, ClassDef, GroupClassUse}
+use Rattle.definition.specs.Types.{GroupClassDef, BlockparamIn, BlockparamOut, Use, Operand, Job, HeldGroup, Held}
+use Rattle.definition.specs.Types.{Register, Mapped, State, Side, Early, Late, Stop, NoStart, TurnedDef, inst}
+use Rattle.definition.specs.Types.{vset, cls}
 use Rattle.definition.specs.Limits.{maxGroup}
 use Rattle.definition.specs.RegInfo.{zeroF, classAt, commonSubclass, setOf}
 use Rattle.definition.specs.Uses.{isDef}
@@ -169,8 +173,8 @@ useAt us n = getD us n noUse
 unfoldable pub turning : List Use → ℕ → Move
 turning us n = cond (isDef (useAt us n .kind)) (halt TurnedDef) (turn n)
 
--- Change request 7. "The class at the end of a conflict is now the one that the backward scan held when it failed. The cut is early if the forward class costs
--- at least as much as that one, and late otherwise."
+-- Change request 7. "The class at the end of a conflict is now the one that the backward scan held when it failed. The
+-- cut is early if the forward class costs at least as much as that one, and late otherwise."
 unfoldable pub cutSide : Job → (forward end : RegClass) → Side
 unfolding le classAt
 cutSide job forward end = cond (le (classAt job end .cost) (classAt job forward .cost)) Early Late
@@ -206,7 +210,8 @@ unfoldable pub fromEnd : Job → State → RegClass → List Use → Scan → Mo
 unfolding scan fresh fromStart heldBy cutSide
 fromEnd job st top us (through h) = whole h
 fromEnd job st top us (fails-at e) =
-    fromStart job (cutSide job (forwardClass job st top us) (endClass job st top us e)) us e (scan job st (backFrom e us) (fresh top))
+    fromStart job (cutSide job (forwardClass job st top us) (endClass job st top us e)) us e
+    (scan job st (backFrom e us) (fresh top))
 
 unfoldable pub move : Job → State → RegClass → List Use → Move
 unfolding scan fresh fromEnd
