@@ -1,4 +1,5 @@
--- What holds of the cuts that the definition's moves make, on a job that meets the entry rules: `cut-least`, `cut-reason`, `cut-elsewhere`. Assumes nothing.
+-- What holds of the cuts that the definition's moves make, on a job that meets the entry rules: `cut-least`,
+-- `cut-reason`, `cut-elsewhere`. Assumes nothing.
 use mathlib.Core.Path.{_≡_, refl, sym, ap, _∙_, subst}
 use mathlib.Core.Bool.{Bool, true, false, not, cond}
 use mathlib.Core.Option.{none}
@@ -17,7 +18,8 @@ use Rattle.definition.specs.Types.{Job, State}
 use Rattle.definition.specs.RegInfo.{noClass, classAt}
 use Rattle.definition.specs.SplitPlacement.{earlyCut, sideOf}
 use Rattle.definition.specs.Admit.{cut, cutSide, forwardClass, endClass, move}
-use Rattle.definition.specs.Entry.{blockOk, bookOk, bookTests, classOk, classTests, conj, entry, entryTests, every, functionOk, functionTests, plain, small}
+use Rattle.definition.specs.Entry.{blockOk, bookOk, bookTests, classOk, classTests, conj, entry, entryTests, every}
+use Rattle.definition.specs.Entry.{functionOk, functionTests, plain, small}
 use Rattle.definition.proofs.Places.{all-getD, all-map}
 use Rattle.definition.proofs.Entries.{every-all, conj-all, lowest-none}
 use Rattle.definition.proofs.Moves.{CutAt, posAt, sideAt, move-cut}
@@ -26,9 +28,14 @@ use Rattle.split_placement.specs.Places.{LeastOpen}
 use Rattle.split_placement.proofs.Rules.{early-rule, late-rule}
 
 -- the cut of each side is a least one of its open places
-pub side-least : (side : Side) (bs : List BlockData) (after before : ℕ) → every blockOk bs ≡ true → LeastOpen side bs after before (sideOf side bs after before)
-side-least Early bs after before ok = let r = early-rule bs after before ok in record { place = r .place; least = r .least }
-side-least Late bs after before ok = let r = late-rule bs after before ok in record { place = r .place; least = r .least }
+pub side-least : (side : Side) (bs : List BlockData) (after before : ℕ) → every blockOk bs ≡ true
+    → LeastOpen side bs after before (sideOf side bs after before)
+side-least Early bs after before ok =
+    let r = early-rule bs after before ok in
+    record { place = r .place; least = r .least }
+side-least Late bs after before ok =
+    let r = late-rule bs after before ok in
+    record { place = r .place; least = r .least }
 
 plain-of : (cs : List ClassData) (d : ClassData) → classOk cs d ≡ true → T (plain (d .cost))
 unfolding classOk
@@ -44,7 +51,8 @@ module _ (job : Job) (ok : entry job ≡ none) where
   cost-plain c =
       let book = conj-all (bookTests job) (lowest-none (entryTests job) ok .1 .0) .1 .1 .0 in
       all-getD (λ (d : ClassData). T (plain (d .cost))) (job .classes) (c .0) noClass
-      (all-map (λ (d : ClassData). classOk (job .classes) d ≡ true) (λ (d : ClassData). T (plain (d .cost))) (plain-of (job .classes)) (job .classes) (every-all (classOk (job .classes)) (job .classes) book)) tt
+      (all-map (λ (d : ClassData). classOk (job .classes) d ≡ true) (λ (d : ClassData). T (plain (d .cost)))
+      (plain-of (job .classes)) (job .classes) (every-all (classOk (job .classes)) (job .classes) book)) tt
 
   module _ (st : State) (top : RegClass) (us : List Use) (p : Inst) (m : move job st top us ≡ cut p) where
     -- the start and the end that the scans found
@@ -67,10 +75,12 @@ module _ (job : Job) (ok : entry job ≡ none) where
     abbrev pub endCost : Float
     endCost = classAt job (endClass job st top us (found .end)) .cost
 
-    -- No open place of the cut's side, between that start and that end, has a lower frequency. Ruled out: a cut at the end of the dearer of two blocks;
-    -- the least place between two other instructions.
+    -- No open place of the cut's side, between that start and that end, has a lower frequency. Ruled out: a cut at the
+    -- end of the dearer of two blocks; the least place between two other instructions.
     pub cut-least : LeastOpen side (job .blocks) after before (p .0)
-    cut-least = subst (LeastOpen side (job .blocks) after before) (sym (found .place)) (side-least side (job .blocks) after before blocks-ok)
+    cut-least =
+        subst (LeastOpen side (job .blocks) after before) (sym (found .place))
+        (side-least side (job .blocks) after before blocks-ok)
 
     leans : side ≡ cond (lt forwardCost endCost) Late Early
     unfolding cutSide
@@ -82,9 +92,11 @@ module _ (job : Job) (ok : entry job ≡ none) where
         go true = refl
         go false = refl
 
-    -- No cut without a reason: it is late exactly where the class at the end costs more. Ruled out: a late cut between equal costs; an early one where the end costs more.
+    -- No cut without a reason: it is late exactly where the class at the end costs more. Ruled out: a late cut between
+    -- equal costs; an early one where the end costs more.
     pub cut-reason : (side ≡ Late → lt forwardCost endCost ≡ true) × (lt forwardCost endCost ≡ true → side ≡ Late)
-    cut-reason = (λ e. go (lt forwardCost endCost) refl (sym e ∙ leans), λ e. leans ∙ ap (λ (t : Bool). cond t Late Early) e)
+    cut-reason =
+        (λ e. go (lt forwardCost endCost) refl (sym e ∙ leans), λ e. leans ∙ ap (λ (t : Bool). cond t Late Early) e)
       where
         go : (t : Bool) → lt forwardCost endCost ≡ t → Late ≡ cond t Late Early → lt forwardCost endCost ≡ true
         go true e f = e
