@@ -25,11 +25,13 @@ module _ (W : List ℕ) (lay : Layout) (c : RegClass) (k : ℕ) where
   abbrev pub Costs : ℕ → Type 0
   Costs r = (r ≤ 0x4980_0000) × (ofBits binary32 r ≡ classAt (jobOf W lay) c .cost)
 
-  pub cost-known : (r : ℕ) → k ≡ c .0 → k < lay .classes .n → SmallBook W lay → r ≡ getD W (lay .classes .at + k * 4 + 1) 0 → Costs r
+  pub cost-known : (r : ℕ) → k ≡ c .0 → k < lay .classes .n → SmallBook W lay
+      → r ≡ getD W (lay .classes .at + k * 4 + 1) 0 → Costs r
   unfolding classRow
   cost-known r e l s h = (
     omega (arith, h, s .costs k l),
-    ap (ofBits binary32) h ∙ ap (λ (d : ClassData). d .cost) (class-known W lay c k (classRow W (lay .classes .at + k * 4)) e l s refl .0),
+    ap (ofBits binary32) h
+        ∙ ap (λ (d : ClassData). d .cost) (class-known W lay c k (classRow W (lay .classes .at + k * 4)) e l s refl .0),
   )
 
   pub cost-past : k ≡ c .0 → lay .classes .n ≤ k → Costs 0
@@ -38,8 +40,8 @@ module _ (W : List ℕ) (lay : Layout) (c : RegClass) (k : ℕ) where
 
 -- ---- the side of a cut
 
-module _ (job : Job) (forward end : RegClass) (f e : ℕ) (lf : f ≤ 0x4980_0000) (l : e ≤ 0x4980_0000) (ef : ofBits binary32 f ≡ classAt job forward .cost)
-    (ee : ofBits binary32 e ≡ classAt job end .cost) where
+module _ (job : Job) (forward end : RegClass) (f e : ℕ) (lf : f ≤ 0x4980_0000) (l : e ≤ 0x4980_0000)
+    (ef : ofBits binary32 f ≡ classAt job forward .cost) (ee : ofBits binary32 e ≡ classAt job end .cost) where
   by-bits : (t : Bool) → leb e f ≡ t → cond t Early Late ≡ cutSide job forward end
   unfolding cutSide
   by-bits t q =

@@ -55,7 +55,8 @@ held-end job st h = refl
 
 -- ---- what is left gives the whole answer
 
--- the scan of `all` from h₀ on is that of `rest` from h on, behind k uses, and ends with the same held, in each state that S names
+-- the scan of `all` from h₀ on is that of `rest` from h on, behind k uses, and ends with the same held, in each state
+-- that S names
 pub record Along (S : State → Type 0) (job : Job) (all : List Use) (h₀ : types.Held) (k : ℕ) (rest : List Use) (h : types.Held) : Type 0 where
   pub is : (st : State) → S st → scan job st all h₀ ≡ shifted k (scan job st rest h)
   pub held : (st : State) → S st → heldBy job st all h₀ ≡ heldBy job st rest h
@@ -76,7 +77,8 @@ module _ {S : State → Type 0} {job : Job} {all : List Use} {h₀ : types.Held}
       let no = answer-no r _ (e st s) q in
       (f .is st s ∙ shift-no job st k u us h no, f .held st s ∙ held-no job st k u us h no)
 
-along-end : {S : State → Type 0} {job : Job} {all : List Use} {h₀ : types.Held} {k : ℕ} {h : types.Held} → Along S job all h₀ k [] h → (st : State) → S st
+along-end : {S : State → Type 0} {job : Job} {all : List Use} {h₀ : types.Held} {k : ℕ} {h : types.Held}
+    → Along S job all h₀ k [] h → (st : State) → S st
     → (scan job st all h₀ ≡ through h) × (heldBy job st all h₀ ≡ h)
 along-end {S} {job} {all} {h₀} {k} {h} f st s = (f .is st s ∙ shift-end job st k h, f .held st s ∙ held-end job st h)
 
@@ -111,14 +113,19 @@ module _ {S : State → Type 0} {job : Job} {f : ℕ → Use} {a b : ℕ} {h₀ 
       }
 
   pub forward-stop : (r : Admission) → n < b → ((st : State) → S st → admissionOf r ≡ admit job st (heldOf h) (f n)) → r .ok ≡ false
-      → (st : State) → S st → Ends job st (tab f a (b - a)) (heldOf h₀) (scanOf a (record { ok = false; at = n; held = h })) h
+      → (st : State) → S st
+      → Ends job st (tab f a (b - a)) (heldOf h₀) (scanOf a (record { ok = false; at = n; held = h })) h
   unfolding scanOf
   forward-stop r l e q st s = let t = along-stop (first l) r e q st s in (sym (t .0), sym (t .1))
 
-  pub forward-end : b ≤ n → (st : State) → S st → Ends job st (tab f a (b - a)) (heldOf h₀) (scanOf a (record { ok = true; at = n; held = h })) h
+  pub forward-end : b ≤ n → (st : State) → S st
+      → Ends job st (tab f a (b - a)) (heldOf h₀) (scanOf a (record { ok = true; at = n; held = h })) h
   unfolding scanOf
   forward-end l st s =
-      let t = along-end (subst (λ (us : List Use). Along S job (tab f a (b - a)) (heldOf h₀) (n - a) us (heldOf h)) (tab-done f n b l) (w .along)) st s in
+      let g =
+      subst (λ (us : List Use). Along S job (tab f a (b - a)) (heldOf h₀) (n - a) us (heldOf h)) (tab-done f n b l)
+      (w .along) in
+      let t = along-end g st s in
       (sym (t .0), sym (t .1))
 
 -- ---- backwards: uses e down to a; those below n are left
@@ -164,7 +171,8 @@ module _ {S : State → Type 0} {job : Job} {f : ℕ → Use} {a e : ℕ} {h₀ 
       }
 
   pub backward-stop : (r : Admission) → ((st : State) → S st → admissionOf r ≡ admit job st (heldOf h) (f m)) → r .ok ≡ false
-      → (st : State) → S st → Ends job st (down (after f a) (e + 1 - a)) (heldOf h₀) (backOf e (record { ok = false; at = m; held = h })) h
+      → (st : State) → S st
+      → Ends job st (down (after f a) (e + 1 - a)) (heldOf h₀) (backOf e (record { ok = false; at = m; held = h })) h
   unfolding backOf
   backward-stop r ea q st s =
       let z : e - m ≡ e + 1 - n = omega (arith, w .to-e) in
@@ -172,9 +180,14 @@ module _ {S : State → Type 0} {job : Job} {f : ℕ → Use} {a e : ℕ} {h₀ 
       (sym (t .0 ∙ sym (ap fails-at z)), sym (t .1))
 
 pub backward-end : {S : State → Type 0} {job : Job} {f : ℕ → Use} {a e : ℕ} {h₀ : Held} {n : ℕ} {h : Held} → Backward S job f a e h₀ n h → n ≤ a
-    → (st : State) → S st → Ends job st (down (after f a) (e + 1 - a)) (heldOf h₀) (backOf e (record { ok = true; at = n; held = h })) h
+    → (st : State) → S st
+    → Ends job st (down (after f a) (e + 1 - a)) (heldOf h₀) (backOf e (record { ok = true; at = n; held = h })) h
 unfolding backOf
 backward-end {S} {job} {f} {a} {e} {h₀} {n} {h} w l st s =
     let z : n - a ≡ 0 = omega arith in
-    let t = along-end (subst (λ (k : ℕ). Along S job (down (after f a) (e + 1 - a)) (heldOf h₀) (e + 1 - n) (down (after f a) k) (heldOf h)) z (w .along)) st s in
+    let g =
+    subst
+    (λ (k : ℕ). Along S job (down (after f a) (e + 1 - a)) (heldOf h₀) (e + 1 - n) (down (after f a) k) (heldOf h))
+    z (w .along) in
+    let t = along-end g st s in
     (sym (t .0), sym (t .1))

@@ -18,7 +18,8 @@ use Rattle.definition.specs.Types.{Job, State, inst}
 use Rattle.definition.specs.Types as types
 use Rattle.definition.specs.Uses.{isDef}
 use Rattle.definition.specs.SplitPlacement.{freqAt, starts, ends, keep, earliest, earlyCut, lateFrom, lateCut, sideOf}
-use Rattle.definition.specs.Admit.{Scan, scan, heldBy, fresh, Move, turn, cut, halt, noUse, useAt, turning, cutSide, parted, backFrom, forwardClass, endClass, fromStart, fromEnd, move}
+use Rattle.definition.specs.Admit.{Scan, scan, heldBy, fresh, Move, turn, cut, halt, noUse, useAt, turning, cutSide}
+use Rattle.definition.specs.Admit.{parted, backFrom, forwardClass, endClass, fromStart, fromEnd, move}
 use Rattle.constraints.specs.declared.Held.{Held}
 use Rattle.constraints.specs.Held.{heldOf}
 use Rattle.scans.specs.declared.ScanAnswer.{ScanAnswer}
@@ -48,9 +49,11 @@ early-behind bs x y r l e =
 
 pub late-behind : (bs : List BlockData) (x y : ℕ) → y ≤ x → y ≡ lateCut bs x y
 unfolding lateCut lateFrom
-late-behind bs x y l = sym (ap (λ (c : List ℕ). lateFrom (λ i. freqAt bs (i - 1)) c y) (keep-none _ (ends 0 bs) (none-between x y l)))
+late-behind bs x y l =
+    sym (ap (λ (c : List ℕ). lateFrom (λ i. freqAt bs (i - 1)) c y) (keep-none _ (ends 0 bs) (none-between x y l)))
 
-pub by-side : (side k : Side) (bs : List BlockData) (x y r : ℕ) → side ≡ k → r ≡ sideOf k bs x y → r ≡ sideOf side bs x y
+pub by-side : (side k : Side) (bs : List BlockData) (x y r : ℕ) → side ≡ k → r ≡ sideOf k bs x y
+    → r ≡ sideOf side bs x y
 by-side side k bs x y r e q = q ∙ ap (λ (t : Side). sideOf t bs x y) (sym e)
 
 -- ---- uses a to b - 1, read by f
@@ -73,8 +76,11 @@ module _ (f : ℕ → Use) (a b n : ℕ) (l : a ≤ n) (m : n < b) where
       sym (ap (λ (x : Bool). cond x (halt TurnedDef) (turn (n - a))) (ap (λ (w : Use). isDef (w .kind)) (use-here ∙ sym eu) ∙ sym ed ∙ t))
 
 -- start and end
-module _ (job : Job) (side : Side) (f : ℕ → Use) (a b s e : ℕ) (ls : a ≤ s) (ms : s < b) (le : a ≤ e) (me : e < b) (x y : Use) (ex : x ≡ f s) (ey : y ≡ f e) where
-  pub parted-is : (o : Move) → o ≡ cond (eqb (x .pos .0) (y .pos .0)) (turning (tab f a (b - a)) (cond (isDef (y .kind)) (s - a) (e - a))) (cut (inst (sideOf side (job .blocks) (x .pos .0) (y .pos .0))))
+module _ (job : Job) (side : Side) (f : ℕ → Use) (a b s e : ℕ) (ls : a ≤ s) (ms : s < b) (le : a ≤ e) (me : e < b)
+    (x y : Use) (ex : x ≡ f s) (ey : y ≡ f e) where
+  pub parted-is : (o : Move)
+      → o ≡ cond (eqb (x .pos .0) (y .pos .0)) (turning (tab f a (b - a)) (cond (isDef (y .kind)) (s - a) (e - a)))
+      (cut (inst (sideOf side (job .blocks) (x .pos .0) (y .pos .0))))
       → o ≡ parted job side (tab f a (b - a)) (s - a) (e - a)
   unfolding parted
   parted-is o q =
@@ -82,26 +88,33 @@ module _ (job : Job) (side : Side) (f : ℕ → Use) (a b s e : ℕ) (ls : a ≤
       let hy : y ≡ useAt (tab f a (b - a)) (e - a) = ey ∙ sym (use-here f a b e le me) in
       q
       ∙ ap₂
-      (λ (u w : Use). cond (eqb (u .pos .0) (w .pos .0)) (turning (tab f a (b - a)) (cond (isDef (w .kind)) (s - a) (e - a))) (cut (inst (sideOf side (job .blocks) (u .pos .0) (w .pos .0)))))
+      (λ (u w : Use).
+      cond (eqb (u .pos .0) (w .pos .0)) (turning (tab f a (b - a)) (cond (isDef (w .kind)) (s - a) (e - a)))
+      (cut (inst (sideOf side (job .blocks) (u .pos .0) (w .pos .0)))))
       hx hy
 
-  pub part-start : (o : Move) (d : Bool) → x .pos .0 ≡ y .pos .0 → d ≡ isDef (y .kind) → d ≡ true → o ≡ turning (tab f a (b - a)) (s - a) → o ≡ parted job side (tab f a (b - a)) (s - a) (e - a)
+  pub part-start : (o : Move) (d : Bool) → x .pos .0 ≡ y .pos .0 → d ≡ isDef (y .kind) → d ≡ true
+      → o ≡ turning (tab f a (b - a)) (s - a) → o ≡ parted job side (tab f a (b - a)) (s - a) (e - a)
   part-start o d p ed t q = parted-is o (q ∙ rw (eq-eqb _ _ p, ← ed, t))
 
-  pub part-end : (o : Move) (d : Bool) → x .pos .0 ≡ y .pos .0 → d ≡ isDef (y .kind) → d ≡ false → o ≡ turning (tab f a (b - a)) (e - a) → o ≡ parted job side (tab f a (b - a)) (s - a) (e - a)
+  pub part-end : (o : Move) (d : Bool) → x .pos .0 ≡ y .pos .0 → d ≡ isDef (y .kind) → d ≡ false
+      → o ≡ turning (tab f a (b - a)) (e - a) → o ≡ parted job side (tab f a (b - a)) (s - a) (e - a)
   part-end o d p ed t q = parted-is o (q ∙ rw (eq-eqb _ _ p, ← ed, t))
 
-  pub part-cut : (h : types.Held) (r : Inst) (bs : List BlockData) → (x .pos .0 ≡ y .pos .0 → ⊥) → job .blocks ≡ bs → r .0 ≡ sideOf side bs (x .pos .0) (y .pos .0)
+  pub part-cut : (h : types.Held) (r : Inst) (bs : List BlockData) → (x .pos .0 ≡ y .pos .0 → ⊥) → job .blocks ≡ bs
+      → r .0 ≡ sideOf side bs (x .pos .0) (y .pos .0)
       → kindMove a h (Cut r) ≡ parted job side (tab f a (b - a)) (s - a) (e - a)
   unfolding kindMove
   part-cut h r bs ne eb er =
       parted-is (cut r)
-      (ap (λ (n : ℕ). cut (inst n)) er ∙ ap (λ (l : List BlockData). cut (inst (sideOf side l (x .pos .0) (y .pos .0)))) (sym eb) ∙ rw (ne-eqb _ _ ne))
+      (ap (λ (n : ℕ). cut (inst n)) er
+      ∙ ap (λ (l : List BlockData). cut (inst (sideOf side l (x .pos .0) (y .pos .0)))) (sym eb) ∙ rw (ne-eqb _ _ ne))
 
 -- ---- the whole
 
 -- the uses from e back to a
-backs : (f : ℕ → Use) (a b e : ℕ) → a ≤ e → e < b → down (λ j. f (a + j)) (e + 1 - a) ≡ backFrom (e - a) (tab f a (b - a))
+backs : (f : ℕ → Use) (a b e : ℕ) → a ≤ e → e < b
+    → down (λ j. f (a + j)) (e + 1 - a) ≡ backFrom (e - a) (tab f a (b - a))
 backs f a b e l m =
     let z : suc (e - a) ≡ e + 1 - a = omega arith in
     down-reverse (λ j. f (a + j)) (e + 1 - a)
@@ -113,16 +126,20 @@ pub back-is : (job : Job) (st : State) (f : ℕ → Use) (a b e : ℕ) (h : type
     → Ends job st (down (λ j. f (a + j)) (e + 1 - a)) h s g → Ends job st (backFrom (e - a) (tab f a (b - a))) h s g
 back-is job st f a b e h s g l m q = subst (λ (us : List Use). Ends job st us h s g) (backs f a b e l m) q
 
-module _ (job : Job) (st : State) (top : RegClass) (us : List Use) (h : types.Held) (fr : h ≡ fresh top) (a : ℕ) (r : ScanAnswer) (er : Ends job st us h (scanOf a r) (r .held)) where
+module _ (job : Job) (st : State) (top : RegClass) (us : List Use) (h : types.Held) (fr : h ≡ fresh top) (a : ℕ)
+    (r : ScanAnswer) (er : Ends job st us h (scanOf a r) (r .held)) where
   forth : move job st top us ≡ fromEnd job st top us (scanOf a r)
   unfolding move
-  forth = ap (λ (g : types.Held). fromEnd job st top us (scan job st us g)) (sym fr) ∙ ap (fromEnd job st top us) (sym (er .0))
+  forth =
+      ap (λ (g : types.Held). fromEnd job st top us (scan job st us g)) (sym fr)
+      ∙ ap (fromEnd job st top us) (sym (er .0))
 
   pub move-whole : r .ok ≡ true → moveOf a (record { kind = Whole; held = r .held }) ≡ move job st top us
   unfolding moveOf kindMove scanOf fromEnd
   move-whole q = sym (forth ∙ rw q)
 
-  module _ (no : r .ok ≡ false) (back : ScanAnswer) (eb : Ends job st (backFrom (r .at - a) us) h (backOf (r .at) back) (back .held)) where
+  module _ (no : r .ok ≡ false) (back : ScanAnswer)
+      (eb : Ends job st (backFrom (r .at - a) us) h (backOf (r .at) back) (back .held)) where
     -- the side of the classes that are held where the scans end
     abbrev pub side : Side
     side = cutSide job (r .held .class) (back .held .class)
@@ -131,7 +148,9 @@ module _ (job : Job) (st : State) (top : RegClass) (us : List Use) (h : types.He
     sides : cutSide job (forwardClass job st top us) (endClass job st top us (r .at - a)) ≡ side
     unfolding heldOf
     sides =
-        ap (λ (g : types.Held). cutSide job (heldBy job st us g .class) (heldBy job st (backFrom (r .at - a) us) g .class)) (sym fr)
+        ap
+        (λ (g : types.Held). cutSide job (heldBy job st us g .class) (heldBy job st (backFrom (r .at - a) us) g .class))
+        (sym fr)
         ∙ ap₂ (λ (f g : types.Held). cutSide job (f .class) (g .class)) (sym (er .1)) (sym (eb .1))
 
     back-forth : move job st top us ≡ fromStart job side us (r .at - a) (backOf (r .at) back)
@@ -139,7 +158,11 @@ module _ (job : Job) (st : State) (top : RegClass) (us : List Use) (h : types.He
     back-forth =
         forth
         ∙ rw no
-        (ap (λ (g : types.Held). fromStart job (cutSide job (forwardClass job st top us) (endClass job st top us (r .at - a))) us (r .at - a) (scan job st (backFrom (r .at - a) us) g)) (sym fr)
+        (ap
+        (λ (g : types.Held).
+        fromStart job (cutSide job (forwardClass job st top us) (endClass job st top us (r .at - a))) us (r .at - a)
+        (scan job st (backFrom (r .at - a) us) g))
+        (sym fr)
         ∙ ap₂ (λ (d : Side) (s : Scan). fromStart job d us (r .at - a) s) sides (sym (eb .0)))
 
     pub move-halt : back .ok ≡ true → moveOf a (record { kind = Halt NoStart; held = r .held }) ≡ move job st top us
@@ -147,7 +170,8 @@ module _ (job : Job) (st : State) (top : RegClass) (us : List Use) (h : types.He
     move-halt q = sym (back-forth ∙ rw q)
 
     pub move-part : (k : MoveKind) → back .ok ≡ false → a ≤ back .at → back .at ≤ r .at
-        → kindMove a (heldOf (r .held)) k ≡ parted job side us (back .at - a) (r .at - a) → moveOf a (record { kind = k; held = r .held }) ≡ move job st top us
+        → kindMove a (heldOf (r .held)) k ≡ parted job side us (back .at - a) (r .at - a)
+        → moveOf a (record { kind = k; held = r .held }) ≡ move job st top us
     unfolding moveOf backOf fromStart
     move-part k q l m e =
         let z : back .at - a ≡ r .at - a - (r .at - back .at) = omega arith in

@@ -111,7 +111,11 @@ pub fn scan_uses(
 ) -> ScanAnswer
     requires { ⌜ Ready (wordCount (now job)) (wordCount (now work)) (wordsOf (now job)) (wordsOf (now work)) lay wl × (tablesEnd ol ≤ wordCount (now out)) × (a ≤ b) × (b ≤ lay .uses .n) × (0 < lay .segments .n) ⌝ }
     ensures { λ r. ⌜ (a ≤ r .at) × (r .ok ≡ false → r .at < b) ⌝ }
-    ensures { λ r. ⌜ ((st : State) → Stands ol (wordsOf (now (out .entry))) (wordsOf (now (job .entry))) (wordsOf (now (work .entry))) lay wl st → Ends (jobOf (wordsOf (now (job .entry))) lay) st (tab (markedUse (wordsOf (now (work .entry))) (wl .marks) (wordsOf (now (job .entry))) lay) a (b - a)) (heldOf first) (scanOf a r) (r .held)) ⌝ }
+    ensures { λ r. ⌜ ((st : State)
+        → Stands ol (wordsOf (now (out .entry))) (wordsOf (now (job .entry))) (wordsOf (now (work .entry))) lay wl st
+        → Ends (jobOf (wordsOf (now (job .entry))) lay) st
+        (tab (markedUse (wordsOf (now (work .entry))) (wl .marks) (wordsOf (now (job .entry))) lay) a (b - a))
+        (heldOf first) (scanOf a r) (r .held)) ⌝ }
 {
     let mut held = first;
     let mut n = a;
@@ -148,7 +152,11 @@ pub fn scan_back(
 ) -> ScanAnswer
     requires { ⌜ Ready (wordCount (now job)) (wordCount (now work)) (wordsOf (now job)) (wordsOf (now work)) lay wl × (tablesEnd ol ≤ wordCount (now out)) × (a ≤ e) × (e < lay .uses .n) × (0 < lay .segments .n) ⌝ }
     ensures { λ r. ⌜ (a ≤ r .at) × (r .ok ≡ false → r .at ≤ e) ⌝ }
-    ensures { λ r. ⌜ ((st : State) → Stands ol (wordsOf (now (out .entry))) (wordsOf (now (job .entry))) (wordsOf (now (work .entry))) lay wl st → Ends (jobOf (wordsOf (now (job .entry))) lay) st (down (λ j. markedUse (wordsOf (now (work .entry))) (wl .marks) (wordsOf (now (job .entry))) lay (a + j)) (e + 1 - a)) (heldOf first) (backOf e r) (r .held)) ⌝ }
+    ensures { λ r. ⌜ ((st : State)
+        → Stands ol (wordsOf (now (out .entry))) (wordsOf (now (job .entry))) (wordsOf (now (work .entry))) lay wl st
+        → Ends (jobOf (wordsOf (now (job .entry))) lay) st
+        (down (λ j. markedUse (wordsOf (now (work .entry))) (wl .marks) (wordsOf (now (job .entry))) lay (a + j))
+        (e + 1 - a)) (heldOf first) (backOf e r) (r .held)) ⌝ }
 {
     let mut held = first;
     let mut n = e + 1;
@@ -200,8 +208,10 @@ fn early_at(lay: Layout, work: &[u8], wl: WorkLayout, x: Inst, y: Inst) -> Inst
 
 // The late cut between them.
 fn late_at(lay: Layout, work: &[u8], wl: WorkLayout, x: Inst, y: Inst) -> Inst
-    requires { ⌜ (0 < lay .blocks .n) × (lay .blocks .n ≤ 512) × (wl .starts + lay .blocks .n * 2 + 2 ≤ wordCount (now work)) × (x .0 < 4096) ⌝ }
-    ensures { λ r. ⌜ ((bs : List BlockData) → Starts (wordsOf (now (work .entry))) (wl .starts) bs → length bs ≡ lay .blocks .n → y .0 < instsOf bs → r .0 ≡ lateCut bs (x .0) (y .0)) ⌝ }
+    requires { ⌜ (0 < lay .blocks .n) × (lay .blocks .n ≤ 512)
+        × (wl .starts + lay .blocks .n * 2 + 2 ≤ wordCount (now work)) × (x .0 < 4096) ⌝ }
+    ensures { λ r. ⌜ ((bs : List BlockData) → Starts (wordsOf (now (work .entry))) (wl .starts) bs
+        → length bs ≡ lay .blocks .n → y .0 < instsOf bs → r .0 ≡ lateCut bs (x .0) (y .0)) ⌝ }
 {
     if x.0 < y.0 {
         let at = wl.starts;
@@ -214,7 +224,8 @@ fn late_at(lay: Layout, work: &[u8], wl: WorkLayout, x: Inst, y: Inst) -> Inst
 // The bits of the cost of class c; an unknown class costs nothing.
 fn cost_bits(job: &[u8], lay: Layout, c: RegClass) -> u32
     requires { ⌜ Fits (wordCount (now job)) lay × SmallBook (wordsOf (now job)) lay ⌝ }
-    ensures { λ r. ⌜ (r ≤ 0x4980_0000) × (ofBits binary32 r ≡ classAt (jobOf (wordsOf (now (job .entry))) lay) c .cost) ⌝ }
+    ensures { λ r. ⌜ (r ≤ 0x4980_0000)
+        × (ofBits binary32 r ≡ classAt (jobOf (wordsOf (now (job .entry))) lay) c .cost) ⌝ }
 {
     let k = c.0 as usize;
     let n = lay.classes.n;
@@ -250,8 +261,11 @@ fn cut_at(
     x: Inst,
     y: Inst,
 ) -> Inst
-    requires { ⌜ Ready (wordCount (now job)) (wordCount (now work)) (wordsOf (now job)) (wordsOf (now work)) lay wl × SmallBook (wordsOf (now job)) lay × (x .0 < 4096) × (y .0 < instsOf (blocksAt (wordsOf (now job)) (lay .blocks .at) (lay .blocks .n))) ⌝ }
-    ensures { λ r. ⌜ r .0 ≡ sideOf (cutSide (jobOf (wordsOf (now (job .entry))) lay) forward end) (blocksAt (wordsOf (now (job .entry))) (lay .blocks .at) (lay .blocks .n)) (x .0) (y .0) ⌝ }
+    requires { ⌜ Ready (wordCount (now job)) (wordCount (now work)) (wordsOf (now job)) (wordsOf (now work)) lay wl
+        × SmallBook (wordsOf (now job)) lay × (x .0 < 4096)
+        × (y .0 < instsOf (blocksAt (wordsOf (now job)) (lay .blocks .at) (lay .blocks .n))) ⌝ }
+    ensures { λ r. ⌜ r .0 ≡ sideOf (cutSide (jobOf (wordsOf (now (job .entry))) lay) forward end)
+        (blocksAt (wordsOf (now (job .entry))) (lay .blocks .at) (lay .blocks .n)) (x .0) (y .0) ⌝ }
 {
     match cut_side(job, lay, forward, end) {
         Side::Early => early_at(lay, work, wl, x, y),
@@ -259,8 +273,8 @@ fn cut_at(
     }
 }
 
-// What start s and end e lead to. If they share an instruction the end is turned, or the start where the end is a definition; else a cut is made between them,
-// of the side of the classes that the scans held when they failed.
+// What start s and end e lead to. If they share an instruction the end is turned, or the start where the end is a
+// definition; else a cut is made between them, of the side of the classes that the scans held when they failed.
 fn part_at(
     job: &[u8],
     lay: Layout,
@@ -271,8 +285,13 @@ fn part_at(
     s: usize,
     e: usize,
 ) -> MoveKind
-    requires { ⌜ Ready (wordCount (now job)) (wordCount (now work)) (wordsOf (now job)) (wordsOf (now work)) lay wl × (s < lay .uses .n) × (e < lay .uses .n) × (0 < lay .segments .n) × SmallBook (wordsOf (now job)) lay ⌝ }
-    ensures { λ r. ⌜ ((h : types.Held) (a b : ℕ) → a ≤ s → s < b → a ≤ e → e < b → kindMove a h r ≡ parted (jobOf (wordsOf (now (job .entry))) lay) (cutSide (jobOf (wordsOf (now (job .entry))) lay) forward end) (tab (markedUse (wordsOf (now (work .entry))) (wl .marks) (wordsOf (now (job .entry))) lay) a (b - a)) (s - a) (e - a)) ⌝ }
+    requires { ⌜ Ready (wordCount (now job)) (wordCount (now work)) (wordsOf (now job)) (wordsOf (now work)) lay wl
+        × (s < lay .uses .n) × (e < lay .uses .n) × (0 < lay .segments .n) × SmallBook (wordsOf (now job)) lay ⌝ }
+    ensures { λ r. ⌜ ((h : types.Held) (a b : ℕ) → a ≤ s → s < b → a ≤ e → e < b
+        → kindMove a h r ≡ parted (jobOf (wordsOf (now (job .entry))) lay)
+        (cutSide (jobOf (wordsOf (now (job .entry))) lay) forward end)
+        (tab (markedUse (wordsOf (now (work .entry))) (wl .marks) (wordsOf (now (job .entry))) lay) a (b - a))
+        (s - a) (e - a)) ⌝ }
 {
     let x = marked_use(job, lay, work, wl, s);
     let y = marked_use(job, lay, work, wl, e);
@@ -300,7 +319,9 @@ pub fn next_move(
     a: usize,
     b: usize,
 ) -> MoveAnswer
-    requires { ⌜ Ready (wordCount (now job)) (wordCount (now work)) (wordsOf (now job)) (wordsOf (now work)) lay wl × (tablesEnd ol ≤ wordCount (now out)) × (a ≤ b) × (b ≤ lay .uses .n) × (0 < lay .segments .n) × SmallBook (wordsOf (now job)) lay ⌝ }
+    requires { ⌜ Ready (wordCount (now job)) (wordCount (now work)) (wordsOf (now job)) (wordsOf (now work)) lay wl
+        × (tablesEnd ol ≤ wordCount (now out)) × (a ≤ b) × (b ≤ lay .uses .n) × (0 < lay .segments .n)
+        × SmallBook (wordsOf (now job)) lay ⌝ }
     ensures { λ r. ⌜ ((st : State) → Stands ol (wordsOf (now (out .entry))) (wordsOf (now (job .entry))) (wordsOf (now (work .entry))) lay wl st → moveOf a r ≡ move (jobOf (wordsOf (now (job .entry))) lay) st top (tab (markedUse (wordsOf (now (work .entry))) (wl .marks) (wordsOf (now (job .entry))) lay) a (b - a))) ⌝ }
 {
     let first = fresh_held(top);

@@ -25,13 +25,24 @@ returns : tie.Need-returns
 returns c =
     let side = c .before .before .before in
     let s = side .before .before .before in
-    by-side _ _ _ _ _ _ (sym (side .cut-side .ensures) ∙ c .before .enum-told .given .1) (c .early-at .ensures _ (s .pre .0 .starts) (length-rows-at blockRow _ _ 2 _) (s .pre .3))
+    by-side _ _ _ _ _ _ (sym (side .cut-side .ensures) ∙ c .before .enum-told .given .1)
+    (c .early-at .ensures _ (s .pre .0 .starts) (length-rows-at blockRow _ _ 2 _) (s .pre .3))
 
 returns-2 : tie.Need-returns-2
 returns-2 c =
     let side = c .before .before .before in
     let s = side .before .before .before in
-    by-side _ _ _ _ _ _ (sym (side .cut-side .ensures) ∙ c .before .enum-told2 .given .1) (c .late-at .ensures _ (s .pre .0 .starts) (length-rows-at blockRow _ _ 2 _) (s .pre .3))
+    by-side _ _ _ _ _ _ (sym (side .cut-side .ensures) ∙ c .before .enum-told2 .given .1)
+    (c .late-at .ensures _ (s .pre .0 .starts) (length-rows-at blockRow _ _ 2 _) (s .pre .3))
 
 pub cut-at-spec : {M : Type 1} → statement M
-cut-at-spec = tie.close (tie.spec cut-side-requires (λ c. search needs) early-at-requires (λ c. search needs) late-at-requires returns returns-2)
+cut-at-spec =
+    tie.close
+    (tie.spec
+    cut-side-requires
+    (λ c. search needs)
+    early-at-requires
+    (λ c. search needs)
+    late-at-requires
+    returns
+    returns-2)

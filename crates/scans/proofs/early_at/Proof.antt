@@ -8,4 +8,6 @@ returns-2 : tie.Need-returns-2
 returns-2 c bs hs l b = early-behind bs _ _ _ (c .before .if1 .left) refl
 
 pub early-at-spec : {M : Type 1} → statement M
-early-at-spec = tie.close (tie.spec (λ c. search needs) (λ c κs. search needs) (λ c. search needs) (λ c. search needs) returns-2)
+early-at-spec =
+    tie.close
+    (tie.spec (λ c. search needs) (λ c κs. search needs) (λ c. search needs) (λ c. search needs) returns-2)

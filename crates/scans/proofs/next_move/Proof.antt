@@ -18,7 +18,8 @@ returns-2 c st hs =
     let f = c .before .before .before .before in
     let r = f .scan-uses .ensures in
     let no = c .before .before .if1 .left in
-    move-halt _ st _ _ _ (f .before .fresh-held .ensures) _ _ (r .1 st hs) no _ (back-is _ st _ _ _ _ _ _ _ (r .0 .0) (r .0 .1 no) (c .before .scan-back .ensures .1 st hs)) (c .if2 .taken)
+    move-halt _ st _ _ _ (f .before .fresh-held .ensures) _ _ (r .1 st hs) no _
+    (back-is _ st _ _ _ _ _ _ _ (r .0 .0) (r .0 .1 no) (c .before .scan-back .ensures .1 st hs)) (c .if2 .taken)
 
 part-at-requires : tie.Need-part-at-requires
 part-at-requires c κs =
@@ -35,7 +36,8 @@ returns-3 c st hs =
     let no = c .before .before .before .before .if1 .left in
     let b = c .before .before .before .scan-back .ensures in
     let nb = c .before .before .if2 .left in
-    move-part _ st _ _ _ (f .before .fresh-held .ensures) _ _ (r .1 st hs) no _ (back-is _ st _ _ _ _ _ _ _ (r .0 .0) (r .0 .1 no) (b .1 st hs)) _ nb (b .0 .0) (b .0 .1 nb)
+    move-part _ st _ _ _ (f .before .fresh-held .ensures) _ _ (r .1 st hs) no _
+    (back-is _ st _ _ _ _ _ _ _ (r .0 .0) (r .0 .1 no) (b .1 st hs)) _ nb (b .0 .0) (b .0 .1 nb)
     (c .part-at .ensures _ _ _ (b .0 .0) (omega (arith, b .0 .1 nb, r .0 .1 no)) (r .0 .0) (r .0 .1 no))
 
 pub next-move-spec : {M : Type 1} → statement M

@@ -9,12 +9,16 @@ use Rattle.scans.proofs.part_at.Tie as tie
 returns : tie.Need-returns
 returns c h a b ls ms le me =
     let y = c .before .before .before .before .before .before .before .before in
-    part-start _ _ _ a b _ _ ls ms le me _ _ (y .before .marked-use .ensures) (y .marked-use2 .ensures) _ _ (c .before .before .before .if1 .taken) (c .before .before .is-def .ensures) (c .before .if2 .taken) (c .turn-at .ensures h a b ls ms)
+    part-start _ _ _ a b _ _ ls ms le me _ _ (y .before .marked-use .ensures) (y .marked-use2 .ensures) _ _
+    (c .before .before .before .if1 .taken) (c .before .before .is-def .ensures) (c .before .if2 .taken)
+    (c .turn-at .ensures h a b ls ms)
 
 returns-2 : tie.Need-returns-2
 returns-2 c h a b ls ms le me =
     let y = c .before .before .before .before .before .before .before .before in
-    part-end _ _ _ a b _ _ ls ms le me _ _ (y .before .marked-use .ensures) (y .marked-use2 .ensures) _ _ (c .before .before .before .if1 .taken) (c .before .before .is-def .ensures) (c .before .if2 .left) (c .turn-at2 .ensures h a b le me)
+    part-end _ _ _ a b _ _ ls ms le me _ _ (y .before .marked-use .ensures) (y .marked-use2 .ensures) _ _
+    (c .before .before .before .if1 .taken) (c .before .before .is-def .ensures) (c .before .if2 .left)
+    (c .turn-at2 .ensures h a b le me)
 
 cut-at-requires : tie.Need-cut-at-requires
 cut-at-requires c κs =
@@ -28,7 +32,8 @@ cut-at-requires c κs =
 returns-3 : tie.Need-returns-3
 returns-3 c h a b ls ms le me =
     let y = c .before .before .before .before .before .before in
-    part-cut _ _ _ a b _ _ ls ms le me _ _ (y .before .marked-use .ensures) (y .marked-use2 .ensures) h _ _ (c .before .if1 .left) (job-blocks _ _) (c .cut-at .ensures)
+    part-cut _ _ _ a b _ _ ls ms le me _ _ (y .before .marked-use .ensures) (y .marked-use2 .ensures) h _ _
+    (c .before .if1 .left) (job-blocks _ _) (c .cut-at .ensures)
 
 pub part-at-spec : {M : Type 1} → statement M
 part-at-spec =
