@@ -107,8 +107,10 @@ module _ (t w : ℕ) (W K : List ℕ) (lay : Layout) (wl : WorkLayout) (sp : Set
   pub cut-bounds : (sp .«from» .0 < 4 * p .0) × (4 * p .0 < sp .to .0)
   cut-bounds =
       let c : CutAt J st top (usesOf ss) p = move-cut J st top (usesOf ss) p e in
-      let b = cut-between J st top ss 0 p (l .fair .fit) c in
-      (cut-open K (wl .marks) W lay sp (l .ok) 0 (c .start) p (l .fair .fit) (c .clash .start .0) (b .0), cut-end K (wl .marks) W lay sp (l .ok) 0 (c .end) p (l .fair .fit) (c .clash .end .0) (b .1) (c .clash .end .1))
+      let b = cut-between J st top ss 0 p (l .fair .fit) c in (
+        cut-open K (wl .marks) W lay sp (l .ok) 0 (c .start) p (l .fair .fit) (c .clash .start .0) (b .0),
+        cut-end K (wl .marks) W lay sp (l .ok) 0 (c .end) p (l .fair .fit) (c .clash .end .0) (b .1) (c .clash .end .1),
+      )
 
   pub cut-parts : Sides W lay sp (cutPart hs W lay p sp)
   cut-parts = cut-sides hs W lay p sp (l .ok) (cut-bounds .0) (cut-bounds .1)

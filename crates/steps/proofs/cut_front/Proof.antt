@@ -18,7 +18,9 @@ returns c =
     let q = parts-are _ (s .args .lay) (s .args .p) (s .args .sp) _ (s .pre .2) (s .pre .3) (s .pre .4) e in (
       (ap (λ (x : Parts). x .left) q, ap (λ (x : Parts). x .right) q),
       λ st h f m.
-          front-held _ (s .args .lay) (s .args .p) (s .args .sp) _ (s .pre .2) (s .pre .3) (s .pre .4) e _ (s .args .wl .marks) st (s .args .top) _ _ (c .before .before .fresh-held .ensures) (c .before .scan-uses .ensures .1 st h .0) f m,
+          front-held _ (s .args .lay) (s .args .p) (s .args .sp) _ (s .pre .2) (s .pre .3) (s .pre .4) e _
+          (s .args .wl .marks) st (s .args .top) _ _ (c .before .before .fresh-held .ensures)
+          (c .before .scan-uses .ensures .1 st h .0) f m,
     )
 
 pub cut-front-spec : {M : Type 1} → statement M
