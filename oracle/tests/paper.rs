@@ -7,12 +7,16 @@ use std::env;
 use oracle::answer::{Room, answer_job, tested};
 use oracle::make::make;
 
+/// How many times as many sheets are compared: PAPER_TIMES, or one.
+fn times() -> usize {
+    env::var("PAPER_TIMES").map_or(1, |times| times.parse().unwrap())
+}
+
 /// Compares `count` sheets of a profile, or PAPER_TIMES as many; answers with
 /// how many had a result, and how many merges these have in all.
 fn compare(profile: &str, count: u64) -> (usize, usize) {
-    let times = env::var("PAPER_TIMES").map_or(1, |times| times.parse().unwrap());
     let (mut accepted, mut merges) = (0, 0);
-    for seed in 1_000_000..1_000_000 + count * times {
+    for seed in 1_000_000..1_000_000 + count * times() as u64 {
         let frame = make(profile, seed).unwrap();
         let Ok(job) = tested(&frame.bytes) else {
             continue;
@@ -94,7 +98,7 @@ fn full_tables_agree() {
 #[test]
 fn many_merges_agree() {
     let (accepted, merges) = compare("many-merges", 200);
-    assert!(accepted == 200 && merges > 1_600);
+    assert!(accepted == 200 * times() && merges > 1_600);
 }
 
 #[test]

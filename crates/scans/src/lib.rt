@@ -195,8 +195,10 @@ fn turn_at(job: &[u8], lay: Layout, work: &[u8], wl: WorkLayout, n: usize) -> Mo
 
 // The early cut between instructions x and y. Uses do not fall, so x is before y.
 fn early_at(lay: Layout, work: &[u8], wl: WorkLayout, x: Inst, y: Inst) -> Inst
-    requires { ⌜ (0 < lay .blocks .n) × (lay .blocks .n ≤ 512) × (wl .starts + lay .blocks .n * 2 + 2 ≤ wordCount (now work)) × (x .0 < 4096) ⌝ }
-    ensures { λ r. ⌜ ((bs : List BlockData) → Starts (wordsOf (now (work .entry))) (wl .starts) bs → length bs ≡ lay .blocks .n → y .0 < instsOf bs → r .0 ≡ earlyCut bs (x .0) (y .0)) ⌝ }
+    requires { ⌜ (0 < lay .blocks .n) × (lay .blocks .n ≤ 512)
+        × (wl .starts + lay .blocks .n * 2 + 2 ≤ wordCount (now work)) × (x .0 < 4096) ⌝ }
+    ensures { λ r. ⌜ ((bs : List BlockData) → Starts (wordsOf (now (work .entry))) (wl .starts) bs
+        → length bs ≡ lay .blocks .n → y .0 < instsOf bs → r .0 ≡ earlyCut bs (x .0) (y .0)) ⌝ }
 {
     if x.0 < y.0 {
         let at = wl.starts;
