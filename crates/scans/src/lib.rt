@@ -36,7 +36,7 @@ ghost use Rattle.constraints.specs.Ready.{Ready, Stands};
 ghost use Rattle.set_part.specs.Part.{markedUse};
 ghost use Rattle.scans.specs.Answers.{scanOf, backOf, Ends, kindMove, moveOf};
 
-// A scan that went through, with what is then held; or the number of the use that it could not admit.
+// A scan that went through, or the number of the use that it could not admit; and what is held when it ends.
 pub struct ScanAnswer {
     pub ok: bool,
     pub at: usize,

@@ -92,8 +92,9 @@ module _ (job : Job) (ok : entry job ≡ none) where
         go true = refl
         go false = refl
 
-    -- No cut without a reason: it is late exactly where the class at the end costs more. Ruled out: a late cut between
-    -- equal costs; an early one where the end costs more.
+    -- No cut without a reason: it is late exactly where the class at the end costs more. (The side is the one by which
+    -- the cut has its place, `found .place`.) Ruled out: a late cut between equal costs; an early one where the end
+    -- costs more.
     pub cut-reason : (side ≡ Late → lt forwardCost endCost ≡ true) × (lt forwardCost endCost ≡ true → side ≡ Late)
     cut-reason =
         (λ e. go (lt forwardCost endCost) refl (sym e ∙ leans), λ e. leans ∙ ap (λ (t : Bool). cond t Late Early) e)
