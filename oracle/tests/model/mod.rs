@@ -6,6 +6,7 @@ mod show;
 mod weigh;
 
 use std::collections::HashMap;
+use std::ops::RangeInclusive;
 
 use admit::Held;
 use oracle::job::{BLOCKPARAM_IN, CLASS_DEF, GROUP_DEF, Job, Use};
@@ -201,35 +202,39 @@ impl Model<'_> {
     /// Among `after` + 1 and the block starts above it up to `before`, the
     /// earliest whose block frequency is least.
     fn early(&self, after: u32, before: u32) -> u32 {
-        let block = |inst: u32| self.block_of[inst as usize];
-        let starts = |&inst: &u32| inst == after + 1 || block(inst) != block(inst - 1);
-        let frequency = |inst: u32| self.job.blocks[block(inst)].frequency;
-        let places: Vec<u32> = (after + 1..=before).filter(starts).collect();
-        let least = places
-            .iter()
-            .map(|&inst| frequency(inst))
-            .fold(f32::INFINITY, f32::min);
-        *places
-            .iter()
-            .find(|&&inst| frequency(inst) == least)
-            .unwrap()
+        let open = |inst: u32| inst == after + 1 || self.starts_block(inst);
+        self.least(after + 1..=before, open, |inst| inst)[0]
     }
 
     /// Among `before` and the block ends from `after` + 1 to it, the latest
     /// whose preceding instruction's block frequency is least.
     fn late(&self, after: u32, before: u32) -> u32 {
-        let block = |inst: u32| self.block_of[inst as usize];
-        let ends = |&inst: &u32| inst == before || block(inst) != block(inst - 1);
-        let frequency = |inst: u32| self.job.blocks[block(inst - 1)].frequency;
-        let places: Vec<u32> = (after + 1..=before).filter(ends).collect();
-        let least = places
-            .iter()
-            .map(|&inst| frequency(inst))
-            .fold(f32::INFINITY, f32::min);
-        *places
-            .iter()
-            .rfind(|&&inst| frequency(inst) == least)
+        let open = |inst: u32| inst == before || self.starts_block(inst);
+        *self
+            .least(after + 1..=before, open, |inst| inst - 1)
+            .last()
             .unwrap()
+    }
+
+    /// An instruction after the first starts a block where the one before it ends another.
+    fn starts_block(&self, inst: u32) -> bool {
+        self.block_of[inst as usize] != self.block_of[inst as usize - 1]
+    }
+
+    /// The open instructions of a range at which the frequency of the block that judges is least, in order.
+    fn least(
+        &self,
+        range: RangeInclusive<u32>,
+        open: impl Fn(u32) -> bool,
+        judge: impl Fn(u32) -> u32,
+    ) -> Vec<u32> {
+        let block = |inst: u32| self.block_of[judge(inst) as usize];
+        let frequency = |inst: u32| self.job.blocks[block(inst)].frequency;
+        let places: Vec<u32> = range.filter(|&inst| open(inst)).collect();
+        let frequencies = places.iter().map(|&inst| frequency(inst));
+        let least = frequencies.fold(f32::INFINITY, f32::min);
+        let cheap = places.into_iter();
+        cheap.filter(|&inst| frequency(inst) == least).collect()
     }
 
     /// Cuts at the boundary before an instruction.
