@@ -29,3 +29,4 @@ pub mod Promises
 pub mod Touched
 pub mod Weighed
 mod SheetCases
+pub mod Forms

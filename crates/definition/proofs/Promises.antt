@@ -18,6 +18,10 @@ use Rattle.definition.specs.Lines.{Line, printed}
 use Rattle.definition.specs.Promised.{Follows, In, Listed, Transitive, addedIn, byFirst, classUsesAt, covered}
 use Rattle.definition.specs.Promised.{had, liveAt, inputOf, isMark, marksAt, OwnWeight, ofSet, ownIn, ownOf}
 use Rattle.definition.specs.Promised.{sameUse, valued, markedFor}
+use Rattle.definition.specs.JobSheet.{Record, jobOfRecords, sheetAnswer}
+use Rattle.definition.specs.RegisterSheet.{registerSheet}
+use Rattle.definition.specs.declared.SheetRefusal.the-variants.{WrittenDiffers}
+use Rattle.definition.specs.SheetForms.{isSecond, recordsIn, asWritten, refused′, lift, answerToSheet, answerText}
 use Rattle.definition.proofs.Places.{All}
 use Rattle.definition.proofs.Points.{Additive, points-additive, ofOwn, ownUses, built-same}
 use Rattle.definition.proofs.Entries.{lowest-none}
@@ -32,6 +36,7 @@ use Rattle.definition.proofs.Weighed.{built-weighed}
 use Rattle.definition.proofs.Owned.{both-counted, led-counted, led-additive, covered-additive, covered-once}
 use Rattle.definition.proofs.Owned.{live-covered, counted-same, of-led, own-led, accepted-rise, no-mark-had}
 use Rattle.definition.proofs.Owned.{marks-turned}
+use Rattle.definition.proofs.Forms.{numberGiven, AsJob, as-job, either-form, Differs, exactly-ten, ten-exactly, as-before, same-text}
 
 -- ---- what an accepted job is known to be
 
@@ -215,3 +220,31 @@ unfolding answer
 promise-weighed job room res e =
     let a = accepted (entry job) job room res refl e in
     built-weighed job room res (a .0) (a .1)
+
+-- ---- the second form of a job sheet (change request 3)
+
+-- Either form, one sheet: a sheet of the second form whose answer is neither 1 nor 10 is answered as its job is.
+-- Rules out: a set taken from the written field, so that a register has the set that the sheet says and not its values' leader;
+-- 10 for every sheet of the second form.
+pub promise-as-job : (bs : List ℕ) (room : Room) → isSecond bs ≡ true
+    → (numberGiven (answerToSheet bs room) ≡ 1 → ⊥) → (numberGiven (answerToSheet bs room) ≡ 10 → ⊥) → AsJob bs room
+promise-as-job bs room e one ten = as-job bs room e one ten
+
+-- Either form, two sheets: "a job that passes has the same result in either form", for any room; and one that stops or overfills a table the same number.
+-- Rules out: blocks cut where the written first instructions say; room counted for the written fields.
+pub promise-either-form : (a b : List ℕ) (room : Room) (rs ks : List Record) → isSecond a ≡ false → recordsIn a ≡ some rs
+    → isSecond b ≡ true → recordsIn b ≡ some ks → asWritten ks ≡ true → jobOfRecords ks ≡ jobOfRecords rs
+    → answerToSheet b room ≡ answerToSheet a room
+promise-either-form a b room rs ks e f g h w j = either-form a b room rs ks e f g h w j
+
+-- Exactly 10: the answer is 10 exactly if the sheet is well-formed in the second form, its job passes 2 to 7 and a written field differs.
+-- Rules out: 10 where the job has a 7; 8 for a job that stops and has a wrong field; a wrong field of the last block that is passed over.
+pub promise-ten : (bs : List ℕ) (room : Room)
+    → (numberGiven (answerToSheet bs room) ≡ 10 → Differs bs) × (Differs bs → answerToSheet bs room ≡ refused′ WrittenDiffers)
+promise-ten bs room = (exactly-ten bs room, ten-exactly bs room)
+
+-- As before: a sheet without the form line has the answer that it had, and prints the bytes that it printed.
+-- Rules out: a first-form sheet whose block lines may have a third field; `form`, tab, `1` taken as a form line.
+pub promise-as-before : (bs : List ℕ) (room : Room) → isSecond bs ≡ false
+    → (answerToSheet bs room ≡ lift (sheetAnswer bs room)) × (answerText (answerToSheet bs room) ≡ registerSheet (sheetAnswer bs room))
+promise-as-before bs room e = (as-before bs room e, ap answerText (as-before bs room e) ∙ same-text (sheetAnswer bs room))

@@ -1,4 +1,6 @@
--- Sheets in and sheets out, byte for byte, by computation: cases A and J, and sheets on both sides of number 1. Assumes nothing.
+-- Sheets in and sheets out, byte for byte, by computation: cases A and J, sheets on both sides of number 1, and the
+-- second form on both sides of 1 and 10.
+-- Assumes nothing.
 use mathlib.Core.Path.{_≡_, refl}
 use Prim.Native.Nat.{ℕ, _+_}
 use Prim.Native.String.{String}
@@ -7,11 +9,12 @@ use mathlib.Core.Option.{Option, none, some}
 use mathlib.Core.List.{List, [], _∷_, _++_, map}
 use lib.Dec.{eqb}
 use lib.ListN.{take, drop, set, replicate}
-use Rattle.definition.specs.Types.{UseKind, FixedDef, FixedUse, TiedUse, ConstraintConflict, ClassUse, ClassDef, GroupClassUse, GroupClassDef, BlockparamIn, BlockparamOut, UseFlags, inst}
+use Rattle.definition.specs.Types.{UseKind, FixedDef, FixedUse, TiedUse, ConstraintConflict, ClassUse, ClassDef}
+use Rattle.definition.specs.Types.{GroupClassUse, GroupClassDef, BlockparamIn, BlockparamOut, UseFlags, inst}
 use Rattle.definition.specs.Lines.{numbersOf, flagsNumber}
 use Rattle.definition.specs.JobSheet.{Record, sheetOf, useOf, flagsOf}
 use Rattle.definition.specs.Text.{bytes, tab, lineFeed}
-use Rattle.definition.specs.RegisterSheet.{vregsOf}
+use Rattle.definition.specs.SheetForms.{vregsOf}
 
 -- "tabs as blanks", and a line feed behind each line
 text : List String → List ℕ
@@ -227,6 +230,122 @@ cases-hold : map (λ c. vregsOf (c .0)) cases ≡ map (λ c. text (c .1 ∷ []))
 unfolding vregsOf text cases
 cases-hold = refl
 
+-- ---- the second form (change request 3): case A's sheet with its written fields
+
+secondA : List String
+secondA =
+    "form 2"
+    ∷ "opt 0 3f800000 3f800000 3f800000"
+    ∷ "bank 0"
+    ∷ "class 00000007 3f800000 1 0"
+    ∷ "class 00000002 3f800000 1 0"
+    ∷ "class 00000004 3f800000 1 0"
+    ∷ "block 2 3f800000 0"
+    ∷ "block 2 3f000000 2"
+    ∷ "value 0 0 0"
+    ∷ "seg 0 2 14 0 0"
+    ∷ "use 5 0 0 1"
+    ∷ "use 4 3 0 2"
+    ∷ "end"
+    ∷ []
+
+-- line n is another one, is left out, has a line before it; each of some lines is another one
+changed₂ : ℕ → String → List ℕ
+unfolding text secondA
+changed₂ n l = text (set secondA n l)
+
+without₂ : ℕ → List ℕ
+unfolding text secondA
+without₂ n = text (take n secondA ++ drop (n + 1) secondA)
+
+withLine₂ : ℕ → String → List ℕ
+unfolding text secondA
+withLine₂ n l = text (take n secondA ++ (l ∷ drop n secondA))
+
+eachChanged : List (ℕ × String) → List String → List String
+eachChanged [] ls = ls
+eachChanged (c ∷ cs) ls = eachChanged cs (set ls (c .0) (c .1))
+
+changes : List (ℕ × String) → List ℕ
+unfolding text secondA eachChanged
+changes cs = text (eachChanged cs secondA)
+
+-- a written set and a written first instruction that differ
+bothWrong : List (ℕ × String)
+bothWrong = (7, "block 2 3f000000 3") ∷ (9, "seg 0 2 14 0 1") ∷ []
+
+-- two values of one set: the second leads, so the set of both is 1
+setOfOne : String → List ℕ
+unfolding text secondA
+setOfOne l = text (take 8 secondA ++ ("value 0 1 0" ∷ "value 0 1 0" ∷ l ∷ drop 10 secondA))
+
+secondCases : List (List ℕ × String)
+unfolding text secondA changed₂ without₂ withLine₂ changes bothWrong setOfOne
+secondCases =
+    -- the form line: another number, spelling, field, byte or place; twice; alone; without its line feed
+    (changed₂ 0 "form 1", "refused 1")
+    ∷ (changed₂ 0 "form 3", "refused 1")
+    ∷ (changed₂ 0 "form 02", "refused 1")
+    ∷ (changed₂ 0 "form 22", "refused 1")
+    ∷ (changed₂ 0 "form", "refused 1")
+    ∷ (changed₂ 0 "form ", "refused 1")
+    ∷ (changed₂ 0 "form  2", "refused 1")
+    ∷ (changed₂ 0 "form 2 ", "refused 1")
+    ∷ (changed₂ 0 "form 2 2", "refused 1")
+    ∷ (changed₂ 0 "form 2\r", "refused 1")
+    ∷ (changed₂ 0 "Form 2", "refused 1")
+    ∷ (changed₂ 0 "forms 2", "refused 1")
+    ∷ (changed₂ 0 "", "refused 1")
+    ∷ (without₂ 0, "refused 1")
+    ∷ (withLine₂ 0 "form 2", "refused 1")
+    ∷ (withLine₂ 2 "form 2", "refused 1")
+    ∷ (text ("form 2" ∷ []), "refused 1")
+    ∷ (bytes "form", "refused 1")
+    ∷ (withLine 0 "form 2", "refused 1")
+    -- a written field that is missing, one too many, or of bad form
+    ∷ (changed₂ 6 "block 2 3f800000", "refused 1")
+    ∷ (changed₂ 6 "block 2 3f800000 0 0", "refused 1")
+    ∷ (changed₂ 6 "block 2 3f800000 ", "refused 1")
+    ∷ (changed₂ 6 "block 2 3f800000 00", "refused 1")
+    ∷ (changed₂ 6 "block 2 3f800000 -", "refused 1")
+    ∷ (changed₂ 7 "block 2 3f000000 4294967296", "refused 1")
+    ∷ (changed₂ 9 "seg 0 2 14 0", "refused 1")
+    ∷ (changed₂ 9 "seg 0 2 14 0 0 0", "refused 1")
+    ∷ (changed₂ 9 "seg 0 2 14 0 ", "refused 1")
+    ∷ (changed₂ 9 "seg 0 2 14 0 +0", "refused 1")
+    ∷ (changed₂ 9 "seg 0 2 14 0 0000", "refused 1")
+    ∷ (changed₂ 2 "bank 0 0", "refused 1")
+    ∷ (changed₂ 10 "use 5 0 0 1 0", "refused 1")
+    -- a first instruction that differs: of the first block, of the last, counted from 1, of no instruction
+    ∷ (changed₂ 6 "block 2 3f800000 1", "refused 10")
+    ∷ (changed₂ 7 "block 2 3f000000 1", "refused 10")
+    ∷ (changes ((6, "block 2 3f800000 1") ∷ (7, "block 2 3f000000 3") ∷ []), "refused 10")
+    ∷ (changed₂ 7 "block 2 3f000000 4294967295", "refused 10")
+    -- a set that differs: no value's, the segment's value in place of its leader
+    ∷ (changed₂ 9 "seg 0 2 14 0 1", "refused 10")
+    ∷ (setOfOne "seg 0 2 14 0 0", "refused 10")
+    ∷ (setOfOne "seg 0 2 14 0 2", "refused 10")
+    -- both, behind each lower number
+    ∷ (changes bothWrong, "refused 10")
+    ∷ (changes ((12, "ends") ∷ bothWrong), "refused 1")
+    ∷ (changes ((1, "opt 65536 3f800000 3f800000 3f800000") ∷ bothWrong), "refused 2")
+    ∷ (changes ((2, "bank 3") ∷ bothWrong), "refused 3")
+    ∷ (changes ((6, "block 0 3f800000 0") ∷ bothWrong), "refused 4")
+    ∷ (changes ((9, "hint 0 9 0") ∷ []), "refused 1")
+    ∷ (changes ((9, "seg 7 2 14 0 7") ∷ []), "refused 6")
+    ∷ (changes ((10, "use 3 0") ∷ bothWrong), "refused 7")
+    -- and before 8: case B's class, which shares nothing with the top one
+    ∷ (changes ((3, "class 00000003 3f800000 1 0") ∷ []), "refused 8")
+    ∷ (changes ((3, "class 00000003 3f800000 1 0") ∷ bothWrong), "refused 10")
+    ∷ []
+
+second-cases-hold :
+    (map (λ c. vregsOf (c .0)) secondCases ≡ map (λ c. text (c .1 ∷ [])) secondCases)
+    × (vregsOf (text secondA) ≡ text printedA) × (vregsOf (setOfOne "seg 0 2 14 0 1")
+    ≡ text (eachChanged ((0, "vreg 0 1 1 3f000000 - 0 0") ∷ (3, "vreg 1 1 2 3e800000 - 0 0") ∷ []) printedA))
+unfolding vregsOf text secondCases secondA printedA setOfOne eachChanged withLine
+second-cases-hold = (refl, refl, refl)
+
 -- ---- the order of the records
 
 oneEach : List String
@@ -257,7 +376,8 @@ isSheet ls = mark (sheetOf (text ls))
 -- the lines up to line n, and then those from each of the twelve on: which records may follow that of line n
 followers : ℕ → List ℕ
 unfolding isSheet oneEach
-followers n = map (λ m. isSheet (take (n + 1) oneEach ++ drop m oneEach)) (0 ∷ 1 ∷ 2 ∷ 3 ∷ 4 ∷ 5 ∷ 6 ∷ 7 ∷ 8 ∷ 9 ∷ 10 ∷ 11 ∷ [])
+followers n = map (λ m. isSheet (take (n + 1) oneEach ++ drop m oneEach))
+    (0 ∷ 1 ∷ 2 ∷ 3 ∷ 4 ∷ 5 ∷ 6 ∷ 7 ∷ 8 ∷ 9 ∷ 10 ∷ 11 ∷ [])
 
 order : List (ℕ × String)
 order =

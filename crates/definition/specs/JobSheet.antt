@@ -303,7 +303,7 @@ abbrev pub answerOrOne : Option Job → Room → Out Result
 answerOrOne none room = refused NotARecord
 answerOrOne (some job) room = answer job room
 
--- "Tests 1 to 7 go by number, lowest first"
+-- "Tests 1 to 7 go by number, lowest first". This is the answer to a sheet of the first form; specs/SheetForms has that to either.
 unfoldable pub sheetAnswer : List ℕ → Room → Out Result
 unfolding jobOfSheet answer
 sheetAnswer bs room = answerOrOne (jobOfSheet bs) room

@@ -17,3 +17,4 @@ pub mod Promised
 pub mod Text
 pub mod JobSheet
 pub mod RegisterSheet
+pub mod SheetForms

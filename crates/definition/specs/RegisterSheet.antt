@@ -1,14 +1,12 @@
--- The register sheet of an answer, byte for byte, and `vregs`: a job sheet in, a register sheet out. Assumes nothing.
+-- The register sheet of an answer, byte for byte. Assumes nothing.
 use Prim.Native.Nat.{ℕ}
 use mathlib.Core.Bool.{Bool, true, false}
 use mathlib.Core.Option.{Option, none, some}
 use mathlib.Core.List.{List, [], _∷_, _++_, map}
 use Rattle.definition.specs.Types.{VirtReg, VirtRegGroup, Origin, Own, Conflict, Out, done, refused, numberOf}
-use Rattle.definition.specs.Limits.{vregsRoom}
 use Rattle.definition.specs.Build.{Result}
 use Rattle.definition.specs.Lines.{Line, vreg-line, seg-line, use-line, group-line, end-line, useNumbers, flagsNumber, printed}
 use Rattle.definition.specs.Text.{bytes, decimal, eightDigits, line}
-use Rattle.definition.specs.JobSheet.{sheetAnswer}
 
 -- "group or -"
 abbrev pub groupField : Option VirtRegGroup → List ℕ
@@ -51,8 +49,3 @@ unfoldable pub registerSheet : Out Result → List ℕ
 unfolding linesBytes printed decimal
 registerSheet (done res) = linesBytes (printed res)
 registerSheet (refused r) = line "refused" (decimal (numberOf r) ∷ [])
-
--- "`vregs` reads a job on standard input"; it "prints".
-unfoldable pub vregsOf : List ℕ → List ℕ
-unfolding registerSheet sheetAnswer
-vregsOf sheet = registerSheet (sheetAnswer sheet vregsRoom)

@@ -178,3 +178,9 @@ pub enum Refusal {
     Stopped(Stop),
     Full,
 }
+
+// The refusals of a job sheet: those of its job, and 10.
+pub enum SheetRefusal {
+    By(Refusal),
+    WrittenDiffers,
+}
