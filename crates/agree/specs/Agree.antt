@@ -31,11 +31,11 @@ outcome TooMany o = some (filled true o)
 abbrev pub ends : Fed → Option Filled
 ends f = outcome (answerOf (f .next)) (f .out)
 
-abbrev ansS : Seen → Option Filled
+abbrev pub ansS : Seen → Option Filled
 ansS gone = none
 ansS (at s o) = outcome (endedOf s) o
 
-finish-view : (f : Fed) → ends f ≡ ansS (view f)
+pub finish-view : (f : Fed) → ends f ≡ ansS (view f)
 unfolding answerOf
 finish-view f = go (f .next)
   where
@@ -43,7 +43,7 @@ finish-view f = go (f .next)
     go (Go s) = refl
     go Bad = refl
 
-mid-answer : (x : Seen) → Mid x → ansS x ≡ none
+pub mid-answer : (x : Seen) → Mid x → ansS x ≡ none
 unfolding endedOf
 mid-answer gone h = refl
 mid-answer (at s o) h = go (eqb (s .prev) 11) (eqb (s .n) 0) (eqb (s .len) 0) h
@@ -54,7 +54,7 @@ mid-answer (at s o) h = go (eqb (s .prev) 11) (eqb (s .n) 0) (eqb (s .len) 0) h
     go true true v h = rw h
 
 -- the records' order and the end
-ordered-answer : (rs : List Record) (prev : ℕ) (f : Filled) → ansS (goS prev f rs) ≡ given (orderedN prev rs) (fill f rs)
+pub ordered-answer : (rs : List Record) (prev : ℕ) (f : Filled) → ansS (goS prev f rs) ≡ given (orderedN prev rs) (fill f rs)
 unfolding orderedN fill endedOf beginOf
 ordered-answer [] prev f = go (eqb prev 11) (f .over) refl
   where
@@ -69,11 +69,11 @@ ordered-answer (r ∷ rs) prev f = go (eqb (followsOf prev (keyed r)) 0) (ordere
     go true h = refl
     go false h = h
 
-abbrev LinesBytes : Option (List (List ℕ)) → Type 0
+abbrev pub LinesBytes : Option (List (List ℕ)) → Type 0
 LinesBytes none = Unit {0}
 LinesBytes (some ls) = AllBytes ls
 
-lines-bytes : (bs : List ℕ) → Bytes bs → LinesBytes (linesOf bs)
+pub lines-bytes : (bs : List ℕ) → Bytes bs → LinesBytes (linesOf bs)
 unfolding linesOf
 lines-bytes [] h = tt
 lines-bytes (b ∷ bs) h = go (eqb b 10) (linesOf bs) (lines-bytes bs (h .1))

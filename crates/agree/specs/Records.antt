@@ -9,7 +9,7 @@ use lib.ListN.{getD, set}
 use lib.Dec.{ltb, eqb}
 use borrow.Author.Tests.{lt-ltb}
 use Rattle.definition.specs.Text.{_>>=_, Fields, fieldsOf, endField as fieldEnded, ontoField}
-use Rattle.definition.specs.JobSheet.{Word as Named, Record, wordNumber, readRecord, recordOf, recordsOf}
+use Rattle.definition.specs.JobSheet.{Word as Named, Record, wordNumber, allWords, wordAmong, readRecord, recordOf, recordsOf}
 use Rattle.numeral.specs.Bytes.{num}
 use Rattle.numeral.specs.declared.Form.{Form}
 use Rattle.numeral.specs.declared.Form.the-variants.{Nothing, Number, Mask, Word}
@@ -137,14 +137,14 @@ values-in (f ∷ fs) t o i b = go (fieldOf (formOfSt t) f) refl
     go (some v) e ih = ap (λ x. on (allS x fs) closeR) (field-in t o f i (b .0) (some v) e) ∙ ih v ∙ later v (valuesOf (t .key) (kindAfter (t .n) (t .kind) v) (upOf (t .n)) fs)
 
 -- a line from its start
-abbrev lineP : ℕ → Filled → Option Record → Seen
+abbrev pub lineP : ℕ → Filled → Option Record → Seen
 lineP prev f none = gone
 lineP prev f (some r) = cond (eqb (followsOf prev (keyed r)) 0) gone (placed (keyed r) (put f r))
 
-started : ℕ → Filled → ℕ → St
+unfoldable pub started : ℕ → Filled → ℕ → St
 started prev f k = record { prev = prev; key = k; kind = 0; n = 1; row = rowOf (f .out) k; over = f .over; value = 0; len = 0 }
 
-fields-bytes : (l : List ℕ) → Bytes l → Bytes ((fieldsOf l) .first) × AllBytes ((fieldsOf l) .rest)
+pub fields-bytes : (l : List ℕ) → Bytes l → Bytes ((fieldsOf l) .first) × AllBytes ((fieldsOf l) .rest)
 unfolding fieldsOf
 fields-bytes [] b = (tt, tt)
 fields-bytes (c ∷ l) b = go (eqb c 9) (fieldsOf l) (fields-bytes l (b .1))
@@ -155,16 +155,16 @@ fields-bytes (c ∷ l) b = go (eqb c 9) (fieldsOf l) (fields-bytes l (b .1))
     go true r h = (tt, (h .0, h .1))
     go false r h = ((b .0, h .0), h .1)
 
-first-field : (prev : ℕ) (f : Filled) (w : List ℕ) → Bytes w → fieldS (placed prev f) w ≡ doneS (beginOf prev (f .over)) (f .out) (spelled w)
+pub first-field : (prev : ℕ) (f : Filled) (w : List ℕ) → Bytes w → fieldS (placed prev f) w ≡ doneS (beginOf prev (f .over)) (f .out) (spelled w)
 unfolding beginOf formAt codeAt formRow forms formOf fieldOf
 first-field prev f w b = field-done (beginOf prev (f .over)) (f .out) w tt b
 
 -- a number is a word's, or above them all
-abbrev Named? : ℕ → Option Named → Type 0
+abbrev pub Named? : ℕ → Option Named → Type 0
 Named? k none = ltb 11 k ≡ true
 Named? k (some w) = k ≡ wordNumber w
 
-named : (k : ℕ) → Named? k (wordOf k)
+pub named : (k : ℕ) → Named? k (wordOf k)
 named zero = refl
 named (suc zero) = refl
 named (suc (suc zero)) = refl
@@ -179,7 +179,7 @@ named (suc (suc (suc (suc (suc (suc (suc (suc (suc (suc zero)))))))))) = refl
 named (suc (suc (suc (suc (suc (suc (suc (suc (suc (suc (suc zero))))))))))) = refl
 named (suc (suc (suc (suc (suc (suc (suc (suc (suc (suc (suc (suc k)))))))))))) = lt-ltb 11 (suc (suc (suc (suc (suc (suc (suc (suc (suc (suc (suc (suc k)))))))))))) (omega arith)
 
-no-follower : (prev k : ℕ) → ltb 11 k ≡ true → eqb (followsOf prev k) 0 ≡ true
+pub no-follower : (prev k : ℕ) → ltb 11 k ≡ true → eqb (followsOf prev k) 0 ≡ true
 unfolding followsOf
 no-follower prev k e = go (ltb 12 prev)
   where
@@ -187,18 +187,19 @@ no-follower prev k e = go (ltb 12 prev)
     go true = refl
     go false = rw e
 
-line-record : (prev : ℕ) (f : Filled) (l : List ℕ) → Bytes l → lineS (placed prev f) l ≡ lineP prev f (recordOf l)
-unfolding recordOf beginOf startOf started put
-line-record prev f l b =
-    line-fields l (placed prev f)
-    ∙ ap (λ x. on x closeR) (fields-all (placed prev f) ((fieldsOf l) .first) ((fieldsOf l) .rest))
-    ∙ ap (λ x. on (allS x ((fieldsOf l) .rest)) closeR) (first-field prev f ((fieldsOf l) .first) (fields-bytes l b .0))
-    ∙ go (spelled ((fieldsOf l) .first))
-    ∙ ap (λ (o : Option Named). lineP prev f (o >>= λ w. readRecord w ((fieldsOf l) .rest) >>= λ ns. some (rec w ns))) (record-word ((fieldsOf l) .first) (fields-bytes l b .0))
-  where
-    rest : List (List ℕ)
-    rest = (fieldsOf l) .rest
+-- the record of a line's fields
+abbrev pub fieldsRecord : List ℕ → List (List ℕ) → Option Record
+fieldsRecord w rest = wordAmong allWords w >>= λ v. readRecord v rest >>= λ ns. some (rec v ns)
 
+pub fields-record : (prev : ℕ) (f : Filled) (first : List ℕ) (rest : List (List ℕ)) → Bytes first → AllBytes rest
+    → on (fieldsS (placed prev f) first rest) closeR ≡ lineP prev f (fieldsRecord first rest)
+unfolding beginOf startOf started put
+fields-record prev f first rest b bs =
+    ap (λ x. on x closeR) (fields-all (placed prev f) first rest)
+    ∙ ap (λ x. on (allS x rest) closeR) (first-field prev f first b)
+    ∙ go (spelled first)
+    ∙ ap (λ (o : Option Named). lineP prev f (o >>= λ w. readRecord w rest >>= λ ns. some (rec w ns))) (record-word first b)
+  where
     refuse : (m : Option (List ℕ)) (w : Named) → eqb (followsOf prev (wordNumber w)) 0 ≡ true → gone ≡ lineP prev f (m >>= λ ns. some (rec w ns))
     refuse none w e = refl
     refuse (some ns) w e = rw e
@@ -213,7 +214,7 @@ line-record prev f l b =
     by : (w : Named) (u : Bool) → eqb (followsOf prev (wordNumber w)) 0 ≡ u → begun (wordNumber w) u ≡ lineP prev f (readRecord w rest >>= λ ns. some (rec w ns))
     by w true e = ap (λ x. on x closeR) (all-gone rest) ∙ refuse (readRecord w rest) w e
     by w false e =
-        values-in rest (started prev f (wordNumber w)) (f .out) (record { clean = refl; behind = refl }) (fields-bytes l b .1)
+        values-in rest (started prev f (wordNumber w)) (f .out) (record { clean = refl; behind = refl }) bs
         ∙ ap (λ (m : Option (List ℕ)). recordS (started prev f (wordNumber w)) (f .out) m) (record-values w rest)
         ∙ admit (readRecord w rest) w e
 
@@ -224,6 +225,11 @@ line-record prev f l b =
     go : (m : Option ℕ) → on (allS (doneS (beginOf prev (f .over)) (f .out) m) rest) closeR ≡ lineP prev f ((m >>= λ v. wordOf (keyOf v)) >>= λ w. readRecord w rest >>= λ ns. some (rec w ns))
     go none = ap (λ x. on x closeR) (all-gone rest)
     go (some v) = word (keyOf v) (wordOf (keyOf v)) (named (keyOf v))
+
+pub line-record : (prev : ℕ) (f : Filled) (l : List ℕ) → Bytes l → lineS (placed prev f) l ≡ lineP prev f (recordOf l)
+unfolding recordOf
+line-record prev f l b =
+    line-fields l (placed prev f) ∙ fields-record prev f ((fieldsOf l) .first) ((fieldsOf l) .rest) (fields-bytes l b .0) (fields-bytes l b .1)
 
 -- the records of a sheet, in order
 abbrev pub goS : ℕ → Filled → List Record → Seen

@@ -163,7 +163,7 @@ close-line s o = go ((endField s o) .next) ((endField s o) .out)
     go (Go t) p = refl
     go Bad p = refl
 
-close-lines : (x : Seen) → on x closeL ≡ on (on x closeF) closeR
+pub close-lines : (x : Seen) → on x closeL ≡ on (on x closeF) closeR
 close-lines gone = refl
 close-lines (at s o) = close-line s o
 

@@ -26,7 +26,8 @@ pub struct Entered {
     pub insts: usize,
 }
 
-fn refuse(number: u32, lay: Layout) -> Entered
+// A refusal: its number alone.
+pub fn refuse(number: u32, lay: Layout) -> Entered
     ensures { λ r. ⌜ r ≡ noEntry number lay ⌝ }
 {
     let wl = WorkLayout {

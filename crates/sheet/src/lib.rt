@@ -36,7 +36,7 @@ fn step(s: St, b: u8, out: &mut [u8]) -> Next
     sheet_fields::byte(s, b)
 }
 
-fn push(cur: Next, b: u8, out: &mut [u8]) -> Next
+pub fn push(cur: Next, b: u8, out: &mut [u8]) -> Next
     ensures { λ r. ⌜ fed r (wordsOf (now (out .exit))) ≡ pushOf (fed cur (wordsOf (now (out .entry)))) b ⌝ }
 {
     match cur {

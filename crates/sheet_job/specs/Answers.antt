@@ -105,10 +105,10 @@ function-refused job e = conj-at (functionTests job) 2 (long-refused job (job .v
 refusedBy : Bool → Bool → Refusal
 refusedBy l b = cond l (cond b BadFunction BadBook) OverALimit
 
-long-answer : (job : Job) (room : Room) → longIn (job .vgroups) ≡ true → answer job room ≡ refused (refusedBy (limitsOk job) (bookOk job))
-unfolding answer entry lowestOf answerTo refusedBy
-long-answer job room e =
-    ap (λ (t : Bool). answerTo (lowestOf ((limitsOk job, OverALimit) ∷ (bookOk job, BadBook) ∷ (t, BadFunction) ∷ rest)) job room) f ∙ go (limitsOk job) (bookOk job)
+long-entry : (job : Job) → longIn (job .vgroups) ≡ true → entry job ≡ some (refusedBy (limitsOk job) (bookOk job))
+unfolding entry lowestOf refusedBy
+long-entry job e =
+    ap (λ (t : Bool). lowestOf ((limitsOk job, OverALimit) ∷ (bookOk job, BadBook) ∷ (t, BadFunction) ∷ rest)) f ∙ go (limitsOk job) (bookOk job)
   where
     rest : List (Bool × Refusal)
     rest = (hintsOk job, BadHint) ∷ (segmentsOk job, BadSegment) ∷ (every (usesOk job) (job .segments), BadUse) ∷ []
@@ -116,7 +116,7 @@ long-answer job room e =
     f : functionOk job ≡ false
     f = function-refused job e
 
-    go : (l b : Bool) → answerTo (cond l (cond b (some BadFunction) (some BadBook)) (some OverALimit)) job room ≡ refused (cond l (cond b BadFunction BadBook) OverALimit)
+    go : (l b : Bool) → cond l (cond b (some BadFunction) (some BadBook)) (some OverALimit) ≡ some (cond l (cond b BadFunction BadBook) OverALimit)
     go true true = refl
     go true false = refl
     go false b = refl
@@ -169,21 +169,38 @@ alike-same j k a e =
     let g : j .vgroups ≡ k .vgroups = same-groups (j .vgroups) (k .vgroups) (a .vgroups) e in
     sym (groups-own j) ∙ ap (λ (gs : List (List Value)). withGroups j gs) g ∙ alike-groups j k a (k .vgroups) ∙ groups-own k
 
--- THE LAW of jobs that are alike: they have one answer
-pub alike-answer : (j k : Job) (room : Room) → Alike j k → answer j room ≡ answer k room
-alike-answer j k room a = go (longIn (k .vgroups)) refl
+-- THE LAW of jobs that are alike: the entry tests say one thing of them
+pub alike-entry : (j k : Job) → Alike j k → entry j ≡ entry k
+alike-entry j k a = go (longIn (k .vgroups)) refl
   where
-    go : (t : Bool) → longIn (k .vgroups) ≡ t → answer j room ≡ answer k room
-    go false e = ap (λ (x : Job). answer x room) (alike-same j k a e)
+    go : (t : Bool) → longIn (k .vgroups) ≡ t → entry j ≡ entry k
+    go false e = ap entry (alike-same j k a e)
     go true e =
         let n : length (k .vgroups) ≡ length (j .vgroups) = sym (same-length (j .vgroups) (k .vgroups) (a .vgroups)) in
         let w : withGroups j (k .vgroups) ≡ k = alike-groups j k a (k .vgroups) ∙ groups-own k in
         let l : limitsOk j ≡ limitsOk k = sym (limits-groups j (k .vgroups) n) ∙ ap limitsOk w in
         let b : bookOk j ≡ bookOk k = sym (book-groups j (k .vgroups)) ∙ ap bookOk w in
-        long-answer j room (long-groups (j .vgroups) (k .vgroups) (a .vgroups) e)
-        ∙ ap (λ (t : Bool). refused (refusedBy t (bookOk j))) l
-        ∙ ap (λ (t : Bool). refused (refusedBy (limitsOk k) t)) b
-        ∙ sym (long-answer k room e)
+        long-entry j (long-groups (j .vgroups) (k .vgroups) (a .vgroups) e)
+        ∙ ap (λ (t : Bool). some (refusedBy t (bookOk j))) l
+        ∙ ap (λ (t : Bool). some (refusedBy (limitsOk k) t)) b
+        ∙ sym (long-entry k e)
+
+-- and those that pass are one job
+pub accepted-same : (j k : Job) → Alike j k → entry k ≡ none → j ≡ k
+accepted-same j k a e = go (longIn (k .vgroups)) refl
+  where
+    go : (t : Bool) → longIn (k .vgroups) ≡ t → j ≡ k
+    go false q = alike-same j k a q
+    go true q = absurd (none-some (sym e ∙ long-entry k q))
+
+-- so they have one answer
+pub alike-answer : (j k : Job) (room : Room) → Alike j k → answer j room ≡ answer k room
+unfolding answer answerTo
+alike-answer j k room a = go (entry k) refl
+  where
+    go : (o : Option Refusal) → entry k ≡ o → answerTo (entry j) j room ≡ answerTo (entry k) k room
+    go none e = ap (λ (x : Job). answer x room) (accepted-same j k a e)
+    go (some r) e = ap (λ (o : Option Refusal). answerTo o j room) (alike-entry j k a ∙ e) ∙ sym (ap (λ (o : Option Refusal). answerTo o k room) e)
 
 -- ---- a kind of record over its limit
 
@@ -270,14 +287,18 @@ over-limits rs o use′ a b h =
     conj-at (limitTests (jobOfRecords rs)) 7 (lt-leb (total (λ (s : Segment). length (s .uses)) (segmentsOf rs .made)) 4096 (omega (arith, h, u, z)))
 over-limits rs o end a b h = absurd (omega (arith, b))
 
-over-answer : (job : Job) (room : Room) → limitsOk job ≡ false → answer job room ≡ refused OverALimit
-unfolding answer
-over-answer job room e = ap (λ (t : Bool). answerTo (cond t (lowestOf rest) (some OverALimit)) job room) e
+pub over-entry : (job : Job) → limitsOk job ≡ false → entry job ≡ some OverALimit
+unfolding entry lowestOf
+over-entry job e = ap (λ (t : Bool). cond t (lowestOf rest) (some OverALimit)) e
   where
     rest : List (Bool × Refusal)
     rest =
         (bookOk job, BadBook) ∷ (functionOk job, BadFunction) ∷ (hintsOk job, BadHint)
         ∷ (segmentsOk job, BadSegment) ∷ (every (usesOk job) (job .segments), BadUse) ∷ []
+
+over-answer : (job : Job) (room : Room) → limitsOk job ≡ false → answer job room ≡ refused OverALimit
+unfolding answer answerTo
+over-answer job room e = ap (λ (o : Option Refusal). answerTo o job room) (over-entry job e)
 
 -- ---- the reader's answer
 
@@ -287,11 +308,11 @@ answered Read T room = answer (rawJob T (fixedLayout T)) room
 answered Malformed T room = refused NotARecord
 answered TooMany T room = refused OverALimit
 
-abbrev the : Option Filled → Filled
+abbrev pub the : Option Filled → Filled
 the none = blank 0
 the (some f) = f
 
-full : (n : ℕ) → n ≡ tableWords → (rs : List Record) → Sound rs → fill (blank n) rs .over ≡ true → limitsOk (jobOfRecords rs) ≡ false
+pub full : (n : ℕ) → n ≡ tableWords → (rs : List Record) → Sound rs → fill (blank n) rs .over ≡ true → limitsOk (jobOfRecords rs) ≡ false
 full n e rs s v =
     let l : length {A = ℕ} (replicate n 0) ≡ tableWords = length-replicate n 0 ∙ e in
     let c : Crowded (replicate n 0) rs = fill-over rs (blank n) l refl v in
@@ -311,9 +332,3 @@ said n e room Read o (some rs) s q =
 said n e room TooMany o (some rs) s q =
     let i : filled true o ≡ fill (blank n) rs = ap the q in
     sym (over-answer (jobOfRecords rs) room (full n e rs s (sym (ap (λ (f : Filled). f .over) i))))
-
--- THE LAW: for every list of bytes the reader's answer and table give the answer to the sheet
-pub sheet-answer : (n : ℕ) → n ≡ tableWords → (bs : List ℕ) → Bytes bs → (room : Room)
-    → answered (answerOf (runOf (openOf n) bs .next)) (runOf (openOf n) bs .out) room ≡ sheetAnswer bs room
-unfolding sheetAnswer
-sheet-answer n e bs b room = said n e room (answerOf (runOf (openOf n) bs .next)) (runOf (openOf n) bs .out) (sheetOf bs) (sheet-sound bs) (agree bs b n)

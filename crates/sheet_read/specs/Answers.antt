@@ -1,76 +1,109 @@
--- The answer to a sheet, from the contract of its reader alone. Assumes nothing.
-use mathlib.Core.Path.{_≡_, refl, sym, ap, _∙_, subst}
+-- The answer to a sheet of either form, from the contract of its reader alone. Assumes nothing.
+use mathlib.Core.Path.{_≡_, refl, sym, ap, _∙_}
 use mathlib.Core.List.{List}
 use mathlib.Core.Bool.{Bool, true, false, cond}
 use mathlib.Core.Option.{Option, none, some}
-use Prim.Native.Nat.{ℕ, zero, suc, _≤_}
+use Prim.Native.Nat.{ℕ, _≤_}
 use native.Mathlib.Omega.{arith}
-use lib.ListN.{replicate}
 use Rattle.words.specs.Words.{wordCount, wordsOf}
+use Rattle.definition.specs.declared.Refusal.{Refusal}
 use Rattle.definition.specs.declared.Refusal.the-variants.{NotARecord, OverALimit}
-use Rattle.definition.specs.Types.{Room, Out, refused}
+use Rattle.definition.specs.Types.{Job, Room, Out}
 use Rattle.definition.specs.Build.{Result}
-use Rattle.definition.specs.Entry.{answer}
+use Rattle.definition.specs.Entry.{entry, answer}
 use Rattle.definition.specs.Text.{_>>=_}
-use Rattle.definition.specs.JobSheet.{Record, sheetOf, jobOfRecords, jobOfSheet, answerOrOne, sheetAnswer}
+use Rattle.definition.specs.JobSheet.{Record, jobOfRecords, jobOfSheet, answerOrOne, sheetAnswer}
+use Rattle.definition.specs.declared.SheetRefusal.the-variants.{By}
+use Rattle.definition.specs.SheetForms.{isSecond, recordsIn, jobIn, asWritten}
+use Rattle.definition.specs.SheetForms.{tenthTest, verdictOf, verdict, lift, answerToSheet}
+use Rattle.definition.proofs.Forms.{first-records, as-before, answer-refused as refused-so}
 use Rattle.job.specs.Job.{rawJob}
-use Rattle.sheet_places.specs.Places.{tableWords}
-use Rattle.sheet.specs.declared.Answer.the-variants.{Read, TooMany}
-use Rattle.agree.specs.Table.{filled, fill, blank}
-use Rattle.sheet_rows.specs.Sheets.{On, Sound, sheet-sound}
+use Rattle.agree.specs.Words.{none-some}
+use Rattle.agree.specs.Table.{fill, blank}
+use Rattle.sheet_rows.specs.Sheets.{On, Sound}
 use Rattle.sheet_job.specs.Fixed.{fixedLayout}
-use Rattle.sheet_job.specs.Answers.{said}
-use Rattle.sheet_read.specs.Read.{recordsFit, recordsNumber, recordsTable, sheetNumber, sheetTable, ReadAs, RefusedBy}
+use Rattle.sheet_job.specs.Answers.{alike-entry, alike-answer, over-entry, full}
+use Rattle.form_agree.specs.Read.{bareIn, bare-in-sound, bare-in-job}
+use Rattle.sheet_read.specs.Read.{recordsFit, recordsNumber, sheetNumber, JobRead, ReadAs, RefusedBy}
 use Rattle.sheet_read.specs.Laws.{fill-fits}
 
--- the answer by the number and the words
-abbrev pub answerBy : ℕ → List ℕ → Room → Out Result
-answerBy zero T room = answer (rawJob T (fixedLayout T)) room
-answerBy (suc zero) T room = refused NotARecord
-answerBy (suc (suc k)) T room = refused OverALimit
+-- ---- the verdict on a sheet, by its job
 
-answer-of : (n : ℕ) → n ≡ tableWords → (m : Option (List Record)) → On Sound m → (room : Room) → answerBy (recordsNumber m) (recordsTable n m) room ≡ answerOrOne (m >>= λ rs. some (jobOfRecords rs)) room
-answer-of n e none s room = refl
-answer-of n e (some rs) s room = go (recordsFit rs) refl
-  where
-    filling : (v : Bool) → fill (blank n) rs .over ≡ v → some (filled v (fill (blank n) rs .out)) ≡ some (fill (blank n) rs)
-    filling v q = ap (λ (t : Bool). some (filled t (fill (blank n) rs .out))) (sym q)
-
-    go : (t : Bool) → recordsFit rs ≡ t → answerBy (cond t 0 2) (cond t (fill (blank n) rs .out) (replicate n 0)) room ≡ answer (jobOfRecords rs) room
-    go true q = said n e room Read (fill (blank n) rs .out) (some rs) s (filling false (fill-fits n e rs true q))
-    go false q = said n e room TooMany (fill (blank n) rs .out) (some rs) s (filling true (fill-fits n e rs false q))
-
-module _ (sheet : List ℕ) (r : ℕ) (x : List ℕ) (c : ReadAs sheet r x) where
-  by-contract : (room : Room) → sheetAnswer sheet room ≡ answerBy r (wordsOf x) room
-  unfolding sheetAnswer jobOfSheet sheetNumber sheetTable
-  by-contract room =
-      sym (answer-of (wordCount x) (c .long) (sheetOf sheet) (sheet-sound sheet) room)
-      ∙ ap (λ (T : List ℕ). answerBy (sheetNumber sheet) T room) (sym (c .table))
-      ∙ ap (λ (k : ℕ). answerBy k (wordsOf x) room) (sym (c .number))
-
-  -- THE LAW of number 0: the answer to the sheet is that to the job of its table
-  pub answer-read : r ≡ 0 → (room : Room) → sheetAnswer sheet room ≡ answer (rawJob (wordsOf x) (fixedLayout (wordsOf x))) room
-  answer-read z room = by-contract room ∙ ap (λ (k : ℕ). answerBy k (wordsOf x) room) z
-
-  -- the numbers of the reader
-  numbers : r ≤ 2
-  unfolding sheetNumber
-  numbers = subst (λ (k : ℕ). k ≤ 2) (sym (c .number)) (go (sheetOf sheet))
+module _ (sheet : List ℕ) where
+  pub no-job : jobIn sheet ≡ none → verdict sheet ≡ some (By NotARecord)
+  unfolding jobIn verdict
+  no-job e = go (recordsIn sheet) e
     where
-      by : (t : Bool) → cond t 0 2 ≤ 2
-      by true = omega arith
-      by false = omega arith
+      go : (m : Option (List Record)) → (m >>= λ rs. some (jobOfRecords rs)) ≡ none
+          → verdictOf (isSecond sheet) m ≡ some (By NotARecord)
+      go none h = refl
+      go (some rs) h = absurd (none-some (sym h))
 
-      go : (m : Option (List Record)) → recordsNumber m ≤ 2
-      go none = omega arith
-      go (some rs) = by (recordsFit rs)
+  -- tests 2 to 7 come before 10
+  pub job-refused : (job : Job) (r : Refusal) → jobIn sheet ≡ some job → entry job ≡ some r → verdict sheet ≡ some (By r)
+  unfolding jobIn verdict
+  job-refused job r e h = go (isSecond sheet) (recordsIn sheet) e
+    where
+      the : Option Job → Job
+      the none = job
+      the (some k) = k
 
-  -- THE LAW of the others: the sheet is refused by that number, whatever the room
+      go : (t : Bool) (m : Option (List Record)) → (m >>= λ rs. some (jobOfRecords rs)) ≡ some job
+          → verdictOf t m ≡ some (By r)
+      go t none q = absurd (none-some q)
+      go true (some rs) q = ap (λ (o : Option Refusal). tenthTest o (asWritten rs))
+          (ap (λ (k : Option Job). entry (the k)) q ∙ h)
+      go false (some rs) q = ap (λ (o : Option Refusal). tenthTest o true) (ap (λ (k : Option Job). entry (the k)) q
+          ∙ h)
+
+-- ---- the laws of the reader's numbers
+
+-- the job of a table's words
+abbrev pub tableJob : List ℕ → Job
+tableJob W = rawJob W (fixedLayout W)
+
+module _ (sheet : List ℕ) (r : ℕ) (x y : List ℕ) (c : ReadAs sheet r x y) where
+  -- THE LAW of numbers 1 and 2: the sheet is refused by that number, whatever the room
   pub answer-refused : 1 ≤ r → RefusedBy sheet r
-  answer-refused h = go r h numbers (λ room. by-contract room)
+  unfolding sheetNumber
+  answer-refused h = go (bareIn sheet) (bare-in-job sheet) (bare-in-sound sheet) (c .number)
     where
-      go : (k : ℕ) → 1 ≤ k → k ≤ 2 → ((room : Room) → sheetAnswer sheet room ≡ answerBy k (wordsOf x) room) → RefusedBy sheet k
-      go zero a b e = absurd (omega (arith, a))
-      go (suc zero) a b e = record { cause = NotARecord; number = refl; answer = e }
-      go (suc (suc zero)) a b e = record { cause = OverALimit; number = refl; answer = e }
-      go (suc (suc (suc k))) a b e = absurd (omega (arith, b))
+      by : (rs : List Record) → some (jobOfRecords rs) ≡ jobIn sheet → Sound rs → (t : Bool) → recordsFit rs ≡ t
+          → r ≡ recordsNumber (some rs) → RefusedBy sheet r
+      by rs i s true q d = absurd (omega (arith, h, d ∙ ap (λ (u : Bool). cond u 0 2) q))
+      by rs i s false q d =
+          let v : fill (blank (wordCount x)) rs .over ≡ true = fill-fits (wordCount x) (c .long) rs false q in
+          let e : entry (jobOfRecords rs)
+          ≡ some OverALimit = over-entry (jobOfRecords rs) (full (wordCount x) (c .long) rs s v) in
+          record {
+            cause = OverALimit;
+            number = sym (d ∙ ap (λ (u : Bool). cond u 0 2) q);
+            answer = λ room.
+                refused-so sheet room (By OverALimit) (job-refused sheet (jobOfRecords rs) OverALimit (sym i) e);
+          }
+
+      go : (m : Option (List Record)) → (m >>= λ rs. some (jobOfRecords rs)) ≡ jobIn sheet → On Sound m
+          → r ≡ recordsNumber m
+          → RefusedBy sheet r
+      go none i s d = record {
+        cause = NotARecord;
+        number = sym d;
+        answer = λ room. refused-so sheet room (By NotARecord) (no-job sheet (sym i));
+      }
+      go (some rs) i s d = by rs i s (recordsFit rs) refl d
+
+  -- THE LAWS of number 0: the entry tests say of the table's job what they say of the sheet's
+  pub entry-read : (z : r ≡ 0) → entry (tableJob (wordsOf x)) ≡ entry (c .job z .job)
+  entry-read z = alike-entry (tableJob (wordsOf x)) (c .job z .job) (c .job z .alike)
+
+  -- a sheet of the first form is answered as the table's job is
+  pub answer-read : r ≡ 0 → isSecond sheet ≡ false → (room : Room)
+      → answerToSheet sheet room ≡ lift (answer (tableJob (wordsOf x)) room)
+  unfolding sheetAnswer jobOfSheet jobIn
+  answer-read z f room =
+      let k : JobRead sheet (wordsOf x) = c .job z in
+      as-before sheet room f
+      ∙ ap (λ (m : Option (List Record)). lift (answerOrOne (m >>= λ rs. some (jobOfRecords rs)) room))
+      (sym (first-records sheet f))
+      ∙ ap (λ (o : Option Job). lift (answerOrOne o room)) (k .is)
+      ∙ ap (λ (o : Out Result). lift o) (sym (alike-answer (tableJob (wordsOf x)) (k .job) room (k .alike)))

@@ -1,3 +1,4 @@
 pub mod Read
 pub mod Laws
 pub mod Answers
+pub mod Verdict

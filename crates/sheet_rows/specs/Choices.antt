@@ -93,7 +93,7 @@ use-chosen (f ∷ fs) = go (readField useKind f) (number-small 9 f)
     go none h = tt
     go (some k) h = later k h (readFields (number ∷ replicate (kindFields k) number) fs)
 
-record-chosen : (w : Named) (fs : List (List ℕ)) → On (Chosen w) (readRecord w fs)
+pub record-chosen : (w : Named) (fs : List (List ℕ)) → On (Chosen w) (readRecord w fs)
 unfolding readRecord
 record-chosen opt fs = on-any (readFields (number ∷ bits ∷ bits ∷ bits ∷ []) fs)
 record-chosen bank fs = on-any (readFields (number ∷ []) fs)

@@ -1,4 +1,3 @@
 pub mod Present
 pub mod Columns
 pub mod Shape
-pub mod Streams

@@ -109,7 +109,7 @@ abbrev the : Option Filled → Filled
 the none = blank 0
 the (some f) = f
 
-read-shaped : (n : ℕ) → n ≡ tableWords → (a : Answer) (o : List ℕ) (m : Option (List Record)) → On Sound m → On ChosenRecords m → outcome a o ≡ (m >>= λ rs. some (fill (blank n) rs)) → a ≡ Read
+pub read-shaped : (n : ℕ) → n ≡ tableWords → (a : Answer) (o : List ℕ) (m : Option (List Record)) → On Sound m → On ChosenRecords m → outcome a o ≡ (m >>= λ rs. some (fill (blank n) rs)) → a ≡ Read
     → (b : List ℕ) → wordCount b ≡ tableWords → wordsOf b ≡ o → Shaped b (fixedLayout (wordsOf b))
 read-shaped n e a o none s c q i b w t = absurd (none-some (sym (ap (λ (x : Answer). outcome x o) (sym i) ∙ q)))
 read-shaped n e a o (some rs) s c q i b w t =

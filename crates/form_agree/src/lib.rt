@@ -1,0 +1,1 @@
+// A sheet of either form that was read: the laws are in specs.
