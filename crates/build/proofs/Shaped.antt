@@ -21,7 +21,6 @@ use Rattle.virt_regs.specs.Encoding.{tablesEnd, roomOf, countsOf, Holds}
 use Rattle.virt_regs.specs.Reads.{holds-mapping}
 use Rattle.work_layout.specs.declared.WorkLayout.{WorkLayout}
 use Rattle.work_layout.specs.Regions.{maxWork}
-use Rattle.entry.specs.declared.Entered.{Entered}
 use Rattle.entry.specs.Accepted.{Accepted, Prepared}
 use Rattle.entry.specs.Number.{numberFor}
 use Rattle.entry.proofs.Numbers.{answer-built, answer-number}
@@ -70,11 +69,6 @@ number-done ended.Full h = absurd (omega arith)
 pub answered-as : {n : ℕ} {ol : OutLayout} {o : Out Result} {x : List ℕ} {y y′ : BuildEnd} → y′ ≡ y → Answered n ol o y x → Answered n ol o y′ x
 answered-as {n} {ol} {o} {x} e a = subst (λ (y : BuildEnd). Answered n ol o y x) (sym e) a
 
--- what entry says of the layout that it answers, it says of the one that it was given
-pub entered : (s K : List ℕ) (lay : Layout) (e : Entered) → e .lay ≡ lay → (e .number ≡ 0 → Accepted s K (e .lay) (e .wl) (e .insts) × Prepared (wordsOf s) K (e .lay) (e .wl)) → e .number ≡ 0
-    → Accepted s K lay (e .wl) (e .insts) × Prepared (wordsOf s) K lay (e .wl)
-entered s K lay e q h z = subst (λ (l : Layout). Accepted s K l (e .wl) (e .insts) × Prepared (wordsOf s) K l (e .wl)) q (h z)
-
 module _ (s : List ℕ) (lay : Layout) (ol : OutLayout) where
   -- ---- the entry refuses
 
@@ -85,7 +79,16 @@ module _ (s : List ℕ) (lay : Layout) (ol : OutLayout) where
       let f = answer-number (wordsOf s) lay (roomOf ol) k (sym e) in
       answered-refused n ol (answer (rawJob (wordsOf s) lay) (roomOf ol)) (f .0) (refusedEnd (suc k)) x (f .1) (end-refused (suc k) (f .0) (sym (f .2))) z
 
-  -- ---- the entry accepts, with number k
+  -- ---- the entry accepts, with number k: what is built is the answer
+
+  pub answered-entry : (n k : ℕ) (r : BuildEnd) (x : List ℕ) (l : Layout) → l ≡ lay → k ≡ numberFor (wordsOf s) lay
+      → k ≡ 0 → Answered n ol (build (rawJob (wordsOf s) l) (roomOf ol)) r x
+      → Answered n ol (answer (rawJob (wordsOf s) lay) (roomOf ol)) r x
+  answered-entry n k r x l q e z h =
+      let b : build (rawJob (wordsOf s) l) (roomOf ol) ≡ answer (rawJob (wordsOf s) lay) (roomOf ol) =
+      ap (λ (y : Layout). build (rawJob (wordsOf s) y) (roomOf ol)) q
+      ∙ sym (answer-built (wordsOf s) lay (roomOf ol) (sym e ∙ z)) in
+      subst (λ (o : Out Result). Answered n ol o r x) b h
 
   module _ (K : List ℕ) (wl : WorkLayout) (n : ℕ) (a : Accepted s K lay wl n) (p : Prepared (wordsOf s) K lay wl) where
     -- the sets can be built
@@ -101,15 +104,13 @@ module _ (s : List ℕ) (lay : Layout) (ol : OutLayout) where
         }
 
     -- they ended with r, the words O of the result tables and K₁ of the work slice
-    module _ (k : ℕ) (number : k ≡ numberFor (wordsOf s) lay) (none : k ≡ 0) (O K₁ : List ℕ) (r : PlaceEnd)
+    module _ (O K₁ : List ℕ) (r : PlaceEnd)
         (h : EndsAs (jobOf (wordsOf s) lay) ol (wordsOf s) lay wl O K₁ r (buildFrom (wordsOf s) lay (roomOf ol) 0 empty)) where
       abbrev sets : Out State
       sets = buildFrom (wordsOf s) lay (roomOf ol) 0 empty
 
-      answer-is : answer (rawJob (wordsOf s) lay) (roomOf ol) ≡ (sets >>= λ st. finished st)
-      answer-is =
-          answer-built (wordsOf s) lay (roomOf ol) (sym number ∙ none) ∙ ap (λ (j : Job). build j (roomOf ol)) (a .same)
-          ∙ build-begins (wordsOf s) lay (roomOf ol)
+      built-is : build (rawJob (wordsOf s) lay) (roomOf ol) ≡ (sets >>= λ st. finished st)
+      built-is = ap (λ (j : Job). build j (roomOf ol)) (a .same) ∙ build-begins (wordsOf s) lay (roomOf ol)
 
       module _ (q : ℕ) (eq : q ≡ endNumber (r .end)) where
         left : q ≡ 0 → (st : State) × (sets ≡ done st) × StandsAs (jobOf (wordsOf s) lay) ol O (wordsOf s) K₁ lay wl (r .counts) st
@@ -125,12 +126,12 @@ module _ (s : List ℕ) (lay : Layout) (ol : OutLayout) where
             (omega (arith, l .2 .stands .tables .fit-registers, c .regs), omega (arith, l .2 .stands .tables .fit-groups, c .groups))
 
         pub answered-built : (x₀ x : List ℕ) → Cleared ol x₀ → length x ≡ length x₀ → O ≡ wordsOf x → ((i : ℕ) → getD x i 0 < 256) → q ≡ 0
-            → Answered (length x₀) ol (answer (rawJob (wordsOf s) lay) (roomOf ol)) (builtEnd (r .counts)) x
+            → Answered (length x₀) ol (build (rawJob (wordsOf s) lay) (roomOf ol)) (builtEnd (r .counts)) x
         answered-built x₀ x c lx eo b z =
             let l = left z in
             let st = l .0 in
             let t : Holds ol (wordsOf x) st = subst (λ (w : List ℕ). Holds ol w st) eo (l .2 .stands .tables) in
-            let o : answer (rawJob (wordsOf s) lay) (roomOf ol) ≡ done (resultOf st) = answer-is ∙ ap (λ (y : Out State). y >>= λ st′. finished st′) (l .1) in
+            let o : build (rawJob (wordsOf s) lay) (roomOf ol) ≡ done (resultOf st) = built-is ∙ ap (λ (y : Out State). y >>= λ st′. finished st′) (l .1) in
             record {
               end = end-built st (r .counts) (l .2 .counts) ∙ ap endLeft (sym o);
               bytes = sym (append-nil x) ∙ held-left (length x₀) 0 ol x st (lx ∙ c .long) (λ i m. b i) (omega arith) t ∙ ap (λ (u : Out Result). bytesLeft (length x₀) ol u) (sym o);
@@ -138,11 +139,11 @@ module _ (s : List ℕ) (lay : Layout) (ol : OutLayout) where
             }
 
         -- not done: the tables are cleared
-        pub answered-ended : (m : ℕ) (x : List ℕ) → x ≡ replicate m 0 → (q ≡ 0 → ⊥) → Answered m ol (answer (rawJob (wordsOf s) lay) (roomOf ol)) (refusedEnd q) x
+        pub answered-ended : (m : ℕ) (x : List ℕ) → x ≡ replicate m 0 → (q ≡ 0 → ⊥) → Answered m ol (build (rawJob (wordsOf s) lay) (roomOf ol)) (refusedEnd q) x
         unfolding EndsAs
         answered-ended m x e z = go sets refl h
           where
-            go : (y : Out State) → sets ≡ y → EndsAs (jobOf (wordsOf s) lay) ol (wordsOf s) lay wl O K₁ r y → Answered m ol (answer (rawJob (wordsOf s) lay) (roomOf ol)) (refusedEnd q) x
+            go : (y : Out State) → sets ≡ y → EndsAs (jobOf (wordsOf s) lay) ol (wordsOf s) lay wl O K₁ r y → Answered m ol (build (rawJob (wordsOf s) lay) (roomOf ol)) (refusedEnd q) x
             go (done st) i u = absurd (z (eq ∙ ap endNumber (u .0)))
             go (refused f) i u =
-                answered-refused m ol (answer (rawJob (wordsOf s) lay) (roomOf ol)) f (refusedEnd q) x (answer-is ∙ ap (λ (y : Out State). y >>= λ st. finished st) i) (end-refused q f (eq ∙ ended-number f (r .end) u)) e
+                answered-refused m ol (build (rawJob (wordsOf s) lay) (roomOf ol)) f (refusedEnd q) x (built-is ∙ ap (λ (y : Out State). y >>= λ st. finished st) i) (end-refused q f (eq ∙ ended-number f (r .end) u)) e

@@ -3,6 +3,7 @@ use build_answer::BuildEnd;
 use build_answer::out_layout;
 use build_answer::tables_bytes;
 use build_sets::build_sets;
+use entry::Entered;
 use entry::enter_prepared;
 use job_shape::find_layout;
 use layout::Layout;
@@ -14,12 +15,14 @@ ghost use mathlib.Core.Path.{_≡_};
 ghost use Prim.Native.Nat.{_/_, _≤_, _<_};
 ghost use lib.ListN.{length};
 ghost use Rattle.words.specs.Words.{wordCount, wordsOf};
+ghost use Rattle.definition.specs.Build.{build};
 ghost use Rattle.definition.specs.Entry.{answer};
 ghost use Rattle.job.specs.Job.{rawJob};
 ghost use Rattle.job_shape.specs.Shape.{Shaped};
 ghost use Rattle.job_shape.specs.Answer.{binaryAnswer};
 ghost use Rattle.virt_regs.specs.Encoding.{roomOf};
 ghost use Rattle.work_layout.specs.Regions.{maxWork};
+ghost use Rattle.entry.specs.Accepted.{Accepted, Prepared};
 ghost use Rattle.build_answer.specs.Answered.{outLayoutOf, Answered};
 ghost use Rattle.build.specs.Ends.{endNumber, builtEnd, refusedEnd, Cleared};
 
@@ -55,7 +58,33 @@ fn refuse(number: u32) -> BuildEnd
     }
 }
 
-// A job of good shape, in result tables that are just as long as `out` and zero. They are cleared again where the build does not come to its end.
+// A job that passed the entry tests, in result tables that are just as long as `out` and zero.
+// They are cleared again where the build does not come to its end.
+pub fn build_entered(
+    job: &[u8],
+    e: Entered,
+    out: &mut [u8],
+    ol: OutLayout,
+    work: &mut [u8],
+) -> BuildEnd
+    requires { ⌜ Accepted (now job) (wordsOf (now work)) (e .lay) (e .wl) (e .insts)
+        × Prepared (wordsOf (now job)) (wordsOf (now work)) (e .lay) (e .wl)
+        × (maxWork ≤ wordCount (now work)) × Cleared ol (now out) ⌝ }
+    ensures { λ r. ⌜ Answered (length (now (out .entry))) ol
+        (build (rawJob (wordsOf (now (job .entry))) (e .lay)) (roomOf ol)) r (now (out .exit)) ⌝ }
+{
+    let r = build_sets(job, e.lay, out, ol, work, e.wl);
+    let end = r.end;
+    let number = end_number(end);
+    if number != 0 {
+        clear(out);
+        return refuse(number);
+    }
+    let counts = r.counts;
+    built(counts)
+}
+
+// A job of good shape, in such tables.
 pub fn build_shaped(
     job: &[u8],
     lay: Layout,
@@ -71,15 +100,7 @@ pub fn build_shaped(
     if test != 0 {
         return refuse(test);
     }
-    let r = build_sets(job, lay, out, ol, work, e.wl);
-    let end = r.end;
-    let number = end_number(end);
-    if number != 0 {
-        clear(out);
-        return refuse(number);
-    }
-    let counts = r.counts;
-    built(counts)
+    build_entered(job, e, out, ol, work)
 }
 
 // job: a binary job. out: the result tables, with as many rows as are named and fit. work: what it holds does not matter.

@@ -16,6 +16,9 @@ use Rattle.job_shape.specs.Answer.{binaryJob, answerIf, binaryAnswer}
 use Rattle.virt_regs.specs.declared.OutLayout.{OutLayout}
 use Rattle.virt_regs.specs.Encoding.{roomOf, Holds}
 use Rattle.virt_regs.specs.View.{registersIn, groupsIn, registers-held, groups-held}
+use Rattle.definition.specs.declared.SheetRefusal.the-variants.{By, WrittenDiffers}
+use Rattle.definition.specs.SheetForms.{SheetOut, given′, refused′, lift}
+use Rattle.build_answer.specs.Sheets.{sheetEnd, sheetBytes, SheetAnswered}
 use Rattle.build_answer.specs.declared.BuildEnd.{BuildEnd}
 use Rattle.build_answer.specs.Answered.{bytesLeft, endLeft, stateOf, Answered, resultIn}
 
@@ -54,6 +57,15 @@ pub read-answer : (n : ℕ) (ol : OutLayout) (o : Out Result) (r : BuildEnd) (x 
 unfolding endLeft
 read-answer n ol (done res) r x a z = ap done (sym (read-done n ol (done res) r x res a refl))
 read-answer n ol (refused f) r x a z = absurd (omega (arith, ap (λ (b : BuildEnd). b .number) (a .end), number-in f .0))
+
+-- the same of an answer to a sheet
+pub read-given : (n : ℕ) (ol : OutLayout) (o : SheetOut Result) (r : BuildEnd) (x : List ℕ) → SheetAnswered n ol o r x → r .number ≡ 0
+    → o ≡ given′ (resultIn ol r x)
+unfolding sheetEnd sheetBytes endLeft bytesLeft
+read-given n ol (given′ res) r x a z =
+    ap given′ (sym (read-done n ol (done res) r x res (record { end = a .end; bytes = a .bytes; holds = λ k e. a .holds k (ap (λ (t : Out Result). lift t) e) }) refl))
+read-given n ol (refused′ (By f)) r x a z = absurd (omega (arith, ap (λ (b : BuildEnd). b .number) (a .end), number-in f .0))
+read-given n ol (refused′ WrittenDiffers) r x a z = absurd (omega (arith, ap (λ (b : BuildEnd). b .number) (a .end)))
 
 shaped-answer : (t : Bool) (job : Job) (room : Room) (res : Result) → answerIf t job room ≡ done res → answer job room ≡ done res
 unfolding answerIf

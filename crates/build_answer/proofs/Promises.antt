@@ -20,7 +20,7 @@ use Rattle.definition.specs.RegInfo.{setOf}
 use Rattle.definition.specs.Uses.{classOf, isClassUse}
 use Rattle.definition.specs.Build.{Result}
 use Rattle.definition.specs.Lines.{printed}
-use Rattle.definition.specs.JobSheet.{jobOfSheet, sheetAnswer}
+use Rattle.definition.specs.SheetForms.{jobIn, answerToSheet}
 use Rattle.definition.specs.Promised.{Follows, In, Listed, Transitive, addedIn, byFirst, classUsesAt, covered, had, liveAt, inputOf, marksAt, ownIn, ownOf, valued, markedFor}
 use Rattle.definition.proofs.Places.{All}
 use Rattle.definition.proofs.Promises as defined
@@ -32,7 +32,8 @@ use Rattle.weight_truth.specs.Truth.{RankTrue, TrueWeight}
 use Rattle.weight_truth.proofs.Promises.{promise-weights, promise-ranks, promise-weights-sheet as sheet-weights}
 use Rattle.build_answer.specs.declared.BuildEnd.{BuildEnd}
 use Rattle.build_answer.specs.Answered.{Answered, resultIn}
-use Rattle.build_answer.proofs.Accepted.{end-done, end-refused, read-done, read-answer, accepted, zeros-left}
+use Rattle.build_answer.specs.Sheets.{SheetAnswered}
+use Rattle.build_answer.proofs.Accepted.{end-done, end-refused, read-done, read-given, accepted, zeros-left}
 use Rattle.build_answer.proofs.Floats.{binary-f32}
 
 -- ---- every job gets an answer
@@ -156,11 +157,11 @@ pub promise-ranks-left : (n : ℕ) (ol : OutLayout) (s : List ℕ) (r : BuildEnd
 promise-ranks-left n ol s r x a z =
     promise-ranks (binaryJob s) (roomOf ol) (resultIn ol r x) (binary-f32 s) (accepted n ol s r x a z)
 
--- The same of a job sheet bs, whose job is `job`: what `vregs` leaves in its tables is `Answered` for the answer to the
--- sheet (crates/vregs_answer: `Answers`, `promise-weights-vregs`).
+-- The same of a job sheet bs of either form, whose job is `job`: what `vregs` leaves in its tables is `SheetAnswered` for the
+-- answer to the sheet (crates/vregs_answer: `Answers`, `promise-weights-vregs`).
 -- Rules out, as readings: the job that the reader's table stands for, in place of the sheet's; a sheet that is refused.
 pub promise-weights-sheet : (n : ℕ) (ol : OutLayout) (bs : List ℕ) (job : Job) (r : BuildEnd) (x : List ℕ)
-    → Answered n ol (sheetAnswer bs (roomOf ol)) r x → r .number ≡ 0
-    → jobOfSheet bs ≡ some job → All (TrueWeight job) (resultIn ol r x .registers)
+    → SheetAnswered n ol (answerToSheet bs (roomOf ol)) r x → r .number ≡ 0
+    → jobIn bs ≡ some job → All (TrueWeight job) (resultIn ol r x .registers)
 promise-weights-sheet n ol bs job r x a z j =
-    sheet-weights bs (roomOf ol) job (resultIn ol r x) j (read-answer n ol (sheetAnswer bs (roomOf ol)) r x a z)
+    sheet-weights bs (roomOf ol) job (resultIn ol r x) j (read-given n ol (answerToSheet bs (roomOf ol)) r x a z)

@@ -5,7 +5,7 @@ use Prim.Native.Nat.{ℕ, zero, suc, _+_, _*_}
 use lib.Dec.{leb, ltb, eqb}
 use lib.ListN.{length, getD, take, drop}
 use Rattle.definition.specs.Text.{digitOf, same, tab, lineFeed}
-use Rattle.definition.specs.RegisterSheet.{vregsOf}
+use Rattle.definition.specs.SheetForms.{vregsOf}
 
 -- the number that k digits from `at` on spell behind v; where one is none, more than any room
 unfoldable pub spelled : List ℕ → ℕ → ℕ → ℕ → ℕ

@@ -8,11 +8,12 @@ use lib.ListN.{getD}
 use lib.Ieee.{binary32, toBits}
 use Rattle.definition.specs.declared.Use.{Use}
 use Rattle.definition.specs.declared.VirtReg.{VirtReg}
-use Rattle.definition.specs.Types.{Piece, Register, Out, done, refused, numberOf}
+use Rattle.definition.specs.Types.{Piece, Register}
 use Rattle.definition.specs.Build.{Result}
 use Rattle.definition.specs.Lines.{Line, vreg-line, seg-line, use-line, group-line, end-line, useLines, segLines, vregLines, groupLines, printed}
 use Rattle.definition.specs.Text.{bytes, decimal, line, Fields, fieldsOf, linesOf}
-use Rattle.definition.specs.RegisterSheet.{lineBytes, linesBytes, registerSheet}
+use Rattle.definition.specs.RegisterSheet.{lineBytes, linesBytes}
+use Rattle.definition.specs.SheetForms.{sheetNumberOf, SheetOut, given′, refused′, answerText}
 use Rattle.printed.specs.Clean.{clean-decimal, body, tabbed-body, feed-line, fields-back, lines-back}
 use Rattle.printed.specs.Unprint.{Words, one-sheet, number, number-back}
 
@@ -85,21 +86,21 @@ no-r (end-line r g ∷ ls) e = omega (arith, e)
 
 -- ---- the law
 
-abbrev pub Fit : Out Result → Type 0
-Fit (done res) = Weighed (res .registers)
-Fit (refused r) = Unit {0}
+abbrev pub Fit : SheetOut Result → Type 0
+Fit (given′ res) = Weighed (res .registers)
+Fit (refused′ r) = Unit {0}
 
 -- "Results are equal if the vreg, seg, use, group and end lines for them are the same"; of a refusal the number is told
-abbrev pub SameAnswer : Out Result → Out Result → Type 0
-SameAnswer (done a) (done b) = printed a ≡ printed b
-SameAnswer (done a) (refused r) = ⊥
-SameAnswer (refused r) (done b) = ⊥
-SameAnswer (refused r) (refused s) = numberOf r ≡ numberOf s
+abbrev pub SameAnswer : SheetOut Result → SheetOut Result → Type 0
+SameAnswer (given′ a) (given′ b) = printed a ≡ printed b
+SameAnswer (given′ a) (refused′ r) = ⊥
+SameAnswer (refused′ r) (given′ b) = ⊥
+SameAnswer (refused′ r) (refused′ s) = sheetNumberOf r ≡ sheetNumberOf s
 
 -- THE LAW: equal sheets are equal answers
-pub told-apart : (a b : Out Result) → Fit a → Fit b → registerSheet a ≡ registerSheet b → SameAnswer a b
-unfolding registerSheet
-told-apart (done a) (done b) f g e = one-sheet (printed a) (printed b) (printed-words a f) (printed-words b g) e
-told-apart (done a) (refused r) f g e = no-r (printed a) (ap (λ (l : List ℕ). getD l 0 0) e)
-told-apart (refused r) (done b) f g e = no-r (printed b) (ap (λ (l : List ℕ). getD l 0 0) (sym e))
-told-apart (refused r) (refused s) f g e = sym (refused-back (numberOf r)) ∙ ap refusedNumber e ∙ refused-back (numberOf s)
+pub told-apart : (a b : SheetOut Result) → Fit a → Fit b → answerText a ≡ answerText b → SameAnswer a b
+unfolding answerText
+told-apart (given′ a) (given′ b) f g e = one-sheet (printed a) (printed b) (printed-words a f) (printed-words b g) e
+told-apart (given′ a) (refused′ r) f g e = no-r (printed a) (ap (λ (l : List ℕ). getD l 0 0) e)
+told-apart (refused′ r) (given′ b) f g e = no-r (printed b) (ap (λ (l : List ℕ). getD l 0 0) (sym e))
+told-apart (refused′ r) (refused′ s) f g e = sym (refused-back (sheetNumberOf r)) ∙ ap refusedNumber e ∙ refused-back (sheetNumberOf s)

@@ -17,10 +17,11 @@ fn replay_input(
     answer: &mut [u8],
     buf: &mut [u8],
     table: &mut [u8],
+    written: &mut [u8],
     out: &mut [u8],
     work: &mut [u8],
 )
-    requires { ⌜ (262144 ≤ length (now sheet)) × (524288 ≤ length (now answer)) × (256 ≤ length (now buf)) × (wordCount (now table) ≡ tableWords) × (length (now out) ≡ 460800) × (maxWork ≤ wordCount (now work)) ⌝ }
+    requires { ⌜ (262144 ≤ length (now sheet)) × (524288 ≤ length (now answer)) × (256 ≤ length (now buf)) × (wordCount (now table) ≡ tableWords) × (wordCount (now written) ≡ 1536) × (length (now out) ≡ 460800) × (maxWork ≤ wordCount (now work)) ⌝ }
 {
     let input = streams::descriptor(STDIN_FILENO);
     let output = streams::descriptor(STDOUT_FILENO);
@@ -35,6 +36,7 @@ fn replay_input(
         answer,
         buf,
         table,
+        written,
         out,
         work,
     );
@@ -55,10 +57,22 @@ fn run(
     answer: &mut [u8; 524288],
     buf: &mut [u8; 65536],
     table: &mut [u8; 174680],
+    written: &mut [u8; 6144],
     out: &mut [u8; 460800],
     work: &mut [u8; 110600],
 ) {
-    replay_input(tape, given, paper, sheet, answer, buf, table, out, work);
+    replay_input(
+        tape,
+        given,
+        paper,
+        sheet,
+        answer,
+        buf,
+        table,
+        written,
+        out,
+        work,
+    );
 }
 
 fn main() {
@@ -69,6 +83,7 @@ fn main() {
     let mut answer = [0u8; 524288];
     let mut buf = [0u8; 65536];
     let mut table = [0u8; 174680];
+    let mut written = [0u8; 6144];
     let mut out = [0u8; 460800];
     let mut work = [0u8; 110600];
     run(
@@ -79,6 +94,7 @@ fn main() {
         &mut answer,
         &mut buf,
         &mut table,
+        &mut written,
         &mut out,
         &mut work,
     );

@@ -9,7 +9,7 @@ use lib.ListN.{length, take, drop, getD, length-drop, take-append-drop, drop-of-
 use lib.Seq.{take-all, drop-drop}
 use borrow.Author.Tests.{leb-true}
 use Rattle.definition.specs.Text.{same}
-use Rattle.definition.specs.RegisterSheet.{vregsOf}
+use Rattle.definition.specs.SheetForms.{vregsOf}
 use Rattle.streams.specs.declared.Stream.{Stream}
 use Rattle.streams.specs.declared.Step.{Step}
 use Rattle.streams.specs.Tape.{AllMarked, WroteAll}

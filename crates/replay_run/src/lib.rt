@@ -35,10 +35,11 @@ fn next_answer(
     answer: &mut [u8],
     buf: &mut [u8],
     table: &mut [u8],
+    written: &mut [u8],
     out: &mut [u8],
     work: &mut [u8],
 ) -> Found
-    requires { ⌜ (s .at ≤ length (now given)) × (262144 ≤ length (now sheet)) × (524288 ≤ length (now answer)) × (256 ≤ length (now buf)) × (wordCount (now table) ≡ tableWords) × (length (now out) ≡ 460800) × (maxWork ≤ wordCount (now work)) ⌝ }
+    requires { ⌜ (s .at ≤ length (now given)) × (262144 ≤ length (now sheet)) × (524288 ≤ length (now answer)) × (256 ≤ length (now buf)) × (wordCount (now table) ≡ tableWords) × (wordCount (now written) ≡ 1536) × (length (now out) ≡ 460800) × (maxWork ≤ wordCount (now work)) ⌝ }
     ensures { λ r. ⌜ AnswerRead (now (tape .entry)) (now (given .entry)) s r ⌝ }
 {
     let f = frames::read_frame(s, tape, given, sheet, answer);
@@ -54,7 +55,7 @@ fn next_answer(
     }
     let n = f.sheet;
     let m = f.answer;
-    let same = sheet_replay::is_answer(&sheet[..n], &answer[..m], buf, table, out, work);
+    let same = sheet_replay::is_answer(&sheet[..n], &answer[..m], buf, table, written, out, work);
     Found {
         whole: true,
         failed: false,
@@ -93,10 +94,11 @@ pub fn replay(
     answer: &mut [u8],
     buf: &mut [u8],
     table: &mut [u8],
+    written: &mut [u8],
     out: &mut [u8],
     work: &mut [u8],
 ) -> Outcome
-    requires { ⌜ (input .at ≤ length (now given)) × (output .at ≤ length (now paper)) × (262144 ≤ length (now sheet)) × (524288 ≤ length (now answer)) × (256 ≤ length (now buf)) × (wordCount (now table) ≡ tableWords) × (length (now out) ≡ 460800) × (maxWork ≤ wordCount (now work)) ⌝ }
+    requires { ⌜ (input .at ≤ length (now given)) × (output .at ≤ length (now paper)) × (262144 ≤ length (now sheet)) × (524288 ≤ length (now answer)) × (256 ≤ length (now buf)) × (wordCount (now table) ≡ tableWords) × (wordCount (now written) ≡ 1536) × (length (now out) ≡ 460800) × (maxWork ≤ wordCount (now work)) ⌝ }
     ensures { λ r. ⌜ Ran (now (reads .entry)) (now (given .entry)) input (now (writes .entry)) (now (paper .entry)) output r (now (paper .exit)) ⌝ }
 {
     let mut at = input;
@@ -105,7 +107,18 @@ pub fn replay(
     let mut differ = 0;
     let mut turns = u64::MAX;
     while 0 < turns {
-        let f = next_answer(at, reads, given, sheet, answer, buf, table, out, work);
+        let f = next_answer(
+            at,
+            reads,
+            given,
+            sheet,
+            answer,
+            buf,
+            table,
+            written,
+            out,
+            work,
+        );
         at = f.next;
         if !f.whole {
             if f.failed {

@@ -9,18 +9,15 @@ use lib.ListN.{length, getD, take, drop, length-drop}
 use lib.Seq.{length-take-le, take-all, take-length, take-add, take-append-seam, drop-at}
 use borrow.Author.Tests.{leb-true, leb-false, eqb-true, eq-eqb}
 use Rattle.words.specs.Words.{wordsOf}
-use Rattle.definition.specs.Types.{Out}
 use Rattle.definition.specs.Build.{Result}
 use Rattle.definition.specs.Limits.{vregsRoom}
-use Rattle.definition.specs.JobSheet.{sheetAnswer}
 use Rattle.definition.specs.Text.{same}
-use Rattle.definition.specs.RegisterSheet.{registerSheet, vregsOf}
+use Rattle.definition.specs.SheetForms.{SheetOut, answerToSheet, answerText, vregsOf}
 use Rattle.virt_regs.specs.declared.OutLayout.{OutLayout}
 use Rattle.sheet_places.specs.Places.{tableWords}
-use Rattle.sheet_fields.specs.declared.Next.{Next}
-use Rattle.sheet_fields.specs.Fields.{Fed, fed}
-use Rattle.sheet.specs.Machine.{openOf, runOf}
-use Rattle.sheet.specs.Stream.{Streamed}
+use Rattle.sheet_form.specs.declared.Reading.{Reading}
+use Rattle.sheet_form.specs.Front.{Formed, formed, runForm, openForm}
+use Rattle.sheet_form.specs.Stream.{Streamed}
 use Rattle.agree.specs.Agree.{all-bytes}
 use Rattle.sheet_output.specs.declared.Cursor.{Cursor}
 use Rattle.sheet_output.specs.declared.Page.{Page}
@@ -79,7 +76,7 @@ pub record Agreed (ol : OutLayout) (r : BuildEnd) (x answer : List ℕ) (c : Cur
   pub tables : ol ≡ vregsTables
   pub prints : Prints ol r x c
   pub within : at ≤ length answer
-  pub each : (o : Out Result) → Printing ol o r x atStart → Printing ol o r x c × (take at answer ++ leftOf o c ≡ registerSheet o)
+  pub each : (o : SheetOut Result) → Printing ol o r x atStart → Printing ol o r x c × (take at answer ++ leftOf o c ≡ answerText o)
 
 pub agreed-start : (ol : OutLayout) (r : BuildEnd) (x answer : List ℕ) (c : Cursor) → Prints vregsTables r x atStart → ol ≡ vregsTables → c ≡ atStart → Agreed ol r x answer c 0
 agreed-start ol r x answer c p e d =
@@ -115,32 +112,45 @@ pub agreed-differs : (ol : OutLayout) (r : BuildEnd) (x answer : List ℕ) (c : 
     → same (take (length (take (p .n) B)) (drop at answer)) (take (p .n) B) ≡ false → TellsSheet r x answer false
 agreed-differs ol r x answer c at p B h t d o g =
     let q = h .each o (subst (λ (l : OutLayout). Printing l o r x atStart) (sym (h .tables)) g) in
-    not-there answer at (take (p .n) B) (leftOf o (p .cur)) (registerSheet o) (h .within) (ap (λ (l : List ℕ). take at answer ++ l) (sym (t .paged o (q .0) .text)) ∙ q .1) d
+    not-there answer at (take (p .n) B) (leftOf o (p .cur)) (answerText o) (h .within) (ap (λ (l : List ℕ). take at answer ++ l) (sym (t .paged o (q .0) .text)) ∙ q .1) d
 
 -- all pages are there, and the answer ends with them or goes on
 pub agreed-all : (ol : OutLayout) (r : BuildEnd) (x answer : List ℕ) (c : Cursor) (at : ℕ) → Agreed ol r x answer c at → c .ended ≡ true → TellsSheet r x answer (eqb at (length answer))
 agreed-all ol r x answer c at h d o g =
-    same-is (eqb at (length answer)) answer (registerSheet o)
+    same-is (eqb at (length answer)) answer (answerText o)
     (λ e. sym (take-length answer) ∙ ap (λ (k : ℕ). take k answer) (sym (eqb-true at (length answer) e)) ∙ is, λ e. eq-eqb at (length answer) (sym (length-take-le at answer (h .within)) ∙ ap length (is ∙ sym e)))
   where
-    is : take at answer ≡ registerSheet o
+    is : take at answer ≡ answerText o
     is = pages-done o (take at answer) c (h .each o (subst (λ (l : OutLayout). Printing l o r x atStart) (sym (h .tables)) g) .1) d
 
 -- ---- the sheet that was fed
 
-pub fed-once : (n : ℕ) (f g : Fed) (sheet : List ℕ) → n ≡ tableWords → f ≡ openOf n → g ≡ runOf f sheet → g ≡ runOf (openOf tableWords) sheet
-fed-once n f g sheet e a b = b ∙ ap (λ (k : Fed). runOf k sheet) (a ∙ ap openOf e)
+pub fed-once : (n m : ℕ) (f g : Formed) (sheet : List ℕ) → n ≡ tableWords → m ≡ 1536 → f ≡ openForm n m
+    → g ≡ runForm f sheet → g ≡ runForm (openForm tableWords 1536) sheet
+fed-once n m f g sheet e d a b =
+    b
+    ∙ ap (λ (k : Formed). runForm k sheet)
+    (a ∙ ap (λ (k : ℕ). openForm k m) e ∙ ap (λ (k : ℕ). openForm tableWords k) d)
 
-pub streamed-once : (g : Fed) (sheet : List ℕ) → ((i : ℕ) → getD sheet i 0 < 256) → g ≡ runOf (openOf tableWords) sheet → Streamed (openOf tableWords) g
+pub streamed-once : (g : Formed) (sheet : List ℕ) → ((i : ℕ) → getD sheet i 0 < 256)
+    → g ≡ runForm (openForm tableWords 1536) sheet → Streamed (openForm tableWords 1536) g
 streamed-once g sheet s e = record { bytes = sheet; small = s; is = e }
 
-module _ (n : ℕ) (cur : Next) (W : List ℕ) (r : BuildEnd) (x sheet : List ℕ) (s : (i : ℕ) → getD sheet i 0 < 256) (e : fed cur W ≡ runOf (openOf tableWords) sheet) (a : Answers n cur W r x) where
-  printing-fed : Printing vregsTables (sheetAnswer sheet vregsRoom) r x atStart
-  printing-fed = printing-start n vregsTables (sheetAnswer sheet vregsRoom) r x (a sheet (all-bytes sheet s) e)
+module _ (n : ℕ) (cur : Reading) (W Y : List ℕ) (r : BuildEnd) (x sheet : List ℕ) (s : (i : ℕ) → getD sheet i 0 < 256)
+    (e : formed cur W Y ≡ runForm (openForm tableWords 1536) sheet) (a : Answers n cur W Y r x) where
+  printing-fed : Printing vregsTables (answerToSheet sheet vregsRoom) r x atStart
+  printing-fed =
+      printing-start n vregsTables (answerToSheet sheet vregsRoom) r x
+      (a sheet (record { bytes = all-bytes sheet s; is = e }))
 
   pub prints-fed : Prints vregsTables r x atStart
-  prints-fed = record { few-regs = omega arith; few-groups = omega arith; answer = sheetAnswer sheet vregsRoom; printing = printing-fed }
+  prints-fed = record {
+    few-regs = omega arith;
+    few-groups = omega arith;
+    answer = answerToSheet sheet vregsRoom;
+    printing = printing-fed;
+  }
 
   pub is-vregs : (answer : List ℕ) (b : Bool) → TellsSheet r x answer b → b ≡ same answer (vregsOf sheet)
   unfolding vregsOf
-  is-vregs answer b i = i (sheetAnswer sheet vregsRoom) printing-fed
+  is-vregs answer b i = i (answerToSheet sheet vregsRoom) printing-fed

@@ -5,18 +5,17 @@ use mathlib.Core.List.{List, [], _∷_}
 use Prim.Native.Nat.{ℕ}
 use lib.Dec.{eqb}
 use borrow.Author.Tests.{eq-eqb, eqb-true}
-use Rattle.definition.specs.Types.{Out}
 use Rattle.definition.specs.Build.{Result}
 use Rattle.definition.specs.Text.{same}
-use Rattle.definition.specs.RegisterSheet.{registerSheet}
+use Rattle.definition.specs.SheetForms.{SheetOut, answerText}
 use Rattle.sheet_output.specs.Left.{atStart}
 use Rattle.build_answer.specs.declared.BuildEnd.{BuildEnd}
 use Rattle.answer_pages.specs.Pages.{Printing}
 use Rattle.vregs_answer.specs.Sheet.{vregsTables}
 
--- r is whether the answer is the register sheet of what ended with e and stands in the bytes x
+-- r is whether the answer is the text of what ended with e and stands in the bytes x
 abbrev pub TellsSheet : BuildEnd → List ℕ → List ℕ → Bool → Type 0
-TellsSheet e x answer r = (o : Out Result) → Printing vregsTables o e x atStart → r ≡ same answer (registerSheet o)
+TellsSheet e x answer r = (o : SheetOut Result) → Printing vregsTables o e x atStart → r ≡ same answer (answerText o)
 
 -- ---- `same` is true of equal lists alone
 

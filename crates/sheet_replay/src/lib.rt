@@ -5,7 +5,7 @@ ghost use Prim.Native.Nat.{_≤_};
 ghost use lib.ListN.{length, take, drop};
 ghost use Rattle.words.specs.Words.{wordCount};
 ghost use Rattle.definition.specs.Text.{same};
-ghost use Rattle.definition.specs.RegisterSheet.{vregsOf};
+ghost use Rattle.definition.specs.SheetForms.{vregsOf};
 ghost use Rattle.work_layout.specs.Regions.{maxWork};
 ghost use Rattle.sheet_places.specs.Places.{tableWords};
 ghost use Rattle.sheet_output.specs.Left.{atStart};
@@ -51,14 +51,15 @@ pub fn is_answer(
     answer: &[u8],
     buf: &mut [u8],
     table: &mut [u8],
+    written: &mut [u8],
     out: &mut [u8],
     work: &mut [u8],
 ) -> bool
-    requires { ⌜ (256 ≤ length (now buf)) × (wordCount (now table) ≡ tableWords) × (length (now out) ≡ 460800) × (maxWork ≤ wordCount (now work)) ⌝ }
+    requires { ⌜ (256 ≤ length (now buf)) × (wordCount (now table) ≡ tableWords) × (wordCount (now written) ≡ 1536) × (length (now out) ≡ 460800) × (maxWork ≤ wordCount (now work)) ⌝ }
     ensures { λ r. ⌜ r ≡ same (now (answer .entry)) (vregsOf (now (sheet .entry))) ⌝ }
 {
-    let first = sheet::open(table);
-    let cur = sheet::feed(first, sheet, table);
-    let end = vregs_answer::answer_table(cur, table, out, work);
+    let first = sheet_form::open(table, written);
+    let cur = sheet_form::feed(first, sheet, table, written);
+    let end = vregs_answer::answer_table(cur, table, written, out, work);
     same_sheet(end, out, answer, buf)
 }

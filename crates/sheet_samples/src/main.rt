@@ -92,6 +92,7 @@ fn agrees(
     s: Sample,
     buf: &mut [u8; 4096],
     table: &mut [u8; 174680],
+    written: &mut [u8; 6144],
     out: &mut [u8; 460800],
     work: &mut [u8; 110600],
 ) -> bool
@@ -103,7 +104,15 @@ fn agrees(
     let answer = s.answer;
     let start = answer.from;
     let end = answer.to;
-    sheet_replay::is_answer(&doc[from..to], &doc[start..end], buf, table, out, work)
+    sheet_replay::is_answer(
+        &doc[from..to],
+        &doc[start..end],
+        buf,
+        table,
+        written,
+        out,
+        work,
+    )
 }
 
 // One more block.
@@ -113,6 +122,7 @@ fn count(
     t: Tally,
     buf: &mut [u8; 4096],
     table: &mut [u8; 174680],
+    written: &mut [u8; 6144],
     out: &mut [u8; 460800],
     work: &mut [u8; 110600],
 ) -> Tally
@@ -120,7 +130,7 @@ fn count(
     ensures { λ r. ⌜ r .agree + r .differ + r .alone ≤ t .agree + t .differ + t .alone + 1 ⌝ }
 {
     if s.paired {
-        if agrees(doc, s, buf, table, out, work) {
+        if agrees(doc, s, buf, table, written, out, work) {
             return agreed(t);
         }
         return differed(t);
@@ -136,6 +146,7 @@ fn count_all(
     doc: &[u8],
     buf: &mut [u8; 4096],
     table: &mut [u8; 174680],
+    written: &mut [u8; 6144],
     out: &mut [u8; 460800],
     work: &mut [u8; 110600],
 ) -> Tally
@@ -150,7 +161,7 @@ fn count_all(
     let mut at = document::next_fence(doc, 0);
     while at < doc.len() {
         let s = document::sample_at(doc, at);
-        t = count(doc, s, t, buf, table, out, work);
+        t = count(doc, s, t, buf, table, written, out, work);
         at = document::next_fence(doc, s.next);
     }
     t
@@ -182,9 +193,10 @@ fn run(doc: &[u8])
 {
     let mut buf = [0u8; 4096];
     let mut table = [0u8; 174680];
+    let mut written = [0u8; 6144];
     let mut out = [0u8; 460800];
     let mut work = [0u8; 110600];
-    show(count_all(doc, &mut buf, &mut table, &mut out, &mut work));
+    show(count_all(doc, &mut buf, &mut table, &mut written, &mut out, &mut work));
 }
 
 fn main() {

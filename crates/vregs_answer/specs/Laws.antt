@@ -1,33 +1,27 @@
--- From what the reader says to the answer to the sheet. Assumes nothing.
+-- From the verdict on a sheet to its answer. Assumes nothing.
 use mathlib.Core.Path.{_≡_, refl, sym, ap, subst, _∙_}
 use mathlib.Core.List.{List}
+use mathlib.Core.Option.{Option, none, some}
 use Prim.Native.Nat.{ℕ}
 use native.Mathlib.Omega.{arith}
 use lib.ListN.{length, replicate, length-replicate}
 use Rattle.words.specs.Words.{wordsOf}
-use Rattle.definition.specs.declared.Refusal.the-variants.{NotARecord, OverALimit}
-use Rattle.definition.specs.Types.{Out, refused}
-use Rattle.definition.specs.Build.{Result}
+use Rattle.definition.specs.Build.{Result, build}
 use Rattle.definition.specs.Limits.{vregsRoom}
-use Rattle.definition.specs.Entry.{answer}
-use Rattle.definition.specs.JobSheet.{sheetAnswer}
-use Rattle.layout.specs.declared.Layout.{Layout}
+use Rattle.definition.specs.declared.SheetRefusal.{SheetRefusal}
+use Rattle.definition.specs.declared.SheetRefusal.the-variants.{By, WrittenDiffers}
+use Rattle.definition.specs.SheetForms.{SheetOut, verdict, answerToSheet}
+use Rattle.definition.proofs.Forms.{not-zero, answer-refused, answer-passed}
 use Rattle.job.specs.Job.{rawJob}
-use Rattle.job_shape.specs.Shape.{Shaped}
 use Rattle.virt_regs.specs.declared.OutLayout.{OutLayout}
 use Rattle.virt_regs.specs.Encoding.{roomOf}
-use Rattle.sheet_places.specs.Places.{tableWords}
-use Rattle.sheet_fields.specs.declared.Next.{Next}
-use Rattle.sheet_fields.specs.Fields.{Fed, fed}
-use Rattle.sheet.specs.declared.Answer.{Answer}
-use Rattle.sheet.specs.declared.Answer.the-variants.{Read, Malformed, TooMany}
-use Rattle.sheet.specs.Machine.{answerOf}
-use Rattle.sheet_job.specs.Fixed.{fixedLayout}
-use Rattle.sheet_job.specs.Answers.{answered, sheet-answer}
+use Rattle.entry.specs.declared.Entered.{Entered}
+use Rattle.sheet_form.specs.declared.Reading.{Reading}
 use Rattle.build_answer.specs.declared.BuildEnd.{BuildEnd}
-use Rattle.build_answer.specs.Answered.{endLeft, Answered}
-use Rattle.build_answer.specs.Held.{answered-refused}
+use Rattle.build_answer.specs.Answered.{Answered}
+use Rattle.build_answer.specs.Sheets.{SheetAnswered, answered-lift, sheet-refused}
 use Rattle.build.specs.Ends.{Cleared}
+use Rattle.sheet_verdict.specs.Judged.{verdictNumber, Judged}
 use Rattle.vregs_answer.specs.Sheet.{vregsTables, refusal, Answers}
 
 -- ---- a slice that was cleared
@@ -35,46 +29,50 @@ use Rattle.vregs_answer.specs.Sheet.{vregsTables, refusal, Answers}
 pub cleared-long : (n : ℕ) (x : List ℕ) → x ≡ replicate n 0 → length x ≡ n
 cleared-long n x z = ap length z ∙ length-replicate n 0
 
-pub cleared : (n : ℕ) (x : List ℕ) → x ≡ replicate n 0 → x ≡ replicate (length x) 0
+cleared : (n : ℕ) (x : List ℕ) → x ≡ replicate n 0 → x ≡ replicate (length x) 0
 cleared n x z = z ∙ ap (λ (k : ℕ). replicate k 0) (sym (cleared-long n x z))
 
--- ---- the build of a table
-
-pub laid : (b : List ℕ) (lay : Layout) → lay ≡ fixedLayout (wordsOf b) → Shaped b (fixedLayout (wordsOf b)) → Shaped b lay
-laid b lay e s = subst (λ (l : Layout). Shaped b l) (sym e) s
-
-pub cleared-tables : (ol : OutLayout) (x : List ℕ) → ol ≡ vregsTables → length x ≡ 460800 → x ≡ replicate (length x) 0 → Cleared ol x
-cleared-tables ol x e h z =
+pub cleared-tables : (ol : OutLayout) (n : ℕ) (x : List ℕ) → ol ≡ vregsTables → n ≡ 460800 → x ≡ replicate n 0
+    → Cleared ol x
+cleared-tables ol n x e h z =
     subst (λ (l : OutLayout). Cleared l x) (sym e)
-    (record { long = h; zeros = z; regs = omega arith; segs = omega arith; uses = omega arith; groups = omega arith })
+    (record {
+      long = cleared-long n x z
+          ∙ h;
+      zeros = cleared n x z;
+      regs = omega arith;
+      segs = omega arith;
+      uses = omega arith;
+      groups = omega arith;
+    })
 
-pub built : (n : ℕ) (W : List ℕ) (lay : Layout) (ol : OutLayout) (r : BuildEnd) (x : List ℕ) → lay ≡ fixedLayout W → ol ≡ vregsTables → Answered n ol (answer (rawJob W lay) (roomOf ol)) r x
-    → Answered n vregsTables (answered Read W vregsRoom) r x
-built n W lay ol r x e d h =
-    subst (λ (l : OutLayout). Answered n l (answer (rawJob W (fixedLayout W)) (roomOf l)) r x) d (subst (λ (l : Layout). Answered n ol (answer (rawJob W l) (roomOf ol)) r x) e h)
+-- ---- by the verdict
 
--- ---- what the reader says
+none-by : (v : Option SheetRefusal) → verdictNumber v ≡ 0 → v ≡ none
+none-by none e = refl
+none-by (some (By r)) e = absurd (not-zero r e)
+none-by (some WrittenDiffers) e = absurd (omega (arith, e))
 
--- the answer by the reader's state and words is that to each such sheet
-pub answers : (n : ℕ) (cur : Next) (W : List ℕ) (r : BuildEnd) (x : List ℕ) → Answered n vregsTables (answered (answerOf cur) W vregsRoom) r x → Answers n cur W r x
-answers n cur W r x a sheet b e =
-    subst (λ (o : Out Result). Answered n vregsTables o r x)
-    (ap (λ (f : Fed). answered (answerOf (f .next)) (f .out) vregsRoom) e ∙ sheet-answer tableWords refl sheet b vregsRoom) a
+module _ (n : ℕ) (cur : Reading) (T Y K : List ℕ) (e : Entered) (j : Judged cur T Y K e) where
+  -- a refusal, by its number alone
+  pub answers-refused : (e .number ≡ 0 → ⊥) → (r : BuildEnd) → r ≡ refusal (e .number) → (x : List ℕ)
+      → x ≡ replicate n 0 → Answers n cur (wordsOf T) Y r x
+  answers-refused h r d x z sheet s = go (verdict sheet) refl (j .number sheet s)
+    where
+      go : (v : Option SheetRefusal) → verdict sheet ≡ v → e .number ≡ verdictNumber v
+          → SheetAnswered n vregsTables (answerToSheet sheet vregsRoom) r x
+      go none f q = absurd (h q)
+      go (some k) f q = sheet-refused n vregsTables (answerToSheet sheet vregsRoom) k r x
+          (answer-refused sheet vregsRoom k f) (d ∙ ap refusal q) z
 
--- by what the reader says
-pub answers-as : (n : ℕ) (cur : Next) (a : Answer) (W : List ℕ) (r : BuildEnd) (x : List ℕ) → a ≡ answerOf cur → Answered n vregsTables (answered a W vregsRoom) r x → Answers n cur W r x
-answers-as n cur a W r x e h = answers n cur W r x (subst (λ (b : Answer). Answered n vregsTables (answered b W vregsRoom) r x) e h)
-
--- a job sheet
-pub answers-read : (n m : ℕ) (cur : Next) (a : Answer) (W : List ℕ) (r : BuildEnd) (x : List ℕ) → a ≡ answerOf cur → a ≡ Read → m ≡ n → Answered m vregsTables (answered Read W vregsRoom) r x
-    → Answers n cur W r x
-answers-read n m cur a W r x e i l h = answers-as n cur Read W r x (sym i ∙ e) (subst (λ (k : ℕ). Answered k vregsTables (answered Read W vregsRoom) r x) l h)
-
--- number 1, number 2
-pub answers-malformed : (n : ℕ) (cur : Next) (a : Answer) (W : List ℕ) (r : BuildEnd) (x : List ℕ) → a ≡ answerOf cur → a ≡ Malformed → r ≡ refusal 1 → x ≡ replicate n 0 → Answers n cur W r x
-unfolding endLeft
-answers-malformed n cur a W r x e m d z = answers-as n cur Malformed W r x (sym m ∙ e) (answered-refused n vregsTables (refused NotARecord) NotARecord r x refl d z)
-
-pub answers-crowded : (n : ℕ) (cur : Next) (a : Answer) (W : List ℕ) (r : BuildEnd) (x : List ℕ) → a ≡ answerOf cur → a ≡ TooMany → r ≡ refusal 2 → x ≡ replicate n 0 → Answers n cur W r x
-unfolding endLeft
-answers-crowded n cur a W r x e m d z = answers-as n cur TooMany W r x (sym m ∙ e) (answered-refused n vregsTables (refused OverALimit) OverALimit r x refl d z)
+  -- the build of a sheet that passes
+  pub answers-built : e .number ≡ 0 → (m : ℕ) → m ≡ n → (ol : OutLayout) → ol ≡ vregsTables
+      → (r : BuildEnd) (x : List ℕ)
+      → Answered m ol (build (rawJob (wordsOf T) (e .lay)) (roomOf ol)) r x → Answers n cur (wordsOf T) Y r x
+  answers-built z m l ol d r x a sheet s =
+      subst (λ (o : SheetOut Result). SheetAnswered n vregsTables o r x)
+      (sym (answer-passed sheet vregsRoom (rawJob (wordsOf T) (e .lay))
+      (none-by (verdict sheet) (sym (j .number sheet s) ∙ z)) (j .job z sheet s)))
+      (answered-lift
+      (subst (λ (k : ℕ). Answered k vregsTables (build (rawJob (wordsOf T) (e .lay)) vregsRoom) r x) l
+      (subst (λ (t : OutLayout). Answered m t (build (rawJob (wordsOf T) (e .lay)) (roomOf t)) r x) d a)))

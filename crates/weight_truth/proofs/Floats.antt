@@ -17,7 +17,8 @@ use Rattle.definition.specs.RegInfo.{zeroF, noClass, classAt}
 use Rattle.definition.specs.SplitPlacement.{freqAt}
 use Rattle.definition.specs.Text.{_>>=_}
 use Rattle.definition.specs.JobSheet.{Record, opt, class, block, at, float, optionsOf, classDataOf, blockDataOf, only}
-use Rattle.definition.specs.JobSheet.{jobOfRecords, jobOfSheet, sheetOf}
+use Rattle.definition.specs.JobSheet.{jobOfRecords}
+use Rattle.definition.specs.SheetForms.{recordsIn, jobIn}
 use Rattle.definition.proofs.Places.{All, all-getD}
 use Rattle.weight_truth.specs.Truth.{F32Job}
 
@@ -87,9 +88,9 @@ records-f32 rs =
     (map-all CostFits classDataOf cost-fits (only class rs))
     (map-all FreqFits blockDataOf frequency-fits (only block rs))
 
-pub sheet-f32 : (bs : List ℕ) (job : Job) → jobOfSheet bs ≡ some job → F32Job job
-unfolding jobOfSheet
-sheet-f32 bs job e = go (sheetOf bs) e
+pub sheet-f32 : (bs : List ℕ) (job : Job) → jobIn bs ≡ some job → F32Job job
+unfolding jobIn
+sheet-f32 bs job e = go (recordsIn bs) e
   where
     go : (o : Option (List Record)) → (o >>= λ rs. some (jobOfRecords rs)) ≡ some job → F32Job job
     go none f = absurd (let z : _≡_ {A = ℕ} 0 1 = cc in omega arith)

@@ -12,12 +12,13 @@ use Rattle.definition.specs.Weights.{sumSegs}
 use Rattle.definition.specs.Place.{segsOf}
 use Rattle.definition.specs.Build.{Result}
 use Rattle.definition.specs.Entry.{answer, entry}
-use Rattle.definition.specs.JobSheet.{jobOfSheet, answerOrOne, sheetAnswer}
+use Rattle.definition.specs.SheetForms.{jobIn, given′, answerToSheet}
 use Rattle.definition.specs.Promised.{OwnWeight}
 use Rattle.definition.proofs.Accepted.{accepted}
 use Rattle.definition.proofs.Entries.{accepted-adjust}
 use Rattle.definition.proofs.Places.{All, all-map}
 use Rattle.definition.proofs.Promises.{promise-weighed}
+use Rattle.definition.proofs.Forms.{answer-given}
 use Rattle.spill_weight.proofs.Sums.{accepted-plain}
 use Rattle.weight_truth.specs.Truth.{FineWeight, F32Job, NearExact, TrueWeight, RankTrue, nonzeros, exactSum}
 use Rattle.weight_truth.proofs.Sums.{sum-near}
@@ -74,10 +75,8 @@ promise-ranks job room res f e =
     λ r t. all-map (TrueWeight job) (RankTrue job r) (λ q u. ranked job n f r q t u) (res .registers) a in
     all-map (TrueWeight job) (λ r. All (RankTrue job r) (res .registers)) others (res .registers) a
 
--- The same of a job sheet's job.
+-- The same of the job of a sheet of either form.
 -- Rules out, as readings: another job's numbers for those of the sheet; a sheet that is refused.
-pub promise-weights-sheet : (bs : List ℕ) (room : Room) (job : Job) (res : Result) → jobOfSheet bs ≡ some job
-    → sheetAnswer bs room ≡ done res → All (TrueWeight job) (res .registers)
-unfolding sheetAnswer
-promise-weights-sheet bs room job res j e =
-    promise-weights job room res (sheet-f32 bs job j) (subst (λ o. answerOrOne o room ≡ done res) j e)
+pub promise-weights-sheet : (bs : List ℕ) (room : Room) (job : Job) (res : Result) → jobIn bs ≡ some job
+    → answerToSheet bs room ≡ given′ res → All (TrueWeight job) (res .registers)
+promise-weights-sheet bs room job res j e = promise-weights job room res (sheet-f32 bs job j) (answer-given bs room job res j e)

@@ -20,7 +20,9 @@ aggregate-2 : tie.Need-slice-aggregate-is-answer-2
 aggregate-2 c = c .before .before .before .before .before .before .before .before .before .read-frame .ensures .answer (not-false _ (c .before .before .if1 .left)) .1
 
 returns-2 : tie.Need-returns-2
-returns-2 c = found-some _ _ _ _ _ _ _ (c .before .before .before .before .before .before .before .before .before .before .before .before .before .before .before .before .before .before .before .before .before .before .read-frame .ensures) (not-false _ (c .before .before .before .before .before .before .before .before .before .before .before .before .before .before .before .if1 .left)) (c .before .before .before .before .before .before .before .before .is-answer .ensures)
+returns-2 c =
+    found-some _ _ _ _ _ _ _ (c .before .before .before .before .before .before .before .before .before .before .before .before .before .before .before .before .before .before .before .before .before .before .before .before .before .read-frame .ensures) (not-false _ (c .before .before .before .before .before .before .before .before .before .before .before .before .before .before .before .before .before .before .if1 .left))
+    (c .before .before .before .before .before .before .before .before .before .before .is-answer .ensures)
 
 pub next-answer-spec : {M : Type 1} → statement M
 next-answer-spec =
@@ -35,6 +37,7 @@ next-answer-spec =
     reshare-2
     aggregate-2
     (λ c κs. search needs)
+    (λ c. search needs)
     (λ c. search needs)
     (λ c. search needs)
     (λ c. search needs)

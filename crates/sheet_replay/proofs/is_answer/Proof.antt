@@ -10,26 +10,44 @@ use Rattle.sheet_replay.proofs.is_answer.Tie as tie
 
 answer-table-requires : tie.Need-answer-table-requires
 answer-table-requires c κs =
-    let p = c .before .before .before .before .before .before .before .before .before .before .before .before .before .before .before .before .before .pre in
-    let s = c .before .before .before .before .before .before .before .before .before .before .before .before .before .before .before .before .before .args .sheet in
-    let b : (i : ℕ) → getD (now s) i 0 < 256 = λ i. omega (arith, c .before .before .before .before .before .before .before .before .before .before .before .before .before .before .before .before .shared-slice-known .given i) in
-    let o = c .before .before .before .before .before .before .before .before .before .«open» in
-    let f = c .before .before .before .before .before .feed in
-    (streamed-once _ _ b (fed-once _ _ _ _ (p .1) (o .ensures) (f .ensures)), omega (arith, p .1, o .kept, f .kept), search needs, search needs)
+    let f = c .before .before .before .before .before .before .before .before in
+    let o = f .before .before .before .before .before .before .before in
+    let k = o .before .before .before .before .before .before .before .before .before in
+    let p = k .before .pre in
+    let b : (i : ℕ) → getD (now (k .before .args .sheet)) i 0 < 256 = λ i. omega
+    (arith, k .shared-slice-known .given i) in (
+      streamed-once _ _ b (fed-once _ _ _ _ _ (p .1) (p .2) (o .«open» .ensures) (f .feed .ensures)),
+      omega (arith, p .1, o .«open» .kept, f .feed .kept),
+      omega (arith, p .2, o .«open» .kept, f .feed .kept),
+      search needs,
+      search needs,
+    )
 
 same-sheet-requires : tie.Need-same-sheet-requires
 same-sheet-requires c κs =
-    let p = c .before .before .before .before .before .before .before .before .before .before .before .before .before .before .before .before .before .before .before .before .before .before .before .before .pre in
-    let s = c .before .before .before .before .before .before .before .before .before .before .before .before .before .before .before .before .before .before .before .before .before .before .before .before .args .sheet in
-    let b : (i : ℕ) → getD (now s) i 0 < 256 = λ i. omega (arith, c .before .before .before .before .before .before .before .before .before .before .before .before .before .before .before .before .before .before .before .before .before .before .before .shared-slice-known .given i) in
-    (prints-fed _ _ _ _ _ _ b (fed-once _ _ _ _ (p .1) (c .before .before .before .before .before .before .before .before .before .before .before .before .before .before .before .before .«open» .ensures) (c .before .before .before .before .before .before .before .before .before .before .before .before .feed .ensures)) (c .before .before .before .before .before .before .answer-table .ensures), search needs)
+    let a = c .before .before .before .before .before .before in
+    let f = a .before .before .before .before .before .before .before .before .before in
+    let o = f .before .before .before .before .before .before .before in
+    let k = o .before .before .before .before .before .before .before .before .before in
+    let p = k .before .pre in
+    let b : (i : ℕ) → getD (now (k .before .args .sheet)) i 0 < 256 = λ i. omega
+    (arith, k .shared-slice-known .given i) in (
+      prints-fed _ _ _ _ _ _ _ b (fed-once _ _ _ _ _ (p .1) (p .2) (o .«open» .ensures) (f .feed .ensures))
+          (a .answer-table .ensures),
+      search needs,
+    )
 
 returns : tie.Need-returns
 returns c =
-    let p = c .before .before .before .before .before .before .before .before .before .before .before .before .before .before .before .before .before .before .before .before .before .before .before .before .before .before .before .pre in
-    let s = c .before .before .before .before .before .before .before .before .before .before .before .before .before .before .before .before .before .before .before .before .before .before .before .before .before .before .before .args .sheet in
-    let b : (i : ℕ) → getD (now s) i 0 < 256 = λ i. omega (arith, c .before .before .before .before .before .before .before .before .before .before .before .before .before .before .before .before .before .before .before .before .before .before .before .before .before .before .shared-slice-known .given i) in
-    is-vregs _ _ _ _ _ _ b (fed-once _ _ _ _ (p .1) (c .before .before .before .before .before .before .before .before .before .before .before .before .before .before .before .before .before .before .before .«open» .ensures) (c .before .before .before .before .before .before .before .before .before .before .before .before .before .before .before .feed .ensures)) (c .before .before .before .before .before .before .before .before .before .answer-table .ensures) (now (c .before .before .before .before .before .before .before .before .before .before .before .before .before .before .before .before .before .before .before .before .before .before .before .before .before .before .before .args .answer)) _ (c .before .before .same-sheet .ensures)
+    let a = c .before .before .before .before .before .before .before .before .before in
+    let f = a .before .before .before .before .before .before .before .before .before in
+    let o = f .before .before .before .before .before .before .before in
+    let k = o .before .before .before .before .before .before .before .before .before in
+    let p = k .before .pre in
+    let b : (i : ℕ) → getD (now (k .before .args .sheet)) i 0 < 256 = λ i. omega
+    (arith, k .shared-slice-known .given i) in
+    is-vregs _ _ _ _ _ _ _ b (fed-once _ _ _ _ _ (p .1) (p .2) (o .«open» .ensures) (f .feed .ensures))
+    (a .answer-table .ensures) (now (k .before .args .answer)) _ (c .before .before .same-sheet .ensures)
 
 pub is-answer-spec : {M : Type 1} → statement M
 is-answer-spec =
@@ -39,6 +57,7 @@ is-answer-spec =
     (λ c κs. search needs)
     answer-table-requires
     same-sheet-requires
+    (λ c. search needs)
     (λ c. search needs)
     (λ c. search needs)
     (λ c. search needs)
