@@ -31,12 +31,13 @@ use Prim.Native.Nat.{ℕ}
 use Prim.Native.String.{String}
 use mathlib.Core.Option.{Option, none, some}
 use mathlib.Core.List.{List, [], _∷_, _++_, map}
-use Rattle.definition.specs.Types.{Room, Stop, NoStart, TurnedDef, ValuesDiffer, MappedTwice, Overlap, NoneAdmitted, Refusal, NotARecord, OverALimit, BadBook, BadFunction, BadHint, BadSegment, BadUse, Stopped, Full, Out, done, refused}
+use Rattle.definition.specs.Types.{Room, Stop, NoStart, TurnedDef, ValuesDiffer, MappedTwice, Overlap, NoneAdmitted, Refusal, NotARecord, OverALimit, BadBook, BadFunction, BadHint, BadSegment, BadUse, Stopped, Full}
 use Rattle.definition.specs.Limits.{vregsRoom}
 use Rattle.definition.specs.Build.{Result}
 use Rattle.definition.specs.Text.{bytes}
-use Rattle.definition.specs.JobSheet.{Record, sheetOf, sheetAnswer}
-use Rattle.definition.specs.RegisterSheet.{registerSheet}
+use Rattle.definition.specs.JobSheet.{Record}
+use Rattle.definition.specs.declared.SheetRefusal.the-variants.{By, WrittenDiffers}
+use Rattle.definition.specs.SheetForms.{SheetOut, given′, refused′, recordsIn, answerToSheet, answerText}
 
 text : List String → List ℕ
 text [] = []
@@ -65,10 +66,11 @@ stopOf BadUse = "-"
 stopOf (Stopped s) = stopName s
 stopOf Full = "-"
 
-stopText : Out Result → List ℕ
+stopText : SheetOut Result → List ℕ
 unfolding stopOf
-stopText (done r) = bytes "-"
-stopText (refused r) = bytes (stopOf r)
+stopText (given′ r) = bytes "-"
+stopText (refused′ (By r)) = bytes (stopOf r)
+stopText (refused′ WrittenDiffers) = bytes "-"
 
 abbrev isSheet : Option (List Record) → String
 isSheet none = "no-sheet"
@@ -79,10 +81,10 @@ data Ask : Type 0 where
   whether answered stopped : Ask
 
 told : Ask → List ℕ → Room → List ℕ
-unfolding stopText registerSheet sheetAnswer sheetOf
-told whether bs r = bytes (isSheet (sheetOf bs))
-told answered bs r = registerSheet (sheetAnswer bs r)
-told stopped bs r = let a = sheetAnswer bs r in registerSheet a ++ stopText a
+unfolding stopText answerText answerToSheet recordsIn
+told whether bs r = bytes (isSheet (recordsIn bs))
+told answered bs r = answerText (answerToSheet bs r)
+told stopped bs r = let a = answerToSheet bs r in answerText a ++ stopText a
 
 abbrev Case : Type 0
 Case = List String × Room × Ask × List String

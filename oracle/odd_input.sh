@@ -3,6 +3,7 @@
 # standard streams. A line for each: what was tried; what stood on standard output (the whole answer, its first bytes, or none) and how
 # many bytes; the status; standard error. A line that is not as expected begins with DIFFERS, and the exit status is then 1.
 # The faults need gcc; a tmpfs of 64 KB needs the right to mount one, and the line says so where it was not tried.
+# ODD_TIMES=10 makes the longest inputs of the second form ten times as long, some 300 MB each.
 set -u
 ulimit -Ss 8192 # the usual stack
 cd "$(dirname "$0")/.."
@@ -81,6 +82,58 @@ if [ -x "$gen" ]; then
     done
 else echo "five jobs of profile limits: not tried, no $gen"; fi
 
+# --- the second form
+
+# a sheet of the first form in the second: the form line, the first instruction behind each block, the set behind each segment
+second_form() { # FILE
+    awk -F'\t' -v OFS='\t' 'BEGIN { print "form", 2 }
+        $1 == "block" { print $0, first + 0; first += $2; next }
+        $1 == "value" { leader[values++] = $3 }
+        $1 == "seg" { print $0, leader[$2]; next }
+        { print }' "$1"
+}
+second_form $sample >"$d/sample"
+second_form $job >"$d/second"
+long=$(stat -c %s "$d/second")
+before() { sed "/^$1/,\$d" "$d/sample"; }      # the sample in the second form up to its first line of a record
+behind() { sed "0,/^$1/d" "$d/sample"; }       # and what follows that line
+times=${ODD_TIMES:-1}
+digits=$((times * 30000000)) blocks=$((times * 1600000)) segs=$((times * 2200000))
+of_digit() { yes "$1" | tr -d '\n' | head -c "$2"; } # DIGIT TIMES
+long_first() { before block; printf 'block\t2\t3f800000\t'; of_digit 1 $digits; echo; behind block; }
+long_set() { before seg; printf 'seg\t0\t2\t14\t0\t'; of_digit 1 $digits; echo; behind seg; }
+# the sample with a line of a record more, so many times
+many_blocks() { before block; yes "$(printf 'block\t1\t3f800000\t0')" | head -n "$1"; before end | sed -n '/^block/,$p'; }
+many_segs() { before end; yes "$(printf 'seg\t0\t0\t2\t0\t0')" | head -n "$1"; }
+in_pieces() { # FILE PAUSE: 4,001 bytes at a time
+    local at=0
+    while [ $at -lt "$(stat -c %s "$1")" ]; do tail -c +$((at + 1)) "$1" | head -c 4001; at=$((at + 4001)); sleep "$2"; done
+}
+refusal 1
+feed "the form line, no byte behind it" "$d/want" < <(printf 'form\t2\n')
+feed "the form line without its line feed" "$d/want" < <(printf 'form\t2')
+feed "the form line before a sheet of the first form" "$d/want" < <(printf 'form\t2\n'; cat $sample)
+feed "a form line of 300 MB" "$d/want" < <(printf 'form\t'; of_digit 2 300000000)
+feed "the same before the rest of a good sheet" "$d/want" < <(printf 'form\t'; of_digit 2 300000000; echo; behind form)
+feed "a first instruction of $digits digits" "$d/want" < <(long_first)
+feed "a set of $digits digits" "$d/want" < <(long_set)
+feed "$blocks blocks of the second form, 19 bytes each, and a bad last line" "$d/want" < <(many_blocks $blocks; echo end; echo x)
+feed "$segs segments of the second form, 14 bytes each, and no end" "$d/want" < <(many_segs $segs)
+refusal 2
+feed "$blocks blocks of the second form" "$d/want" < <(many_blocks $blocks; echo end)
+feed "$segs segments of the second form" "$d/want" < <(many_segs $segs; echo end)
+refusal 10
+sed 's/^\(seg.*\)\t0$/\1\t1/' "$d/sample" >"$d/wrong"
+feed "a wrong set" "$d/want" <"$d/wrong"
+feed "a slow writer of the second form, a pause in every line" docs/samples/A.out \
+    < <(while IFS= read -r line; do printf '%s' "$line"; sleep 0.05; printf '\n'; done <"$d/sample")
+feed "a file of the second form, $long bytes" $answer <"$d/second"
+feed "the same by a pipe" $answer < <(cat "$d/second")
+feed "the same by a slow pipe, 4,001 bytes at a time" $answer < <(in_pieces "$d/second" 0.02)
+sed '$s/.*/end\t0/' "$d/second" >"$d/wrong"
+refusal 1
+feed "the same with a bad last line" "$d/want" < <(in_pieces "$d/wrong" 0)
+
 # --- reads that fail: nothing is answered, and it is said
 unread='^vregs: the job sheet could not be read, and nothing is answered: '
 fresh; "$vregs" <&- >"$d/out" 2>"$d/err"; st=$?; tell "standard input closed" none "${unread}Bad file descriptor"
@@ -116,6 +169,8 @@ if gcc -O1 -o "$d/faults" oracle/faults.c && gcc -O1 -shared -fPIC -DPRELOADED -
     tell "a non-blocking standard output that nobody empties" first "${cut}Resource temporarily unavailable"
     fresh; LD_PRELOAD=$d/faults.so "$vregs" <$job >"$d/out" 2>"$d/err"; st=$?
     tell "half of all reads and writes interrupted, the others short" whole ""
+    fresh; LD_PRELOAD=$d/faults.so "$vregs" <"$d/second" >"$d/out" 2>"$d/err"; st=$?
+    tell "the same with a sheet of the second form" whole ""
 else echo "pipes that would block, interrupted calls: not tried, gcc failed"; fi
 
 # --- signals

@@ -4,7 +4,7 @@ use reference::watch::Placed;
 
 use crate::job::Job;
 use crate::run::{End, Run};
-use crate::{entry, print, run, sheet};
+use crate::{entry, form, print, run};
 
 /// Places in the result tables: registers, segments, uses, groups.
 #[derive(Clone, Copy, PartialEq, Eq, Debug)]
@@ -58,10 +58,11 @@ pub fn answer(bytes: &[u8], room: Room) -> Answer {
     }
 }
 
-/// The job of a sheet, or the number of the test it falls to.
+/// The job of a sheet of either form, or the number of the test it falls to: 1, then 2 to 7, then 10.
 pub fn tested(bytes: &[u8]) -> Result<Job, u8> {
-    let job = sheet::read(bytes).ok_or(1)?;
-    entry::refusal(&job).map_or(Ok(job), Err)
+    let sheet = form::read(bytes).ok_or(1)?;
+    let number = entry::refusal(&sheet.job).or_else(|| form::refusal(&sheet));
+    number.map_or(Ok(sheet.job), Err)
 }
 
 /// Runs a job that passed the tests.

@@ -1,4 +1,4 @@
-//! The reader of job sheets: test 1, over the whole sheet.
+//! The reader of job sheets: test 1, over the whole sheet. The second form is in form.rs.
 
 use crate::job::{Block, Class, Hint, Job, Operand, Seg, USE_FIELDS, Use, Value};
 
@@ -7,48 +7,69 @@ const NAMES: [&[u8]; 11] = [
     b"opt", b"bank", b"class", b"reg", b"block", b"value", b"vgroup", b"operand", b"hint", b"seg",
     b"end",
 ];
-const SEG: usize = 9;
+pub const BLOCK: usize = 4;
+pub const SEG: usize = 9;
 const END: usize = 10;
 /// The names that must come: opt, bank, class, block, end.
-const NEEDED: [usize; 5] = [0, 1, 2, 4, END];
+const NEEDED: [usize; 5] = [0, 1, 2, BLOCK, END];
 /// The names that come once.
 const ONCE: [usize; 2] = [0, END];
 
-/// The job of a sheet, or none if the sheet falls to test 1.
+/// The job of a sheet of the first form, or none if the sheet falls to test 1.
 pub fn read(sheet: &[u8]) -> Option<Job> {
+    read_by(sheet, add)
+}
+
+/// The job of a sheet whose records, but for uses, are put into it by `add`: the number of the name, the fields.
+pub fn read_by(
+    sheet: &[u8],
+    mut add: impl FnMut(&mut Job, usize, &[&[u8]]) -> Option<()>,
+) -> Option<Job> {
     let body = sheet.strip_suffix(b"\n")?;
-    let mut job = Job::default();
-    let mut seen = [0usize; NAMES.len()];
-    let mut rank = 0;
+    let (mut job, mut seen) = (Job::default(), Seen::default());
     for line in body.split(|&byte| byte == b'\n') {
         let mut fields = line.split(|&byte| byte == b'\t');
         let name = fields.next()?;
         let fields: Vec<&[u8]> = fields.collect();
         if name == b"use" {
-            if rank != SEG {
-                return None;
-            }
+            (seen.rank == SEG).then_some(())?;
             add_use(&mut job, &fields)?;
-            continue;
+        } else {
+            add(&mut job, seen.next(name)?, &fields)?;
         }
-        let this = NAMES.iter().position(|&known| known == name)?;
-        seen[this] += 1;
-        if this < rank || (ONCE.contains(&this) && seen[this] > 1) {
-            return None;
-        }
-        rank = this;
-        add(&mut job, this, &fields)?;
     }
-    NEEDED.iter().all(|&name| seen[name] > 0).then_some(job)
+    let all = NEEDED.iter().all(|&name| seen.times[name] > 0);
+    all.then_some(job)
 }
 
-fn add(job: &mut Job, name: usize, fields: &[&[u8]]) -> Option<()> {
+/// The names that came, and the last of them.
+#[derive(Default)]
+struct Seen {
+    times: [usize; NAMES.len()],
+    rank: usize,
+}
+
+impl Seen {
+    /// The number of the name, if it may come now.
+    fn next(&mut self, name: &[u8]) -> Option<usize> {
+        let this = NAMES.iter().position(|&known| known == name)?;
+        self.times[this] += 1;
+        if this < self.rank || (ONCE.contains(&this) && self.times[this] > 1) {
+            return None;
+        }
+        self.rank = this;
+        Some(this)
+    }
+}
+
+/// Puts a record of the first form into the job.
+pub fn add(job: &mut Job, name: usize, fields: &[&[u8]]) -> Option<()> {
     match name {
         0 => add_opt(job, exactly(fields)?)?,
         1 => job.banks.push(number(exactly::<1>(fields)?[0])?),
         2 => job.classes.push(class(exactly(fields)?)?),
         3 => job.regs.push(choice(exactly::<1>(fields)?[0], 1)? == 1),
-        4 => job.blocks.push(block(exactly(fields)?)?),
+        BLOCK => job.blocks.push(block(exactly(fields)?)?),
         5 => job.values.push(value(exactly(fields)?)?),
         6 => job.vgroups.push(
             fields
@@ -65,7 +86,7 @@ fn add(job: &mut Job, name: usize, fields: &[&[u8]]) -> Option<()> {
     Some(())
 }
 
-fn exactly<'a, const N: usize>(fields: &[&'a [u8]]) -> Option<[&'a [u8]; N]> {
+pub fn exactly<'a, const N: usize>(fields: &[&'a [u8]]) -> Option<[&'a [u8]; N]> {
     fields.try_into().ok()
 }
 
@@ -86,7 +107,7 @@ fn class(fields: [&[u8]; 4]) -> Option<Class> {
     })
 }
 
-fn block(fields: [&[u8]; 2]) -> Option<Block> {
+pub fn block(fields: [&[u8]; 2]) -> Option<Block> {
     Some(Block {
         insts: number(fields[0])?,
         frequency: float(fields[1])?,
@@ -118,7 +139,7 @@ fn hint(fields: [&[u8]; 3]) -> Option<Hint> {
     })
 }
 
-fn seg(fields: [&[u8]; 4], next_use: usize) -> Option<Seg> {
+pub fn seg(fields: [&[u8]; 4], next_use: usize) -> Option<Seg> {
     Some(Seg {
         value: number(fields[0])?,
         from: number(fields[1])?,
@@ -150,7 +171,7 @@ fn add_use(job: &mut Job, fields: &[&[u8]]) -> Option<()> {
 }
 
 /// A decimal number without leading zeros, up to 4,294,967,295.
-fn number(field: &[u8]) -> Option<u32> {
+pub fn number(field: &[u8]) -> Option<u32> {
     if field.is_empty() || (field[0] == b'0' && field.len() > 1) {
         return None;
     }

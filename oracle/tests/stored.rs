@@ -1,89 +1,25 @@
-//! The stored answers of crates/replay: each held to the reference and to the model, and counted by kind.
+//! The stored answers of crates/replay: each held to the reference and to the model, and those of the first form counted
+//! by kind. stored_forms.rs has the second.
 
 mod model;
 mod seven;
+mod shelf;
 
 use std::collections::{BTreeMap, BTreeSet};
-use std::path::Path;
-use std::{env, fs};
+use std::fs;
 
 use model::Refused;
 use oracle::answer::{Room, answer, tested};
 use oracle::cuts;
 use oracle::job::Job;
 use oracle::run::run;
+use shelf::{Stored, first_forms, here, stored, told};
 
 const ROOM: [usize; 4] = [4096, 4096, 8192, 512];
 const TABLES: [&str; 4] = ["registers", "segments", "uses", "groups"];
 const LONG: usize = 20_000;
 const PAGE: usize = 65_536;
 const LEAST: usize = 60;
-
-/// A stored answer with its line of stored.txt.
-struct Stored {
-    number: usize,
-    source: String,
-    what: String,
-    outcome: String,
-    sheet: Vec<u8>,
-    answer: String,
-}
-
-fn here(path: &str) -> std::path::PathBuf {
-    Path::new(env!("CARGO_MANIFEST_DIR")).join(path)
-}
-
-/// Sheets and answers: a line of two numbers of eight digits parted by a tab, then the bytes of both.
-fn frames() -> Vec<(Vec<u8>, String)> {
-    let all = fs::read(here("../crates/replay/stdin")).unwrap();
-    let (mut frames, mut rest) = (Vec::new(), &all[..]);
-    while !rest.is_empty() {
-        assert_eq!((rest[8], rest[17]), (b'\t', b'\n'));
-        let number = |bytes: &[u8]| {
-            std::str::from_utf8(bytes)
-                .unwrap()
-                .parse::<usize>()
-                .unwrap()
-        };
-        let (sheet, answer) = (number(&rest[..8]), number(&rest[9..17]));
-        assert!(sheet <= 262_144 && answer <= 524_288);
-        let (frame, behind) = rest[18..].split_at(sheet + answer);
-        frames.push((
-            frame[..sheet].to_vec(),
-            String::from_utf8(frame[sheet..].to_vec()).unwrap(),
-        ));
-        rest = behind;
-    }
-    frames
-}
-
-fn stored() -> Vec<Stored> {
-    let lines = fs::read_to_string(here("stored.txt")).unwrap();
-    let frames = frames();
-    assert_eq!(lines.lines().count(), frames.len());
-    let mut stored = Vec::new();
-    for (place, (line, (sheet, answer))) in lines.lines().zip(frames).enumerate() {
-        let fields: Vec<&str> = line.split('\t').collect();
-        let [number, source, bytes, answer_bytes, outcome, what] = fields[..] else {
-            panic!("{line}");
-        };
-        let sizes = (sheet.len().to_string(), answer.len().to_string());
-        assert_eq!(
-            (number, bytes, answer_bytes),
-            (&*(place + 1).to_string(), &*sizes.0, &*sizes.1)
-        );
-        let [source, what, outcome] = [source, what, outcome].map(str::to_string);
-        stored.push(Stored {
-            number: place + 1,
-            source,
-            what,
-            outcome,
-            sheet,
-            answer,
-        });
-    }
-    stored
-}
 
 /// The stored answers of an outcome whose sheets pass the tests up to a number, with their jobs.
 fn jobs<'a>(stored: &'a [Stored], outcome: &str) -> Vec<(&'a Stored, Job)> {
@@ -94,16 +30,6 @@ fn jobs<'a>(stored: &'a [Stored], outcome: &str) -> Vec<(&'a Stored, Job)> {
 
 fn count(counts: &mut BTreeMap<String, usize>, name: &str, is: bool) {
     *counts.entry(name.to_string()).or_default() += usize::from(is);
-}
-
-/// The table of the README has a line for each of the counts. STORED_TABLE prints them instead.
-fn told(name: &str, count: usize) {
-    let readme = fs::read_to_string(here("README.md")).unwrap();
-    let line = format!("| {name} | {count} |");
-    if env::var_os("STORED_TABLE").is_some() {
-        return println!("{line}");
-    }
-    assert!(readme.contains(&line), "README.md lacks the line {line}");
 }
 
 /// What the model says of a sheet that passes tests 1 to 7.
@@ -132,7 +58,7 @@ fn every_answer_is_the_reference_s_and_the_model_s() {
 
 #[test]
 fn the_marked_cases_stand_first() {
-    let stored = stored();
+    let stored = first_forms();
     let samples = fs::read_dir(here("../docs/samples"))
         .unwrap()
         .map(|entry| entry.unwrap().path());
@@ -150,13 +76,13 @@ fn the_marked_cases_stand_first() {
             .count(),
         samples.len()
     );
-    told("all", stored.len());
+    told("first form", stored.len());
 }
 
 /// Every cause of 7 by itself, with every kind of use that can have it.
 #[test]
 fn seven_has_every_cause() {
-    let stored = stored();
+    let stored = first_forms();
     let jobs = jobs(&stored, "refused 7");
     let mut found = BTreeMap::new();
     for (one, job) in &jobs {
@@ -207,7 +133,7 @@ fn nine(job: &Job) -> (&'static str, bool, bool) {
 
 #[test]
 fn nine_has_every_table() {
-    let stored = stored();
+    let stored = first_forms();
     let jobs = jobs(&stored, "refused 9");
     let mut counts = BTreeMap::new();
     for (one, job) in &jobs {
@@ -233,7 +159,7 @@ fn nine_has_every_table() {
 /// Accepted jobs that fill a table to the last place.
 #[test]
 fn full_tables_are_accepted() {
-    let stored = stored();
+    let stored = first_forms();
     let mut counts = BTreeMap::new();
     for (one, job) in jobs(&stored, "accepted") {
         let rows = model::run(&job, ROOM).0.rows();
@@ -260,7 +186,7 @@ fn eights<'a>(stored: &'a [Stored], part: &str) -> Vec<(&'a Stored, Job)> {
 
 #[test]
 fn eight_comes_first_in_one_register() {
-    let stored = stored();
+    let stored = first_forms();
     let both = eights(&stored, "in one register");
     let mut tables = BTreeSet::new();
     for (one, job) in &both {
@@ -280,7 +206,7 @@ fn eight_comes_first_in_one_register() {
 /// Without the set that stops, the job is a 9.
 #[test]
 fn eight_comes_before_a_later_nine() {
-    let stored = stored();
+    let stored = first_forms();
     let before = eights(&stored, "before 9");
     for (one, job) in &before {
         let stopped = model::run(job, ROOM).0.set;
@@ -297,7 +223,7 @@ fn eight_comes_before_a_later_nine() {
 
 #[test]
 fn groups_and_merges_are_many() {
-    let stored = stored();
+    let stored = first_forms();
     let (mut some, mut hundreds) = (0, 0);
     for (_, job) in jobs(&stored, "accepted") {
         let model = model::run(&job, ROOM).0;
@@ -315,7 +241,7 @@ fn groups_and_merges_are_many() {
 /// Accepted jobs with cuts of each kind, as the reference makes them.
 #[test]
 fn late_cuts_are_many() {
-    let stored = stored();
+    let stored = first_forms();
     let mut counts = [0; cuts::NAMES.len()];
     for (_, job) in jobs(&stored, "accepted") {
         let kinds = cuts::counts(&job, &run(&job, None).log);
@@ -331,7 +257,7 @@ fn late_cuts_are_many() {
 /// Long sheets, without those that are made to fill the tables.
 #[test]
 fn sheets_are_long() {
-    let stored = stored();
+    let stored = first_forms();
     let made_to_fill =
         |one: &Stored| one.source.starts_with("full-tables") || one.outcome == "refused 9";
     let long = stored

@@ -3,10 +3,10 @@
 //! answer in `vregs`'s room, byte for byte. Its exit status has to be 0.
 
 use std::collections::BTreeMap;
-use std::io::{self, Read, Write};
-use std::process::{Command, Stdio, exit};
+use std::process::exit;
 
 use oracle::answer::{Room, answer};
+use oracle::child::run;
 use oracle::make::{PROFILES, make};
 
 fn main() {
@@ -56,26 +56,4 @@ fn usage() -> ! {
 
 fn number(word: &str) -> u64 {
     word.parse().unwrap_or_else(|_| usage())
-}
-
-/// What the program writes when the sheet is its standard input.
-fn run(program: &str, sheet: &[u8]) -> io::Result<Vec<u8>> {
-    let mut child = Command::new(program)
-        .stdin(Stdio::piped())
-        .stdout(Stdio::piped())
-        .spawn()?;
-    let (input, output) = (child.stdin.take(), child.stdout.take());
-    if let Some(mut input) = input {
-        input.write_all(sheet)?;
-    }
-    let mut text = Vec::new();
-    if let Some(mut output) = output {
-        output.read_to_end(&mut text)?;
-    }
-    let status = child.wait()?;
-    if status.success() {
-        Ok(text)
-    } else {
-        Err(io::Error::other(format!("{status}")))
-    }
 }

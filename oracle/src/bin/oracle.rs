@@ -3,13 +3,14 @@
 //! `oracle --stream [--room r,s,u,g]`: frames on standard input, answer frames out.
 //! `oracle --cut AFTER BEFORE early|late`: the cut finder over the sheet's blocks.
 //! `oracle --untested`: the pass on a sheet that only test 1 was put to.
+//! A sheet may be of either form.
 
 use std::io::{self, BufWriter, Read, Write};
 use std::process::exit;
 use std::{env, fs};
 
 use oracle::answer::{Answer, Room, answer, answer_job, tested};
-use oracle::{cut, frames, sheet};
+use oracle::{cut, form, frames};
 
 fn main() {
     let mut args: Vec<String> = env::args().skip(1).collect();
@@ -60,8 +61,8 @@ fn one(room: Room) -> io::Result<()> {
 }
 
 fn untested(room: Room) -> io::Result<()> {
-    match sheet::read(&whole_input()?) {
-        Some(job) => show(&answer_job(&job, room)),
+    match form::read(&whole_input()?) {
+        Some(sheet) => show(&answer_job(&sheet.job, room)),
         None => show(&Answer::refused(1, None)),
     }
 }

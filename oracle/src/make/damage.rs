@@ -86,7 +86,7 @@ pub fn make(rng: &mut Rng) -> Vec<u8> {
     }
 }
 
-fn in_bytes(rng: &mut Rng, mut sheet: Vec<u8>) -> Vec<u8> {
+pub fn in_bytes(rng: &mut Rng, mut sheet: Vec<u8>) -> Vec<u8> {
     for _ in 0..rng.within((1, 2)) {
         let at = rng.below(sheet.len() as u32) as usize;
         match rng.below(6) {
@@ -121,21 +121,21 @@ fn ends(rng: &mut Rng, sheet: &mut Vec<u8>) {
     }
 }
 
-fn lines_of(sheet: &[u8]) -> Vec<Vec<u8>> {
+pub fn lines_of(sheet: &[u8]) -> Vec<Vec<u8>> {
     let body = sheet.strip_suffix(b"\n").unwrap_or(sheet);
     body.split(|&byte| byte == b'\n')
         .map(<[u8]>::to_vec)
         .collect()
 }
 
-fn sheet_from(lines: &[Vec<u8>]) -> Vec<u8> {
+pub fn sheet_from(lines: &[Vec<u8>]) -> Vec<u8> {
     lines
         .iter()
         .flat_map(|line| [&line[..], b"\n"].concat())
         .collect()
 }
 
-fn in_lines(rng: &mut Rng, sheet: Vec<u8>) -> Vec<u8> {
+pub fn in_lines(rng: &mut Rng, sheet: Vec<u8>) -> Vec<u8> {
     let mut lines = lines_of(&sheet);
     let at = rng.below(lines.len() as u32) as usize;
     let other = rng.below(lines.len() as u32) as usize;
@@ -156,7 +156,7 @@ fn in_lines(rng: &mut Rng, sheet: Vec<u8>) -> Vec<u8> {
     sheet_from(&lines)
 }
 
-fn in_fields(rng: &mut Rng, sheet: Vec<u8>) -> Vec<u8> {
+pub fn in_fields(rng: &mut Rng, sheet: Vec<u8>) -> Vec<u8> {
     let mut lines = lines_of(&sheet);
     for _ in 0..rng.within((1, 2)) {
         let at = rng.below(lines.len() as u32) as usize;

@@ -6,6 +6,7 @@ mod braids;
 mod breaks;
 mod damage;
 mod falling;
+mod forms;
 mod full;
 mod leaning;
 mod limits;
@@ -23,8 +24,11 @@ mod write;
 use crate::frames::Frame;
 use rng::Rng;
 
+pub use forms::{count as second_damaged_cases, first_form, second_form};
 pub use write::sheet_of;
 
+/// The profiles of the first form. Those of the second are `second`, `second-damaged` and, for each of these, its name
+/// behind `second:`.
 pub const PROFILES: [&str; 13] = [
     "small",
     "classes",
@@ -43,6 +47,9 @@ pub const PROFILES: [&str; 13] = [
 
 /// One sheet of a profile, with a room where the profile sets one.
 pub fn make(profile: &str, seed: u64) -> Option<Frame> {
+    if profile.starts_with(forms::MIXED) {
+        return forms::make(profile, seed);
+    }
     let place = PROFILES.iter().position(|&known| known == profile)?;
     let mut rng = Rng::new(seed, place as u64);
     let plain = |job| Frame {
@@ -83,6 +90,7 @@ pub fn what(profile: &str, seed: u64) -> Option<String> {
         "full-tables" => Some(full::what(seed)),
         "many-merges" => Some(weave::what(seed)),
         "long-sheets" => Some(long::what(seed)),
+        forms::DAMAGED => Some(forms::what(seed)),
         _ => None,
     }
 }
