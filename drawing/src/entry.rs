@@ -1,5 +1,5 @@
-//! Entry rules 2 to 7, tried again to find the first line that breaks the lowest of them. Each takes those before it
-//! as passed.
+//! Entry rules 2 to 7, and 10 behind them, tried again to find the first line that breaks the first of them. Each takes
+//! those before it as passed.
 
 use std::collections::HashMap;
 
@@ -8,9 +8,9 @@ use crate::job::{Class, Job, Operand, Seg, Use};
 
 const MOST_COST: f32 = 1_048_576.0;
 
-/// The first line of the lowest of the numbers 2 to 7 that the job falls to.
+/// The first line of the first of the numbers 2 to 7 and 10 that the job falls to.
 pub fn first_fault(job: &Job) -> Option<Fault> {
-    let rules: [fn(&Job) -> Option<Fault>; 6] = [limits, book, function, hints, segments, uses];
+    let rules: [fn(&Job) -> Option<Fault>; 7] = [limits, book, function, hints, segments, uses, written];
     rules.iter().find_map(|rule| rule(job))
 }
 
@@ -280,4 +280,22 @@ fn group_operand(job: &Job, places: &Places, seg: &Seg, u: &Use) -> Option<Strin
         }
         _ => None,
     }
+}
+
+/// The written fields of the second form: those of blocks, whose lines come first, and those of segments.
+fn written(job: &Job) -> Option<Fault> {
+    let blocks = job.blocks.iter().zip(job.firsts()).find_map(|(block, first)| {
+        let written = block.written.filter(|&written| u64::from(written) != first)?;
+        let why = format!("the first instruction is written as {written}, and it is {first}");
+        Some(fault(block.line, 10, why))
+    });
+    let segs = || {
+        job.segs.iter().find_map(|seg| {
+            let set = job.set(seg.value)?;
+            let written = seg.written.filter(|&written| written != set)?;
+            let why = format!("the set is written as {written}, and it is {set}, the leader of value {}", seg.value);
+            Some(fault(seg.line, 10, why))
+        })
+    };
+    blocks.or_else(segs)
 }

@@ -6,7 +6,7 @@ use crate::layout::Chart;
 use crate::page::Page;
 use crate::style::{grey, text_width};
 use crate::svg::{N, Svg};
-use crate::words::{exact, readable};
+use crate::words::{exact, readable, written_words};
 
 /// More blocks than a job may have; still more are left out.
 pub const MOST_BLOCKS: usize = 4096;
@@ -24,8 +24,7 @@ pub fn bands(chart: &Chart, job: &Job) -> Vec<Band> {
     let levels: Vec<Option<f64>> = job.blocks.iter().map(level).collect();
     let least = levels.iter().flatten().copied().fold(f64::INFINITY, f64::min);
     let most = levels.iter().flatten().copied().fold(f64::NEG_INFINITY, f64::max);
-    let mut first = 0;
-    let band = |(block, level): (&Block, &Option<f64>)| {
+    let band = |((block, level), first): ((&Block, &Option<f64>), u64)| {
         let next = first + u64::from(block.insts);
         let part = match level {
             None => 0.0,
@@ -33,11 +32,9 @@ pub fn bands(chart: &Chart, job: &Job) -> Vec<Band> {
             Some(_) => 0.4,
         };
         let (left, right) = (chart.x(4.0 * first as f64), chart.x(4.0 * next as f64));
-        let band = Band { first, left, right, shade: grey(part) };
-        first = next;
-        band
+        Band { first, left, right, shade: grey(part) }
     };
-    job.blocks.iter().zip(&levels).take(MOST_BLOCKS).map(band).collect()
+    job.blocks.iter().zip(&levels).zip(job.firsts()).take(MOST_BLOCKS).map(band).collect()
 }
 
 /// Frequencies are shaded by their powers of two; one that is 0 or no frequency has the lightest shade.
@@ -64,13 +61,11 @@ pub fn blocks(page: &mut Page, job: &Job, bands: &[Band]) {
 
 fn block_title(at: usize, block: &Block, first: u64) -> String {
     let many = counted(block.insts as usize, "instruction");
-    let frequency = exact(block.frequency);
+    let written = written_words("first instruction", block.written, Some(first));
+    let more = format!("frequency {}{written}; line {}", exact(block.frequency), block.line);
     match u64::from(block.insts) {
-        0 => format!("block {at}: empty, frequency {frequency}; line {}", block.line),
-        insts => {
-            let last = first + insts - 1;
-            format!("block {at}: {many}, {first} to {last}, frequency {frequency}; line {}", block.line)
-        }
+        0 => format!("block {at}: empty, {more}"),
+        insts => format!("block {at}: {many}, {first} to {}, {more}", first + insts - 1),
     }
 }
 

@@ -1,4 +1,5 @@
-//! The job sheet: its records with the lines they stand on, read up to the first line that is no record there.
+//! The job sheet, of either form: its records with the lines they stand on, read up to the first line that is no record
+//! there.
 
 use crate::forms::{Fault, bits, choice, counted, exactly, fault, fields, float, lines, number, quoted};
 
@@ -54,6 +55,8 @@ pub struct Block {
     pub line: usize,
     pub insts: u32,
     pub frequency: f32,
+    /// Its first instruction as the second form has it written.
+    pub written: Option<u32>,
 }
 
 #[derive(Clone, Copy, Debug)]
@@ -94,6 +97,8 @@ pub struct Seg {
     pub from: u32,
     pub to: u32,
     pub flags: u32,
+    /// Its set as the second form has it written.
+    pub written: Option<u32>,
     pub uses: Vec<Use>,
 }
 
@@ -127,6 +132,15 @@ impl Job {
         self.blocks.iter().map(|block| u64::from(block.insts)).sum()
     }
 
+    /// The first instruction of each block: as many as the blocks before it have.
+    pub fn firsts(&self) -> impl Iterator<Item = u64> {
+        self.blocks.iter().scan(0, |next, block| {
+            let first = *next;
+            *next += u64::from(block.insts);
+            Some(first)
+        })
+    }
+
     /// The set of a value.
     pub fn set(&self, value: u32) -> Option<u32> {
         self.values.get(value as usize).map(|value| value.leader)
@@ -144,6 +158,9 @@ const NAMES: [&str; 11] = ["opt", "bank", "class", "reg", "block", "value", "vgr
 const SEG: usize = 9;
 const END: usize = 10;
 const NEEDED: [usize; 4] = [0, 1, 2, 4];
+
+/// The first line of a sheet of the second form.
+const SECOND: &[u8] = b"form\t2";
 
 /// The job as far as it can be read, and the first line that falls to number 1.
 pub fn read(sheet: &[u8]) -> (Job, Option<Fault>) {
@@ -170,13 +187,22 @@ fn at_end(lines: usize) -> &'static str {
 #[derive(Default)]
 struct Reader {
     job: Job,
+    /// Whether the sheet is of the second form.
+    second: bool,
     rank: usize,
     seen: [usize; NAMES.len()],
 }
 
 impl Reader {
     fn line(&mut self, at: usize, line: &[u8]) -> Result<(), String> {
+        if at == 1 && line == SECOND {
+            self.second = true;
+            return Ok(());
+        }
         let (word, fields) = fields(line);
+        if word == b"form" {
+            return Err("a form line can only be the first line, and only form, tab, 2".into());
+        }
         if word == b"use" {
             if self.rank != SEG {
                 return Err("a use line that does not stand behind a seg line".into());
@@ -207,18 +233,18 @@ impl Reader {
     }
 
     fn add(&mut self, line: usize, rank: usize, fields: &[&[u8]]) -> Result<(), String> {
-        let job = &mut self.job;
+        let (job, second) = (&mut self.job, self.second);
         match rank {
             0 => job.opt = opt(line, exactly(fields)?)?,
             1 => job.banks.push(Bank { line, top: number(exactly::<1>(fields)?[0])? }),
             2 => job.classes.push(class(line, exactly(fields)?)?),
             3 => job.regs.push(Reg { line, memory: choice(exactly::<1>(fields)?[0], 1)? == 1 }),
-            4 => job.blocks.push(block(line, exactly(fields)?)?),
+            4 => job.blocks.push(block(line, parted(fields, second)?)?),
             5 => job.values.push(value(line, exactly(fields)?)?),
             6 => job.vgroups.push(vgroup(line, fields)?),
             7 => job.operands.push(operand(line, exactly(fields)?)?),
             8 => job.hints.push(hint(line, exactly(fields)?)?),
-            SEG => job.segs.push(seg(line, exactly(fields)?)?),
+            SEG => job.segs.push(seg(line, parted(fields, second)?)?),
             _ => exactly::<0>(fields).map(|_| ())?,
         }
         Ok(())
@@ -233,6 +259,20 @@ impl Reader {
     }
 }
 
+/// A record's own fields, and the written one that the second form has behind them.
+type Parted<'a, const N: usize> = ([&'a [u8]; N], Option<u32>);
+
+fn parted<'a, const N: usize>(fields: &[&'a [u8]], second: bool) -> Result<Parted<'a, N>, String> {
+    let (form, wanted) = if second { ("second", N + 1) } else { ("first", N) };
+    if fields.len() != wanted {
+        let many = counted(fields.len(), "field");
+        return Err(format!("{many} where the record has {wanted} in the {form} form"));
+    }
+    let (own, written) = fields.split_at(N);
+    let written = written.first().map(|field| number(field)).transpose()?;
+    Ok((exactly(own)?, written))
+}
+
 fn opt(line: usize, fields: [&[u8]; 4]) -> Result<Opt, String> {
     let [adjust, to_move, load, indirect] = fields;
     let scales = [float(to_move)?, float(load)?, float(indirect)?];
@@ -245,8 +285,8 @@ fn class(line: usize, fields: [&[u8]; 4]) -> Result<Class, String> {
     Ok(Class { line, mask: bits(mask)?, cost: float(cost)?, size: number(size)?, spillslots })
 }
 
-fn block(line: usize, fields: [&[u8]; 2]) -> Result<Block, String> {
-    Ok(Block { line, insts: number(fields[0])?, frequency: float(fields[1])? })
+fn block(line: usize, (fields, written): Parted<2>) -> Result<Block, String> {
+    Ok(Block { line, insts: number(fields[0])?, frequency: float(fields[1])?, written })
 }
 
 fn value(line: usize, fields: [&[u8]; 3]) -> Result<Value, String> {
@@ -270,10 +310,10 @@ fn hint(line: usize, fields: [&[u8]; 3]) -> Result<Hint, String> {
     Ok(Hint { line, value: number(value)?, inst: number(inst)?, incoming: choice(incoming, 1)? == 1 })
 }
 
-fn seg(line: usize, fields: [&[u8]; 4]) -> Result<Seg, String> {
+fn seg(line: usize, (fields, written): Parted<4>) -> Result<Seg, String> {
     let [value, from, to, flags] = fields;
     let flags = choice(flags, 15)?;
-    Ok(Seg { line, value: number(value)?, from: number(from)?, to: number(to)?, flags, uses: Vec::new() })
+    Ok(Seg { line, value: number(value)?, from: number(from)?, to: number(to)?, flags, written, uses: Vec::new() })
 }
 
 /// A use line of either sheet.

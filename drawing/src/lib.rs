@@ -37,7 +37,7 @@ pub fn draw(job_sheet: &[u8], register_sheet: &[u8]) -> Drawing {
     picture::draw(job_sheet, &job, fault, &answer)
 }
 
-/// The first line of a job sheet that falls to one of the numbers 1 to 7, the lowest number first.
+/// The first line of a job sheet that falls to one of the numbers 1 to 7 and 10, which are tried in this order.
 pub fn first_fault(job_sheet: &[u8]) -> Option<Fault> {
     let (job, unread) = job::read(job_sheet);
     unread.or_else(|| entry::first_fault(&job))

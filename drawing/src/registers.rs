@@ -111,7 +111,7 @@ impl Answer {
 }
 
 fn refusal(fields: &[&[u8]]) -> Result<u8, String> {
-    match choice(exactly::<1>(fields)?[0], 9)? {
+    match choice(exactly::<1>(fields)?[0], 10)? {
         0 => Err("0 is no refusal's number".into()),
         number => Ok(number as u8),
     }

@@ -7,7 +7,9 @@ use crate::forms::{Fault, counted};
 use crate::job::{Job, Seg, Use};
 use crate::pair::{Pair, Place};
 use crate::registers::{Answer, Piece, Vreg};
-use crate::words::{class_words, exact, flag_words, readable, short, span_words, use_words, value_words};
+use crate::words::{
+    class_words, exact, flag_words, readable, short, span_words, use_words, value_words, written_words,
+};
 
 /// As many as the largest job or answer has; more are left out, and counted.
 const MOST_ROWS: usize = 4096;
@@ -200,7 +202,8 @@ fn segment_row(job: &Job, seg: &Seg, line: usize, sets: &[u32]) -> Row {
     let Seg { from, to, flags, value, .. } = *seg;
     let cells = vec![seg.line.to_string(), value.to_string(), known(set), known(class), format!("[{from}, {to})")];
     let (of, span, flag) = (value_words(job, value), span_words(from, to), flag_words(flags));
-    let title = format!("line {}: segment of {of}, {span}; {flag}", seg.line);
+    let written = written_words("set", seg.written, set.map(u64::from));
+    let title = format!("line {}: segment of {of}, {span}; {flag}{written}", seg.line);
     let marks = seg.uses.iter().map(|u| mark(u, format!("line {}: {}", u.line, use_words(job, u)), u.line == line));
     let marks: Vec<Mark> = marks.collect();
     let pointed =

@@ -66,7 +66,7 @@ impl Verdict {
                 body.push("The line can't be told.".into());
                 self.remark("The refusal is not the answer to this job sheet", line_words(fault));
             }
-            None if number >= 8 => body.extend(self.while_placing(job, number)),
+            None if matches!(number, 8 | 9) => body.extend(self.while_placing(job, number)),
             None => {
                 body.push("The line can't be told.".into());
                 let passed = format!("No line of it falls to number {number}: it passes the entry rules.");
@@ -78,7 +78,8 @@ impl Verdict {
 
     /// For 8 and 9: the set, if only one can be meant.
     fn while_placing(&mut self, job: &Job, number: u8) -> Vec<String> {
-        let passed = "The job passed the entry rules (1 to 7) and stopped while registers were placed.".to_string();
+        let passed =
+            "The job passed the entry rules (1 to 7 and 10) and stopped while registers were placed.".to_string();
         let all = sets(job);
         self.sets = if number == 8 { suspects(job) } else { all.clone() };
         let names = self.sets.iter().map(u32::to_string).collect::<Vec<_>>().join(", ");

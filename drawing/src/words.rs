@@ -15,7 +15,7 @@ pub const KINDS: [&str; 10] = [
     "BlockparamOut",
 ];
 
-/// The cause of a refusal, in the scope paper's words.
+/// The cause of a refusal, in the words of the papers that ask for it.
 pub fn cause(number: u8) -> &'static str {
     match number {
         1 => "line not a record, unknown kind, wrong order, number form, choice off its list",
@@ -49,6 +49,7 @@ pub fn cause(number: u8) -> &'static str {
             "a register to be placed, with its pieces, their uses and new group, overfills a lent table \
              (merging adds no register; moved pieces count once)"
         }
+        10 => "a written set or first instruction differs from the implied one",
         _ => "no refusal has this number",
     }
 }
@@ -156,6 +157,14 @@ pub fn value_words(job: &Job, value: u32) -> String {
         _ => "indirect",
     };
     format!("value {value} (set {}, bank {}, {remat})", row.leader, row.bank)
+}
+
+/// What the second form has written, where it is not the implied one.
+pub fn written_words(field: &str, written: Option<u32>, implied: Option<u64>) -> String {
+    match written {
+        Some(number) if implied != Some(u64::from(number)) => format!("; {field} written as {number}"),
+        _ => String::new(),
+    }
 }
 
 /// What a class line says.

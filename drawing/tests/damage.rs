@@ -37,7 +37,8 @@ fn flip(dice: &mut Dice, bytes: &mut [u8]) {
 
 fn insert(dice: &mut Dice, bytes: &mut Vec<u8>) {
     let at = dice.below(bytes.len() + 1);
-    let parts: [&[u8]; 6] = [b"\n", b"\t", b"<&>\"'", b"\xff\x00", b"seg\t0\t0\t4\t0\n", b"end\n"];
+    let parts: [&[u8]; 8] =
+        [b"\n", b"\t", b"\t0", b"<&>\"'", b"\xff\x00", b"seg\t0\t0\t4\t0\n", b"end\n", b"form\t2\n"];
     bytes.splice(at..at, parts[dice.below(parts.len())].iter().copied());
 }
 

@@ -12,7 +12,8 @@ fn count(svg: &str, class: &str) -> usize {
 #[test]
 fn there_are_pairs() {
     assert!(folder(&docs().join("samples")).len() >= 10);
-    assert!(pairs().len() >= 25, "{}", pairs().len());
+    assert_eq!(folder(&docs().join("samples/second")).len(), 3);
+    assert!(pairs().len() >= 162, "{}", pairs().len());
     assert!(pairs().iter().any(|pair| pair.out.starts_with(b"refused")));
 }
 
@@ -119,6 +120,7 @@ fn true_pairs_have_no_remark() {
 #[test]
 fn mixed_pairs_are_told() {
     let mut all = folder(&docs().join("samples"));
+    all.extend(folder(&docs().join("samples/second")));
     all.extend(folder(&docs().join("pictures")));
     let mut told = 0;
     for (a, b) in all.iter().flat_map(|a| all.iter().map(move |b| (a, b))).filter(|(a, b)| a.out != b.out) {

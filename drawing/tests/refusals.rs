@@ -2,7 +2,7 @@
 
 mod common;
 
-use common::{docs, folder, xml_fault};
+use common::{docs, folder, offending, xml_fault};
 use drawing::{draw, first_fault};
 
 const SOUND: &str = "opt 0 3f800000 3f800000 3f800000
@@ -117,11 +117,6 @@ const CASES: &[(usize, &str, u8, usize)] = &[
     (22, "use 5 4 0 2", 7, 22),
 ];
 
-fn offending(svg: &str) -> Option<&str> {
-    let (_, rest) = svg.split_once("class=\"mono bold end offending\">")?;
-    rest.split_once('<').map(|(number, _)| number)
-}
-
 #[test]
 fn the_sound_sheet_is_sound() {
     assert_eq!(first_fault(&sheet(SOUND)), None);
@@ -145,16 +140,26 @@ fn the_line_is_named() {
 #[test]
 fn another_number_is_told() {
     for &(line, text, number, _) in CASES {
-        for other in (1..=9).filter(|&other| other != number) {
+        for other in (1..=10).filter(|&other| other != number) {
             let drawing = draw(&with(line, text), format!("refused\t{other}\n").as_bytes());
             assert_eq!(offending(&drawing.svg), None, "{text}");
             assert_eq!(drawing.remarks.len(), 1, "{text}");
         }
     }
-    for number in 1..=7 {
+    for number in (1..=7).chain([10]) {
         let drawing = draw(&sheet(SOUND), format!("refused\t{number}\n").as_bytes());
         assert_eq!((offending(&drawing.svg), drawing.remarks.len()), (None, 1));
         assert!(drawing.svg.contains("The line can&apos;t be told."));
+    }
+}
+
+/// Refusals have the numbers 1 to 10.
+#[test]
+fn no_refusal_has_another_number() {
+    for number in ["0", "11", "010", "-", "", "10\t0"] {
+        let drawing = draw(&sheet(SOUND), format!("refused\t{number}\n").as_bytes());
+        assert_eq!(drawing.remarks.len(), 1, "{number}");
+        assert!(drawing.remarks[0].starts_with("The register sheet can't be read to its end: Line 1: "), "{number}");
     }
 }
 

@@ -14,9 +14,11 @@ pub fn docs() -> PathBuf {
     Path::new(env!("CARGO_MANIFEST_DIR")).join("../docs")
 }
 
-/// Every pair in docs/samples and docs/pictures, and every pair of blocks in docs/SHEETS.md.
+/// Every pair in docs/samples, its folder of the second form and docs/pictures, and every pair of blocks in
+/// docs/SHEETS.md.
 pub fn pairs() -> Vec<Pair> {
     let mut pairs = folder(&docs().join("samples"));
+    pairs.extend(folder(&docs().join("samples/second")));
     pairs.extend(folder(&docs().join("pictures")));
     pairs.extend(blocks(&fs::read_to_string(docs().join("SHEETS.md")).unwrap()));
     pairs
@@ -51,6 +53,32 @@ fn blocks(text: &str) -> Vec<Pair> {
         }
     }
     pairs
+}
+
+/// A sheet of the first form, whose blocks, values and segments are sound, in the second.
+pub fn second(sheet: &[u8]) -> Vec<u8> {
+    let (mut first, mut leaders) = (0, Vec::new());
+    let mut text = "form\t2\n".to_string();
+    for line in std::str::from_utf8(sheet).unwrap().lines() {
+        let fields: Vec<&str> = line.split('\t').collect();
+        let number = |at: usize| fields[at].parse::<usize>().unwrap();
+        text += line;
+        match fields[0] {
+            "block" => text += &format!("\t{first}"),
+            "seg" => text += &format!("\t{}", leaders[number(1)]),
+            "value" => leaders.push(number(2)),
+            _ => {}
+        }
+        first += if fields[0] == "block" { number(1) } else { 0 };
+        text += "\n";
+    }
+    text.into_bytes()
+}
+
+/// The number of the line that a picture shows to be at fault.
+pub fn offending(svg: &str) -> Option<&str> {
+    let (_, rest) = svg.split_once("class=\"mono bold end offending\">")?;
+    rest.split_once('<').map(|(number, _)| number)
 }
 
 /// How many lines of a sheet have a word.
