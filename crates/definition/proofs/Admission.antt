@@ -398,7 +398,8 @@ module _ (job : Job) (ms : Masks job) (tr : Transitive job) (st : State) (κ : V
       (subst (λ (n : ℕ). IsIn job (sp ++ (r ∷ [])) g h.class (some (vreg n))) len (is_last job sp r g refl)) in
       let by : (f : VirtRegGroup) → f.0 < length (set st.groups g.0 X) → (b : Bool) → eqb f.0 g.0 ≡ b
       → All (IsIn job (sp ++ (r ∷ [])) f (cond b h.class (κ f))) (get_or (set st.groups g.0 X) f.0 []) × NonEmpty (get_or (set st.groups g.0 X) f.0 []) =
-      λ f k b. elim b [
+      λ f k b. elim b as (λ (v : Bool). eqb f.0 g.0 ≡ v
+      → All (IsIn job (sp ++ (r ∷ [])) f (cond v h.class (κ f))) (get_or (set st.groups g.0 X) f.0 []) × NonEmpty (get_or (set st.groups g.0 X) f.0 [])) [
         | true ↦ λ e.
             let q : f ≡ g = same_group f g e in
             let s : get_or (set st.groups g.0 X) g.0 [] ≡ X = get_or-set_same st.groups g.0 X [] l in
@@ -433,7 +434,7 @@ module _ (job : Job) (ms : Masks job) (tr : Transitive job) (st : State) (κ : V
       let vl : v.0 < length rs₀ = (memb_all (IsIn job rs₀ g (κ g)) mem' v (grouped₀ g l).0 me).0 in
       let len : length rs ≡ length rs₀ = update_length (with_pieces ps) v.0 rs₀ in
       let at : (u : VirtReg) (b : Bool) → eqb v.0 u.0 ≡ b → ((nth rs u).group ≡ (nth rs₀ u).group) × ((nth rs u).class ≡ (nth rs₀ u).class) =
-      λ u b. elim b [
+      λ u b. elim b as (λ (w : Bool). eqb v.0 u.0 ≡ w → ((nth rs u).group ≡ (nth rs₀ u).group) × ((nth rs u).class ≡ (nth rs₀ u).class)) [
         | true ↦ λ e.
             let q : v ≡ u = same_vreg v u e in
             let s = update_same (with_pieces ps) v.0 rs₀ vl in
@@ -443,7 +444,7 @@ module _ (job : Job) (ms : Masks job) (tr : Transitive job) (st : State) (κ : V
             (ap (λ (r : Register). r.group) s, ap (λ (r : Register). r.class) s)
       ] in
       let inside' : (u : VirtReg) → u.0 < length rs₀ → memb mem' u ≡ true → (b : Bool) → eqb v.0 u.0 ≡ b → ServedIn job h.class (nth rs u).pieces =
-      λ u k m b. elim b [
+      λ u k m b. elim b as (λ (w : Bool). eqb v.0 u.0 ≡ w → ServedIn job h.class (nth rs u).pieces) [
         | true ↦ λ e.
             let q : v ≡ u = same_vreg v u e in
             let s = update_same (with_pieces ps) v.0 rs₀ vl in
@@ -454,7 +455,7 @@ module _ (job : Job) (ms : Masks job) (tr : Transitive job) (st : State) (κ : V
             subst (λ (r : Register). ServedIn job h.class r.pieces) (sym (update_other (with_pieces ps) v.0 u.0 rs₀ (eqb-false v.0 u.0 e))) (members_served g l i u k m)
       ] in
       let outside' : (u : VirtReg) → memb mem' u ≡ false → (b : Bool) → eqb v.0 u.0 ≡ b → (nth rs u).pieces ≡ (nth rs₀ u).pieces =
-      λ u m b. elim b [
+      λ u m b. elim b as (λ (w : Bool). eqb v.0 u.0 ≡ w → (nth rs u).pieces ≡ (nth rs₀ u).pieces) [
         | true ↦ λ e.
             let q : v ≡ u = same_vreg v u e in
             let t : memb mem' u ≡ true = subst (λ (x : VirtReg). memb mem' x ≡ true) q me in
@@ -468,7 +469,7 @@ module _ (job : Job) (ms : Masks job) (tr : Transitive job) (st : State) (κ : V
       let sp = spread h.class w mem' rs in
       let by : (f : VirtRegGroup) → f.0 < length st.groups → (b : Bool) → eqb f.0 g.0 ≡ b
       → All (IsIn job sp f (cond b h.class (κ f))) (members_at st f) × NonEmpty (members_at st f) =
-      λ f k b. elim b [
+      λ f k b. elim b as (λ (w : Bool). eqb f.0 g.0 ≡ w → All (IsIn job sp f (cond w h.class (κ f))) (members_at st f) × NonEmpty (members_at st f)) [
         | true ↦ λ e.
             let q : f ≡ g = same_group f g e in
             subst (λ (x : VirtRegGroup). All (IsIn job sp x h.class) (members_at st x) × NonEmpty (members_at st x)) (sym q) (spread_own g l w i rs len A B C D, (grouped₀ g l).1)
@@ -527,7 +528,7 @@ module _ (job : Job) (ms : Masks job) (tr : Transitive job) (st : State) (κ : V
       let len : length gs ≡ suc g.0 = omega (arith, length-append st.groups (X ∷ [])) in
       let last : get_or gs g.0 [] ≡ X = ap (λ (i : ℕ). get_or gs i []) (omega arith) ∙ get_or-append-add st.groups (X ∷ []) 0 [] in
       let by : (f : VirtRegGroup) → f.0 < length gs → (b : Bool) → eqb f.0 g.0 ≡ b → All (IsIn job rs f (cond b h.class (κ f))) (get_or gs f.0 []) × NonEmpty (get_or gs f.0 []) =
-      λ f l b. elim b [
+      λ f l b. elim b as (λ (v : Bool). eqb f.0 g.0 ≡ v → All (IsIn job rs f (cond v h.class (κ f))) (get_or gs f.0 []) × NonEmpty (get_or gs f.0 [])) [
         | true ↦ λ e.
             let q : f ≡ g = same_group f g e in
             subst (λ (x : VirtRegGroup). All (IsIn job rs x h.class) (get_or gs x.0 []) × NonEmpty (get_or gs x.0 [])) (sym q)

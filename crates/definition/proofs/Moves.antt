@@ -64,14 +64,14 @@ either P false x y p q = q
 earliest_in : (price : ℕ → Float) (lo hi c : ℕ) (ds : List ℕ) → Within lo hi c → All (Within lo hi) ds → Within lo hi (earliest price c ds)
 unfolding earliest
 earliest_in price lo hi c [] h k = h
-earliest_in price lo hi c (d ∷ ds) h k = earliest_in price lo hi _ ds (either (Within lo hi) (lt (price d) (price c)) d c k.0 h) k.1
+earliest_in price lo hi c (d ∷ ds) h k = earliest_in price lo hi (cond (lt (price d) (price c)) d c) ds (either (Within lo hi) (lt (price d) (price c)) d c k.0 h) k.1
 
 latest_in : (price : ℕ → Float) (lo hi c : ℕ) (ds : List ℕ) → Within lo hi c → All (Within lo hi) ds
     → Within lo hi (latest price c ds)
 unfolding latest
 latest_in price lo hi c [] h k = h
 latest_in price lo hi c (d ∷ ds) h k =
-    latest_in price lo hi _ ds (either (Within lo hi) (lt (price c) (price d)) c d h k.0) k.1
+    latest_in price lo hi (cond (lt (price c) (price d)) c d) ds (either (Within lo hi) (lt (price c) (price d)) c d h k.0) k.1
 
 -- the places kept lie within, where q is at least lo
 keep_in : (lo q hi : ℕ) → lo ≤ q → (xs : List ℕ) → All (Within lo hi) (keep (λ i. ltb q i && leb i hi) xs)

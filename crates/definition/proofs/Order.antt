@@ -237,7 +237,7 @@ runs_rise job s (t ∷ ss) g c =
     go xs ys e r true f =
         let n : (set_of job s.value).0 ≡ (set_of job t.value).0 = eqb-true _ _ f in
         let q : set_of job s.value ≡ set_of job t.value = ap vset n in
-        (omega arith, (sym q, rw q r.1), (omega arith, g.0.0, g.0.1, from_on job s.to.0 t xs (next_to job s t e f) r.2), rw q r.3)
+        (omega arith, (sym q, subst (λ (v : ValueSet). AllOf job v xs) (sym q) r.1), (omega arith, g.0.0, g.0.1, from_on job s.to.0 t xs (next_to job s t e f) r.2), rw q r.3)
     go xs ys e r false f =
         let n : (set_of job s.value).0 ≡ (set_of job t.value).0 → ⊥ = eqb-false _ _ f in
         let l = order_set job s t e in
