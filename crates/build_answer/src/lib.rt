@@ -7,7 +7,7 @@ use virt_regs::OutLayout;
 
 // Number 0 and how many registers and groups there are; or the refusal's number, and zeros.
 #[repr(C)]
-#[derive(Drop)]
+#[derive(Clone, Copy)]
 pub struct BuildEnd {
     pub number: u32,
     pub registers: u32,

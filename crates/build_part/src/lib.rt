@@ -27,7 +27,7 @@ use virt_regs::{Counts, OutLayout};
 use work_layout::WorkLayout;
 
 // One step. `go`: the steps go on with `part`, `counts` and `turned`; else they ended with `end`.
-#[derive(Drop)]
+#[derive(Clone, Copy)]
 pub struct Step {
     pub go: bool,
     pub part: SetPart,

@@ -19,7 +19,7 @@ use virt_regs::{OutLayout, PieceRow};
 use work_layout::WorkLayout;
 
 // The block parameter, if there is one, that the list of a turned use began with.
-#[derive(Drop)]
+#[derive(Clone, Copy)]
 pub struct Param {
     pub has: bool,
     pub index: u32,

@@ -19,7 +19,7 @@ use virt_regs::OutLayout;
 use work_layout::WorkLayout;
 
 // The four words of a row: value, use number, whether it has a parameter (0 or 1), the parameter.
-#[derive(Drop)]
+#[derive(Clone, Copy)]
 pub struct RowWords {
     pub value: u32,
     pub number: u32,
@@ -28,7 +28,7 @@ pub struct RowWords {
 }
 
 // The rows up to `end` are admitted, and what is then held.
-#[derive(Drop)]
+#[derive(Clone, Copy)]
 pub struct Round {
     pub end: usize,
     pub held: Held,

@@ -28,7 +28,7 @@ use virt_regs::{Counts, OutLayout};
 use work_layout::WorkLayout;
 
 // What the conflict pieces of one instruction take over of its first turned use.
-#[derive(Drop)]
+#[derive(Clone, Copy)]
 pub struct First {
     pub value: Value,
     pub pos: Inst,
@@ -36,7 +36,7 @@ pub struct First {
 }
 
 // How a round ended, and the first of the rows left over.
-#[derive(Drop)]
+#[derive(Clone, Copy)]
 pub struct RoundEnd {
     pub end: PlaceEnd,
     pub next: usize,

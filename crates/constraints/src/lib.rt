@@ -23,7 +23,7 @@ use virt_regs::OutLayout;
 use work_layout::WorkLayout;
 
 // What is held: the class; if `grouped`, the index, group and value sets of the group uses before; the register to merge into. `mapped` and `target` are a number + 1, 0 for none.
-#[derive(Drop)]
+#[derive(Clone, Copy)]
 pub struct Held {
     pub class: RegClass,
     pub grouped: bool,
@@ -34,14 +34,14 @@ pub struct Held {
 }
 
 // Whether a use is admitted, and what is then held.
-#[derive(Drop)]
+#[derive(Clone, Copy)]
 pub struct Admission {
     pub ok: bool,
     pub held: Held,
 }
 
 // What the operand of a group use says: its group + 1, 0 where it is not mapped, and the value sets of its members.
-#[derive(Drop)]
+#[derive(Clone, Copy)]
 pub struct OperandGroup {
     pub found: bool,
     pub mapped: u32,
@@ -49,7 +49,7 @@ pub struct OperandGroup {
 }
 
 // A group use: the slot of its operand, its class and its index.
-#[derive(Drop)]
+#[derive(Clone, Copy)]
 pub struct GroupUse {
     pub slot: u32,
     pub class: RegClass,
@@ -57,7 +57,7 @@ pub struct GroupUse {
 }
 
 // What a use asks of its register: anything will do, a class, or a place in a group.
-#[derive(Drop)]
+#[derive(Clone, Copy)]
 pub enum Ask {
     Any,
     Class(RegClass),

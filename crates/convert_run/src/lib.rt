@@ -11,14 +11,14 @@ use libc::{STDIN_FILENO, STDOUT_FILENO};
 use streams::Stream;
 
 // Whether a write failed, and where the output stands.
-#[derive(Drop)]
+#[derive(Clone, Copy)]
 pub struct Printed {
     pub failed: bool,
     pub next: Stream,
 }
 
 // Whether a read failed, and then nothing was written; whether a write failed; and where input and output stand.
-#[derive(Drop)]
+#[derive(Clone, Copy)]
 pub struct Outcome {
     pub unread: bool,
     pub unwritten: bool,

@@ -15,7 +15,7 @@ use definition::{Block, Inst, Side};
 
 // Number 0 and how many blocks could move the cut; or the refusal's number, and 0.
 #[repr(C)]
-#[derive(Drop)]
+#[derive(Clone, Copy)]
 pub struct MovesEnd {
     pub number: u32,
     pub count: u32,

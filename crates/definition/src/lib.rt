@@ -2,41 +2,41 @@
 
 // One tuple struct for each kind of index, as the Rust's entity types.
 
-#[derive(Drop)]
+#[derive(Clone, Copy)]
 pub struct Inst(pub u32);
 
-#[derive(Drop)]
+#[derive(Clone, Copy)]
 pub struct Block(pub u32);
 
-#[derive(Drop)]
+#[derive(Clone, Copy)]
 pub struct Value(pub u32);
 
-#[derive(Drop)]
+#[derive(Clone, Copy)]
 pub struct ValueGroup(pub u32);
 
-#[derive(Drop)]
+#[derive(Clone, Copy)]
 pub struct ValueSet(pub u32);
 
-#[derive(Drop)]
+#[derive(Clone, Copy)]
 pub struct RegBank(pub u32);
 
-#[derive(Drop)]
+#[derive(Clone, Copy)]
 pub struct RegClass(pub u32);
 
-#[derive(Drop)]
+#[derive(Clone, Copy)]
 pub struct PhysReg(pub u32);
 
-#[derive(Drop)]
+#[derive(Clone, Copy)]
 pub struct VirtReg(pub u32);
 
-#[derive(Drop)]
+#[derive(Clone, Copy)]
 pub struct VirtRegGroup(pub u32);
 
 // A point of a live range: 4 * instruction + slot.
-#[derive(Drop)]
+#[derive(Clone, Copy)]
 pub struct LiveRangePoint(pub u32);
 
-#[derive(Drop)]
+#[derive(Clone, Copy)]
 pub enum Slot {
     Boundary,
     Early,
@@ -44,7 +44,7 @@ pub enum Slot {
 }
 
 // What a use asks of its value's register, in UseKind's order.
-#[derive(Drop)]
+#[derive(Clone, Copy)]
 pub enum UseKind {
     FixedDef {
         reg: PhysReg,
@@ -83,14 +83,14 @@ pub enum UseKind {
     BlockparamOut,
 }
 
-#[derive(Drop)]
+#[derive(Clone, Copy)]
 pub struct Use {
     pub pos: Inst,
     pub kind: UseKind,
 }
 
 // The flags of a use list.
-#[derive(Drop)]
+#[derive(Clone, Copy)]
 pub struct UseFlags {
     pub livein: bool,
     pub liveout: bool,
@@ -99,7 +99,7 @@ pub struct UseFlags {
 }
 
 // The options that count: the weight adjust k and the three remat scales.
-#[derive(Drop)]
+#[derive(Clone, Copy)]
 pub struct Options {
     pub adjust: u32,
     pub cheaper_than_move: f32,
@@ -107,14 +107,14 @@ pub struct Options {
     pub indirect: f32,
 }
 
-#[derive(Drop)]
+#[derive(Clone, Copy)]
 pub struct BlockData {
     pub insts: u32,
     pub frequency: f32,
 }
 
 // A class: the mask of its subclasses (bit c for class c), the cost of a use, the group size.
-#[derive(Drop)]
+#[derive(Clone, Copy)]
 pub struct ClassData {
     pub mask: u32,
     pub cost: f32,
@@ -122,7 +122,7 @@ pub struct ClassData {
     pub spillslots: bool,
 }
 
-#[derive(Drop)]
+#[derive(Clone, Copy)]
 pub enum Remat {
     Never,
     CheaperThanMove,
@@ -130,7 +130,7 @@ pub enum Remat {
     Indirect,
 }
 
-#[derive(Drop)]
+#[derive(Clone, Copy)]
 pub struct ValueData {
     pub bank: RegBank,
     pub leader: Value,
@@ -138,7 +138,7 @@ pub struct ValueData {
 }
 
 // A group operand: a value group at a slot of an instruction.
-#[derive(Drop)]
+#[derive(Clone, Copy)]
 pub struct Operand {
     pub inst: Inst,
     pub slot: u32,
@@ -146,7 +146,7 @@ pub struct Operand {
     pub class: RegClass,
 }
 
-#[derive(Drop)]
+#[derive(Clone, Copy)]
 pub struct Hint {
     pub value: Value,
     pub inst: Inst,
@@ -154,28 +154,28 @@ pub struct Hint {
 }
 
 // Whether a piece is a part of the job's ranges or was made for a conflict.
-#[derive(Drop)]
+#[derive(Clone, Copy)]
 pub enum Origin {
     Own,
     Conflict,
 }
 
 // The side of a cut.
-#[derive(Drop)]
+#[derive(Clone, Copy)]
 pub enum Side {
     Early,
     Late,
 }
 
 // Which way a block's frequency goes to move a cut.
-#[derive(Drop)]
+#[derive(Clone, Copy)]
 pub enum Way {
     Up,
     Down,
 }
 
 // A block whose frequency by itself could move a cut: the way, and the fewest f32 steps.
-#[derive(Drop)]
+#[derive(Clone, Copy)]
 pub struct CutMove {
     pub block: Block,
     pub way: Way,
@@ -183,7 +183,7 @@ pub struct CutMove {
 }
 
 // The six stops.
-#[derive(Drop)]
+#[derive(Clone, Copy)]
 pub enum Stop {
     NoStart,
     TurnedDef,
@@ -194,7 +194,7 @@ pub enum Stop {
 }
 
 // The nine refusals.
-#[derive(Drop)]
+#[derive(Clone, Copy)]
 pub enum Refusal {
     NotARecord,
     OverALimit,
@@ -208,7 +208,7 @@ pub enum Refusal {
 }
 
 // The refusals of a job sheet: those of its job, and 10.
-#[derive(Drop)]
+#[derive(Clone, Copy)]
 pub enum SheetRefusal {
     By(Refusal),
     WrittenDiffers,

@@ -18,7 +18,7 @@ use operands::Chains;
 use work_layout::WorkLayout;
 
 // The answer: 0, or the number of the lowest test that fails. Where it is 0, the job's layout, the parts of the work slice and the number of instructions.
-#[derive(Drop)]
+#[derive(Clone, Copy)]
 pub struct Entered {
     pub number: u32,
     pub lay: Layout,

@@ -10,7 +10,7 @@ use definition::{Inst, Side};
 
 // Number 0 and the instruction before which the cut is made; or the refusal's number, and 0.
 #[repr(C)]
-#[derive(Drop)]
+#[derive(Clone, Copy)]
 pub struct Cut {
     pub number: u32,
     pub inst: u32,

@@ -11,7 +11,7 @@ ghost use Rattle.frames.specs.Read.{HeadRead, FrameRead};
 use streams::{Step, Stream};
 
 // A whole frame, and the sizes of its parts. Where it is none: a read failed, or the input ended before it, or what follows is no frame.
-#[derive(Drop)]
+#[derive(Clone, Copy)]
 pub struct Frame {
     pub whole: bool,
     pub failed: bool,

@@ -7,7 +7,7 @@ ghost use Rattle.home.specs.Tallies.{differs_line, tally_line, broken_line};
 use libc::{STDIN_FILENO, STDOUT_FILENO};
 
 // A sheet that was moved and came home, one that is refused as its stored answer says, or one that differs.
-#[derive(Drop)]
+#[derive(Clone, Copy)]
 enum Way {
     Home,
     Refused,
@@ -15,7 +15,7 @@ enum Way {
 }
 
 // Cut where a line could not be written: then no more are.
-#[derive(Drop)]
+#[derive(Clone, Copy)]
 struct Tally {
     home: u64,
     refused: u64,

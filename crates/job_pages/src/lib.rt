@@ -12,7 +12,7 @@ ghost use Rattle.job_pages.specs.Pages.{Shows, Stepped, Filled};
 use definition::Value;
 
 // The kind of record that comes next, by its number, or 12 behind the end; how many rows of this kind, how many segments and how many uses are printed; how many instructions the printed blocks have.
-#[derive(Drop)]
+#[derive(Clone, Copy)]
 pub struct Cursor {
     pub key: u32,
     pub row: usize,
@@ -22,14 +22,14 @@ pub struct Cursor {
 }
 
 // Behind a line: where the buffer's text ends.
-#[derive(Drop)]
+#[derive(Clone, Copy)]
 pub struct Put {
     pub cur: Cursor,
     pub at: usize,
 }
 
 // Behind a page of n bytes.
-#[derive(Drop)]
+#[derive(Clone, Copy)]
 pub struct Page {
     pub cur: Cursor,
     pub n: usize,

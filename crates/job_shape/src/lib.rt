@@ -7,7 +7,7 @@ ghost use Rattle.job_shape.specs.Shape.{Placed, table_behind, layout_of, all_bel
 use layout::{Layout, Table};
 
 // The answer to test 1: whether it is passed, and then the layout.
-#[derive(Drop)]
+#[derive(Clone, Copy)]
 pub struct Shape {
     pub ok: bool,
     pub lay: Layout,

@@ -6,14 +6,14 @@ ghost use Rattle.layout.specs.Layout.{Fits, options_row, flags_of, seg_row, next
 use definition::{LiveRangePoint, Options, UseFlags, Value};
 
 // A table: the word at which its first row begins, and how many rows it has.
-#[derive(Drop)]
+#[derive(Clone, Copy)]
 pub struct Table {
     pub at: usize,
     pub n: usize,
 }
 
 // The tables of a job. `opts` is the word at which k and the three scales begin.
-#[derive(Drop)]
+#[derive(Clone, Copy)]
 pub struct Layout {
     pub opts: usize,
     pub banks: Table,
@@ -29,7 +29,7 @@ pub struct Layout {
 }
 
 // A segment row: `first` is how many uses come before its own.
-#[derive(Drop)]
+#[derive(Clone, Copy)]
 pub struct SegRow {
     pub value: Value,
     pub from: LiveRangePoint,

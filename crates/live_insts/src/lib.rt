@@ -9,7 +9,7 @@ use live_range::{inst_of, next_inst};
 use words::word_at;
 
 // The points of a segment, `to` excluded.
-#[derive(Drop)]
+#[derive(Clone, Copy)]
 pub struct LiveRangeSegment {
     pub from: LiveRangePoint,
     pub to: LiveRangePoint,

@@ -19,7 +19,7 @@ use reginfo::Found;
 use virt_regs::OutLayout;
 
 // What a group use is to hold: the class, and the register to merge into + 1 (0: none); nothing if not ok.
-#[derive(Drop)]
+#[derive(Clone, Copy)]
 pub struct Joined {
     pub ok: bool,
     pub class: RegClass,

@@ -4,7 +4,7 @@ ghost use Rattle.definition.specs.Text.{digit_of};
 ghost use Rattle.numeral.specs.Bytes.{number_byte, mask_byte, word_byte, take_byte, closed_of};
 
 // What a field of a record looks like: none, a decimal number up to a bound, eight hexadecimal digits, a word of up to seven bytes.
-#[derive(Drop)]
+#[derive(Clone, Copy)]
 pub enum Form {
     Nothing,
     Number(u64),
@@ -13,13 +13,13 @@ pub enum Form {
 }
 
 // What was read of a field so far: its value, and how many bytes it has (of a number, 1 for any).
-#[derive(Drop)]
+#[derive(Clone, Copy)]
 pub struct Num {
     pub value: u64,
     pub len: u64,
 }
 
-#[derive(Drop)]
+#[derive(Clone, Copy)]
 pub enum Took {
     Num(Num),
     Bad,

@@ -11,7 +11,7 @@ use definition::{Inst, Operand, RegClass, ValueGroup};
 
 // Where the operands lie, `count` rows from word `at` of a job on, and their index: a word for each of `insts` instructions from word `heads` of the work
 // slice on, and one for each operand from word `nexts` on. A word is 0, or an operand's number plus 1.
-#[derive(Drop)]
+#[derive(Clone, Copy)]
 pub struct Chains {
     pub at: usize,
     pub count: usize,
@@ -20,7 +20,7 @@ pub struct Chains {
     pub insts: usize,
 }
 
-#[derive(Drop)]
+#[derive(Clone, Copy)]
 pub enum FoundOperand {
     At(usize),
     Nothing,

@@ -17,7 +17,7 @@ use set_part::SetPart;
 use work_layout::WorkLayout;
 
 // The slot of a group use; other uses are not `grouped`.
-#[derive(Drop)]
+#[derive(Clone, Copy)]
 pub struct GroupSlot {
     pub grouped: bool,
     pub slot: u32,

@@ -3,7 +3,7 @@ use definition::Stop;
 use virt_regs::Counts;
 
 // A register is placed, there is a stop, or a table is full.
-#[derive(Drop)]
+#[derive(Clone, Copy)]
 pub enum Ended {
     Done,
     Stopped(Stop),
@@ -11,7 +11,7 @@ pub enum Ended {
 }
 
 // How it ended, and the rows in use then.
-#[derive(Drop)]
+#[derive(Clone, Copy)]
 pub struct PlaceEnd {
     pub end: Ended,
     pub counts: Counts,

@@ -10,7 +10,7 @@ ghost use Rattle.reginfo.specs.Rows.{found_of, class_row, bank_row, memory_row, 
 use definition::{ClassData, RegClass};
 
 // The class that two classes have in common, if any.
-#[derive(Drop)]
+#[derive(Clone, Copy)]
 pub enum Found {
     Class(RegClass),
     Nothing,

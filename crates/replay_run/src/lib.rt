@@ -9,7 +9,7 @@ ghost use Rattle.replay_run.specs.Ran.{AnswerRead, Ran};
 use streams::Stream;
 
 // A whole frame, and whether its answer is the one given anew. Where it is none: a read failed, or the input ended before it, or what follows is no frame.
-#[derive(Drop)]
+#[derive(Clone, Copy)]
 pub struct Found {
     pub whole: bool,
     pub failed: bool,
@@ -19,7 +19,7 @@ pub struct Found {
 }
 
 // Whether a read failed, and then the report is cut; whether a write failed; and where input and output stand.
-#[derive(Drop)]
+#[derive(Clone, Copy)]
 pub struct Outcome {
     pub unread: bool,
     pub unwritten: bool,

@@ -28,7 +28,7 @@ use virt_regs::OutLayout;
 use work_layout::WorkLayout;
 
 // A scan that went through, or the number of the use that it could not admit; and what is held when it ends.
-#[derive(Drop)]
+#[derive(Clone, Copy)]
 pub struct ScanAnswer {
     pub ok: bool,
     pub at: usize,
@@ -36,7 +36,7 @@ pub struct ScanAnswer {
 }
 
 // The step that the forward scan leads to: place all, turn the use with a number, cut at an instruction, or stop.
-#[derive(Drop)]
+#[derive(Clone, Copy)]
 pub enum MoveKind {
     Whole,
     Turn(usize),
@@ -44,7 +44,7 @@ pub enum MoveKind {
     Halt(Stop),
 }
 
-#[derive(Drop)]
+#[derive(Clone, Copy)]
 pub struct MoveAnswer {
     pub kind: MoveKind,
     pub held: Held,

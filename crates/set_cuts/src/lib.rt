@@ -13,7 +13,7 @@ use layout::Layout;
 use set_part::{PartSeg, SetPart};
 
 // The two sides of a cut.
-#[derive(Drop)]
+#[derive(Clone, Copy)]
 pub struct Parts {
     pub left: SetPart,
     pub right: SetPart,

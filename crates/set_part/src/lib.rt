@@ -9,7 +9,7 @@ use layout::Layout;
 
 // Segments `seg` to `last` of the job. The first begins at `from`, has `flags`, and its uses begin at use number `first`;
 // the last ends at `to`, its uses end before use number `end`, and it has `tail` as its flags if it is not the first too.
-#[derive(Drop)]
+#[derive(Clone, Copy)]
 pub struct SetPart {
     pub seg: usize,
     pub from: LiveRangePoint,
@@ -22,7 +22,7 @@ pub struct SetPart {
 }
 
 // A segment of a part: its uses are those from number `first` up to `end`.
-#[derive(Drop)]
+#[derive(Clone, Copy)]
 pub struct PartSeg {
     pub value: Value,
     pub from: LiveRangePoint,

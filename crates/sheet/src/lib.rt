@@ -7,7 +7,7 @@ ghost use Rattle.sheet.specs.Machine.{end_line, step_of, push_of, run_of, open_o
 use sheet_fields::{Next, St};
 
 // What a sheet is: a job's, none (number 1), or one with more records of a kind than its limit (number 2).
-#[derive(Drop)]
+#[derive(Clone, Copy)]
 pub enum Answer {
     Read,
     Malformed,

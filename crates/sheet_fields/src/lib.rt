@@ -7,7 +7,7 @@ use numeral::{Num, Took};
 
 // Where the reader stands: the record before, the record of this line (12: its word is not read yet), its first field, how many fields
 // it has so far, where its row goes, whether a table was full; and what was read of the field.
-#[derive(Drop)]
+#[derive(Clone, Copy)]
 pub struct St {
     pub prev: u32,
     pub key: u32,
@@ -20,7 +20,7 @@ pub struct St {
 }
 
 // The state, or that the sheet is none.
-#[derive(Drop)]
+#[derive(Clone, Copy)]
 pub enum Next {
     Go(St),
     Bad,

@@ -19,7 +19,7 @@ use sheet_fields::Next;
 // a line that has no written field; in a field before the written one, with its record and how many such fields there
 // are from it on; in
 // the written field, with its record.
-#[derive(Drop)]
+#[derive(Clone, Copy)]
 pub enum Front {
     Opening(u32),
     First,
@@ -30,20 +30,20 @@ pub enum Front {
 }
 
 // The form, and the reader of the first form.
-#[derive(Drop)]
+#[derive(Clone, Copy)]
 pub struct Stood {
     pub front: Front,
     pub next: Next,
 }
 
 // How many first instructions and sets were kept.
-#[derive(Drop)]
+#[derive(Clone, Copy)]
 pub struct Kept {
     pub firsts: u32,
     pub sets: u32,
 }
 
-#[derive(Drop)]
+#[derive(Clone, Copy)]
 pub struct Reading {
     pub front: Front,
     pub next: Next,

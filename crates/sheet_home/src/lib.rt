@@ -7,7 +7,7 @@ ghost use Rattle.sheet_places.specs.Places.{table_words};
 ghost use Rattle.sheet_home.specs.Moved.{Answered};
 
 // The answer of n bytes, and whether that is all of it; the number of the refusal that it is, 0 for a sheet.
-#[derive(Drop)]
+#[derive(Clone, Copy)]
 pub struct Moved {
     pub n: usize,
     pub whole: bool,
@@ -16,7 +16,7 @@ pub struct Moved {
 
 // A sheet in the form that it has not, or the refusal, and whether it came home; for a refused one whether its own
 // program refuses it too.
-#[derive(Drop)]
+#[derive(Clone, Copy)]
 pub struct Trip {
     pub there: Moved,
     pub home: bool,

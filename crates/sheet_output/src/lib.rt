@@ -13,7 +13,7 @@ use register_sheet::{put_end, put_group, put_seg, put_use, put_vreg};
 use virt_regs::{OutLayout, RegisterRow, piece_at};
 
 // How many register, piece, use and group lines are printed; how many pieces the printed registers have, and uses the printed pieces; and whether the end is printed.
-#[derive(Drop)]
+#[derive(Clone, Copy)]
 pub struct Cursor {
     pub regs: usize,
     pub segs: usize,
@@ -25,14 +25,14 @@ pub struct Cursor {
 }
 
 // Behind a line: where the buffer's text ends.
-#[derive(Drop)]
+#[derive(Clone, Copy)]
 pub struct Put {
     pub cur: Cursor,
     pub at: usize,
 }
 
 // Behind a page of n bytes.
-#[derive(Drop)]
+#[derive(Clone, Copy)]
 pub struct Page {
     pub cur: Cursor,
     pub n: usize,

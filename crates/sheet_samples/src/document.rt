@@ -3,7 +3,7 @@ ghost use Rattle.std.specs.Prelude.{◌≡◌, true, ◌+◌, ◌≤◌, ◌<◌
 ghost use Rattle.sheet_samples.specs.Bounds.{Within, Inside};
 
 // A block: its lines, and where the document goes on.
-#[derive(Drop)]
+#[derive(Clone, Copy)]
 pub struct Block {
     pub from: usize,
     pub to: usize,
@@ -11,7 +11,7 @@ pub struct Block {
 }
 
 // A sheet and its answer (paired), a block of one of the two marks that has no partner (alone), or another block.
-#[derive(Drop)]
+#[derive(Clone, Copy)]
 pub struct Sample {
     pub paired: bool,
     pub alone: bool,

@@ -11,7 +11,7 @@ use document::Sample;
 use libc::{STDERR_FILENO, STDOUT_FILENO};
 
 // Cut where a line could not be written: then no more are.
-#[derive(Drop)]
+#[derive(Clone, Copy)]
 struct Tally {
     agree: usize,
     differ: usize,

@@ -31,7 +31,7 @@ use virt_regs::{Counts, OutLayout};
 use work_layout::WorkLayout;
 
 // How the steps ended, the rows in use then, and how many uses are turned.
-#[derive(Drop)]
+#[derive(Clone, Copy)]
 pub struct StepsEnd {
     pub end: Ended,
     pub counts: Counts,
@@ -87,7 +87,7 @@ pub fn turn_one(
 }
 
 // The sides of a cut, and what is held of the uses before it.
-#[derive(Drop)]
+#[derive(Clone, Copy)]
 pub struct Front {
     pub left: SetPart,
     pub right: SetPart,

@@ -11,7 +11,7 @@ use layout::Layout;
 use set_part::SetPart;
 
 // What is kept of a turned use: its value, its number, and the block parameter, if `has_param`, that its list begins with at its instruction.
-#[derive(Drop)]
+#[derive(Clone, Copy)]
 pub struct TurnedRow {
     pub value: Value,
     pub number: usize,

@@ -3,14 +3,14 @@ ghost use Rattle.std.specs.Prelude.{◌≡◌, ℕ, ◌+◌, ◌*◌, ◌≤◌,
 ghost use Rattle.use_lists.specs.Lists.{Within, part_of, left_list, right_list};
 
 // Which of the two tables of uses a list stands in.
-#[derive(Drop)]
+#[derive(Clone, Copy)]
 pub enum Source {
     Job,
     Added,
 }
 
 // `count` uses from use `first` on.
-#[derive(Drop)]
+#[derive(Clone, Copy)]
 pub struct UseList {
     pub source: Source,
     pub first: usize,

@@ -91,7 +91,7 @@ pub fn fields_fit(kind: u32, a: u32, b: u32, c: u32, d: u32) -> bool
 }
 
 // What stands at a row of a use table.
-#[derive(Drop)]
+#[derive(Clone, Copy)]
 pub enum Decoded {
     One(Use),
     Bad,

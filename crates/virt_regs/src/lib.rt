@@ -8,7 +8,7 @@ ghost use Rattle.virt_regs.specs.Reads.{piece_in, segments_in};
 use definition::{LiveRangePoint, RegClass, Value, ValueSet, VirtReg, VirtRegGroup};
 
 // How many rows each table can hold.
-#[derive(Drop)]
+#[derive(Clone, Copy)]
 pub struct OutLayout {
     pub regs: usize,
     pub segs: usize,
@@ -17,7 +17,7 @@ pub struct OutLayout {
 }
 
 // How many rows of each table are in use.
-#[derive(Drop)]
+#[derive(Clone, Copy)]
 pub struct Counts {
     pub regs: usize,
     pub segs: usize,
@@ -26,7 +26,7 @@ pub struct Counts {
 }
 
 // A register's row: group is the group's number + 1 or 0, hint 0 or 1.
-#[derive(Drop)]
+#[derive(Clone, Copy)]
 pub struct RegisterRow {
     pub set: ValueSet,
     pub class: RegClass,
@@ -39,7 +39,7 @@ pub struct RegisterRow {
 }
 
 // A piece's row: origin is 0 for its own and 1 for a conflict, first its first use, uses how many.
-#[derive(Drop)]
+#[derive(Clone, Copy)]
 pub struct PieceRow {
     pub value: Value,
     pub from: LiveRangePoint,
@@ -51,7 +51,7 @@ pub struct PieceRow {
 }
 
 // Where a register's pieces stand.
-#[derive(Drop)]
+#[derive(Clone, Copy)]
 pub struct PieceSpan {
     pub first: usize,
     pub count: usize,

@@ -12,7 +12,7 @@ use virt_regs::{OutLayout, pieces_of};
 use words::word_at;
 
 // An old piece overlaps, or the new ones go in front of the piece with that number.
-#[derive(Drop)]
+#[derive(Clone, Copy)]
 pub enum Place {
     Overlap,
     At(usize),

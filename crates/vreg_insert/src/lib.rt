@@ -15,7 +15,7 @@ use virt_regs::{Counts, OutLayout, pieces_of};
 use words::{put_word, word_at};
 
 // Where the gaps are: before which piece, and before which use.
-#[derive(Drop)]
+#[derive(Clone, Copy)]
 pub struct Gaps {
     pub pieces: usize,
     pub uses: usize,

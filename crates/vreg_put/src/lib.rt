@@ -40,7 +40,7 @@ pub fn put_piece(out: &mut [u8], ol: OutLayout, i: usize, row: PieceRow)
 }
 
 // A use's row: its kind, its instruction and four fields.
-#[derive(Drop)]
+#[derive(Clone, Copy)]
 pub struct UseRow {
     pub kind: u32,
     pub pos: u32,

@@ -9,7 +9,7 @@ use operands::Chains;
 
 // Where the parts begin: the index of the operands (a head for each instruction, a next for each operand), a word for each operand (its group + 1, 0 for none),
 // the table of block starts, a word for each use of the job (1 if it is turned), four words for each turned use.
-#[derive(Drop)]
+#[derive(Clone, Copy)]
 pub struct WorkLayout {
     pub heads: usize,
     pub nexts: usize,
