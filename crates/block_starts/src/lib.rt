@@ -1,5 +1,7 @@
 // The table of block starts, made once from the block rows: for each block its first instruction and its frequency's bits, and a last
 // row with the number of instructions. The block of an instruction is found in it by binary search.
+#![tactic(auto)]
+
 ghost use Rattle.std.specs.Prelude.{◌≡◌, List, [], ◌∷◌, ◌+◌, ◌*◌, ◌≤◌, ◌<◌, length, get_or};
 ghost use Rattle.definition.specs.declared.BlockData.{BlockData};
 ghost use Rattle.definition.specs.Entry.{insts_of};

@@ -1,4 +1,6 @@
 // mod.rs build_initial_vregs: the build of a binary job into lent result tables, as an entry point on bytes and numbers. Nothing is asked of the caller.
+#![tactic(auto)]
+
 ghost use Rattle.std.specs.Prelude.{◌≡◌, ◌/◌, ◌≤◌, ◌<◌, length};
 ghost use Rattle.words.specs.Words.{word_count, words_of};
 ghost use Rattle.definition.specs.Build.{build};

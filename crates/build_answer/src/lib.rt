@@ -1,4 +1,6 @@
 // How a build ends, and the tables in the slice that the caller lends for the result.
+#![tactic(auto)]
+
 ghost use Rattle.std.specs.Prelude.{◌≡◌, ◌*◌, ◌≤◌, ◌<◌};
 ghost use Rattle.virt_regs.specs.Encoding.{tables_end};
 ghost use Rattle.build_answer.specs.Answered.{lesser, named_in, Cut};

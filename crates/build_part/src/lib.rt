@@ -1,4 +1,6 @@
 // The steps over the working part of a set (builder.rs `compute_constraints`): uses are turned, cuts are made and the parts before them placed, until all is placed or there is a stop.
+#![tactic(auto)]
+
 ghost use Rattle.std.specs.Prelude.{◌≡◌, ℕ, ◌+◌, ◌≤◌, ◌<◌, length};
 ghost use Rattle.words.specs.Words.{word_count, words_of};
 ghost use Rattle.definition.specs.Types.{State};

@@ -1,4 +1,6 @@
 // mod.rs build_initial_vregs: the value sets one after the other, by rising number.
+#![tactic(auto)]
+
 ghost use Rattle.std.specs.Prelude.{◌<◌};
 ghost use Rattle.words.specs.Words.{word_count, words_of};
 ghost use Rattle.definition.specs.Types.{State};

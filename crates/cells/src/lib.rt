@@ -1,4 +1,6 @@
 // Words of a byte slice, past whose end nothing is read or stored.
+#![tactic(auto)]
+
 ghost use Rattle.std.specs.Prelude.{◌≡◌, get_or, set, replicate};
 ghost use Rattle.words.specs.Words.{word_count, words_of};
 

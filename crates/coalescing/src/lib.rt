@@ -1,5 +1,7 @@
 // coalescing.rs, function.rs: values, value groups, and the value sets of a group's members.
 // A value row has three words: bank, leader, remat. A value group row has nine: the number of members and eight places for them.
+#![tactic(auto)]
+
 ghost use Rattle.std.specs.Prelude.{◌≡◌, ◌+◌, ◌*◌, ◌≤◌, ◌<◌, length, get_or};
 ghost use Rattle.words.specs.Words.{word_count, words_of};
 ghost use Rattle.definition.specs.Types.{Job, val};

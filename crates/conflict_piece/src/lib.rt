@@ -1,4 +1,6 @@
 // The piece of a conflict register, from rows of turned uses in the work slice: four words each, value, use number, whether it has a parameter (0 or 1), the parameter.
+#![tactic(auto)]
+
 ghost use Rattle.std.specs.Prelude.{◌≡◌, cond, List, [], ◌∷◌, ◌++◌, ℕ, ◌+◌, ◌-◌, ◌*◌, ◌≤◌, ◌<◌, length, get_or};
 ghost use Rattle.std.proofs.Math.Option.{Option};
 ghost use Rattle.rows.specs.Tab.{tab};
@@ -116,7 +118,7 @@ pub fn write_conflict(
     u: usize,
 )
     requires fits { Fits (word_count job.now) lay × RowsOk (word_count work.now) (words_of work.now) turned lay a b × (tables_end ol ≤ word_count out.old) }
-    requires p_lt_segs { (p < ol.segs) × (u + (open_count param + (b - a)) ≤ ol.uses) × (u + (open_count param + (b - a)) < 4294967296) × (4 * pos.0 + 2 < 4294967296) }
+    requires room { (p < ol.segs) × (u + (open_count param + (b - a)) ≤ ol.uses) × (u + (open_count param + (b - a)) < 4294967296) × (4 * pos.0 + 2 < 4294967296) }
     ensures { (ts : List Turned) → ts ≡ turned_rows_of (words_of work.now) turned (words_of job.now) lay a b → Written ol (words_of out.old) p u (conflict_piece value pos (param_by param) ts ∷ []) (uses_of (segs_of (conflict_piece value pos (param_by param) ts ∷ []))) (words_of out.new) }
 {
     let k = write_opening(out, ol, u, pos, param);

@@ -1,4 +1,6 @@
 // builder.rs emit_vregs_for_conflicts: a round over rows of turned uses in the work slice, in place; runs of rows of one instruction.
+#![tactic(auto)]
+
 ghost use Rattle.std.specs.Prelude.{◌≡◌, List, ◌∷◌, ℕ, ◌+◌, ◌*◌, ◌≤◌, ◌<◌, get_or};
 ghost use Rattle.words.specs.Words.{word_count, words_of};
 ghost use Rattle.definition.specs.Types.{State};
@@ -92,7 +94,7 @@ pub fn try_rows(
     b: usize,
 ) -> Round
     requires { Ready (word_count job.now) (word_count work.old) (words_of job.now) (words_of work.old) lay wl × (tables_end ol ≤ word_count out.now) × TurnedApart lay wl × RowsOk (word_count work.old) (words_of work.old) wl.turned lay a b × (0 < lay.segments.n) }
-    ensures a_le_end { (a ≤ result.end) × (result.end ≤ b) × Elsewhere wl.turned a b (words_of work.old) (words_of work.new) × RowsOk (word_count work.new) (words_of work.new) wl.turned lay a b }
+    ensures parted { (a ≤ result.end) × (result.end ≤ b) × Elsewhere wl.turned a b (words_of work.old) (words_of work.new) × RowsOk (word_count work.new) (words_of work.new) wl.turned lay a b }
     ensures tried { (st : State) → Stands ol (words_of out.now) (words_of job.now) (words_of work.old) lay wl st → Tried (words_of work.new) wl.turned (words_of job.now) lay a b result (try_all (job_of (words_of job.now) lay) st top (turned_rows_of (words_of work.old) wl.turned (words_of job.now) lay a b)) }
 {
     let turned = wl.turned;

@@ -1,4 +1,6 @@
 // builder.rs emit_vregs_for_conflicts: the conflict registers of a set, from its rows of turned uses.
+#![tactic(auto)]
+
 ghost use Rattle.std.specs.Prelude.{◌≡◌, cond, ℕ, ◌+◌, ◌-◌, ◌*◌, ◌≤◌, ◌<◌, eqb, get_or};
 ghost use Rattle.std.proofs.Math.Option.{none, some};
 ghost use Rattle.words.specs.Words.{word_count, words_of};
@@ -83,7 +85,7 @@ fn place_round(
     c: Counts,
 ) -> RoundEnd
     requires { Given (word_count job.now) (word_count work.old) (word_count out.old) (words_of job.now) (words_of work.old) (words_of out.old) lay wl ol a b c × (a < b) × (x.pos.0 < insts_of (job_of (words_of job.now) lay).blocks) }
-    ensures a_lt_next { (result.end.end ≡ ended.Done → a < result.next) × (result.next ≤ b) × Rounded lay wl b (words_of work.old) (words_of work.new) × RowsOk (word_count work.new) (words_of work.new) wl.turned lay result.next b }
+    ensures onto_next { (result.end.end ≡ ended.Done → a < result.next) × (result.next ≤ b) × Rounded lay wl b (words_of work.old) (words_of work.new) × RowsOk (word_count work.new) (words_of work.new) wl.turned lay result.next b }
     ensures round_as { (st : State) (t : Turned) (f : ℕ) → StandsAs (job_of (words_of job.now) lay) ol (words_of out.old) (words_of job.now) (words_of work.old) lay wl c st → IsFirst x t
         → RoundAs (job_of (words_of job.now) lay) ol (words_of job.now) lay wl (words_of out.new) (words_of work.new) result.end (turned_rows_of (words_of work.new) wl.turned (words_of job.now) lay result.next b) (room_of ol) set top t f st
         (turned_rows_of (words_of work.old) wl.turned (words_of job.now) lay a b) }

@@ -1,4 +1,6 @@
 // builder.rs's VirtRegBuilderConstraints: what a register under construction holds, and whether a use is admitted.
+#![tactic(auto)]
+
 ghost use Rattle.std.specs.Prelude.{◌≡◌, true, ◌+◌, ◌*◌, ◌≤◌, ◌<◌};
 ghost use Rattle.std.proofs.Math.Option.{bind, some};
 ghost use Rattle.words.specs.Words.{word_count, words_of};

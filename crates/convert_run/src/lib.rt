@@ -1,4 +1,6 @@
 // All that `to_form2` and `to_form1` do between their first read and their last write, over streams: a job sheet is read and judged, and then written in the other form page by page.
+#![tactic(auto)]
+
 ghost use Rattle.std.specs.Prelude.{◌≡◌, true, false, ◌≤◌, length};
 ghost use Rattle.words.specs.Words.{word_count, words_of};
 ghost use Rattle.work_layout.specs.Regions.{max_work};

@@ -1,5 +1,7 @@
 // The blocks that are open to a cut, the one chosen, and the steps by which each of them would move it, over the table
 // of block starts. Frequencies are compared by their bits, as in split_placement.
+#![tactic(auto)]
+
 ghost use Rattle.std.specs.Prelude.{◌≡◌, List, ℕ, suc, ◌+◌, ◌-◌, ◌*◌, ◌≤◌, ◌<◌, ◌&&◌, not, cond, eqb, ltb, length};
 ghost use Rattle.definition.specs.declared.BlockData.{BlockData};
 ghost use Rattle.definition.specs.Entry.{insts_of};

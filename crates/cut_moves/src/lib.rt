@@ -1,5 +1,7 @@
 // What would move a cut, as an entry point on bytes and numbers: each block whose frequency by itself could move it,
 // with the way and the fewest f32 steps, in a lent list. Nothing is asked of the caller.
+#![tactic(auto)]
+
 ghost use Rattle.std.specs.Prelude.{◌≡◌, true, cond, ℕ, suc, ◌+◌, ◌-◌, ◌*◌, ◌/◌, ◌≤◌, ◌<◌, eqb, length, replicate};
 ghost use Rattle.definition.specs.Types.{inst};
 ghost use Rattle.definition.specs.Entry.{insts_of, every, block_ok};

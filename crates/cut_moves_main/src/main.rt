@@ -1,5 +1,7 @@
 // Runs the exported function on what would move a cut, on the marked cases F and G, on ties and on each of its
 // refusals, and writes number, count and the list's words of each answer. A write that fails is said on standard error.
+#![tactic(auto)]
+
 ghost use Rattle.std.specs.Prelude.{◌+◌, ◌*◌, ◌/◌, ◌≤◌, length};
 
 use libc::STDOUT_FILENO;

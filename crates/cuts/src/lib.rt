@@ -1,5 +1,7 @@
 // What a cut at an instruction leaves of a segment's hint and flags on its two sides (hints.rs `hints_for_split`, uses.rs `split_at_inst`).
 // t has n hints, sorted, the first at word `at`.
+#![tactic(auto)]
+
 ghost use Rattle.std.specs.Prelude.{◌≡◌, true, ◌+◌, ◌*◌, ◌≤◌};
 ghost use Rattle.rows.specs.RowsAt.{rows_at};
 ghost use Rattle.words.specs.Words.{word_count, words_of};

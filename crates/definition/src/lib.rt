@@ -1,4 +1,5 @@
 // The types that code and definition share: indices, uses, the records of a job, refusals and stops.
+#![tactic(auto)]
 
 // One tuple struct for each kind of index, as the Rust's entity types.
 

@@ -1,4 +1,6 @@
 // The entry tests on a job of good shape, lowest number first, and the work slice of a job that passes them.
+#![tactic(auto)]
+
 ghost use Rattle.std.specs.Prelude.{◌≡◌, true, ◌≤◌};
 ghost use Rattle.words.specs.Words.{word_count, words_of};
 ghost use Rattle.definition.specs.Entry.{limits_ok};

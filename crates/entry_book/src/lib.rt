@@ -1,4 +1,6 @@
 // Entry tests 2 and 3 on a binary job: counts within their limits, and the register book.
+#![tactic(auto)]
+
 ghost use Rattle.std.specs.Prelude.{◌≡◌, ◌||◌, ◌+◌, ◌*◌, ◌%◌, ◌^◌, ◌≤◌, ◌<◌, ltb, eqb, get_or};
 ghost use Rattle.words.specs.Words.{word_count, words_of};
 ghost use Rattle.layout.specs.Layout.{Fits};

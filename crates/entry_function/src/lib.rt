@@ -1,4 +1,6 @@
 // Entry test 4: blocks, leaders, value groups and operands of a job. It leaves the index of the operands in the work slice.
+#![tactic(auto)]
+
 ghost use Rattle.std.specs.Prelude.{◌≡◌, true, ◌+◌, ◌*◌, ◌≤◌, ◌<◌, length};
 ghost use Rattle.words.specs.Words.{word_count, words_of};
 ghost use Rattle.definition.specs.Entry.{every, insts, leader_ok, vgroup_ok, operand_ok, function_ok};

@@ -1,4 +1,6 @@
 // Entry test 7, of one use's kind and fields. The words of its row are tested as they stand, since a field beyond its UseKind type is to be seen.
+#![tactic(auto)]
+
 ghost use Rattle.std.specs.Prelude.{◌≡◌, ◌+◌, ◌*◌, ◌≤◌, ◌<◌, get_or};
 ghost use Rattle.words.specs.Words.{word_count, words_of};
 ghost use Rattle.definition.specs.Types.{cls};

@@ -1,4 +1,6 @@
 // Entry test 7: the uses of each segment of a job.
+#![tactic(auto)]
+
 ghost use Rattle.std.specs.Prelude.{◌≡◌, true, ◌+◌, ◌*◌, ◌≤◌, ◌<◌};
 ghost use Rattle.rows.specs.RowsAt.{rows_at};
 ghost use Rattle.words.specs.Words.{word_count, words_of};

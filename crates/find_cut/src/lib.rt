@@ -1,4 +1,6 @@
 // The cut finder as an entry point on bytes and numbers: split_placement.rs's find_optimal_split_point over block rows. Nothing is asked of the caller.
+#![tactic(auto)]
+
 ghost use Rattle.std.specs.Prelude.{◌≡◌, true, ◌+◌, ◌*◌, ◌/◌, ◌≤◌, ◌<◌};
 ghost use Rattle.definition.specs.Entry.{insts_of, every, block_ok, side_of};
 ghost use Rattle.rows.specs.Parts.{splice};

@@ -1,4 +1,6 @@
 // Runs the exported cut finder on the marked cases F and G and on each of its refusals, and writes number and instruction of each answer. A write that fails is said on standard error.
+#![tactic(auto)]
+
 ghost use Rattle.std.specs.Prelude.{◌+◌, ◌≤◌, length};
 
 use libc::STDOUT_FILENO;

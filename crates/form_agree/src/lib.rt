@@ -1,1 +1,2 @@
 // A sheet of either form that was read: the laws are in specs.
+#![tactic(auto)]

@@ -1,5 +1,7 @@
 // Stored answers read from a stream, frame by frame, and the lines of the report on them.
 // A frame is a line of two numbers of eight digits, parted by a tab, then as many bytes of a sheet and of its answer.
+#![tactic(auto)]
+
 ghost use Rattle.std.specs.Prelude.{◌≡◌, false, ◌&&◌, ◌+◌, ◌≤◌, eqb, leb, length, get_or};
 ghost use Rattle.definition.specs.Text.{decimal};
 ghost use Rattle.lines.specs.Wrote.{Wrote};

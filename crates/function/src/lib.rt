@@ -1,4 +1,6 @@
 // function.rs: the questions about blocks, answered from a table of rows of two words: instruction count, frequency bits.
+#![tactic(auto)]
+
 ghost use Rattle.std.specs.Prelude.{◌≡◌, ◌+◌, ◌*◌, ◌≤◌, ◌<◌, get_or};
 ghost use Rattle.definition.specs.Entry.{insts_of, block_ok, every};
 ghost use Rattle.words.specs.Words.{word_count, words_of};

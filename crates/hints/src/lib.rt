@@ -1,4 +1,6 @@
 // Fixed register hints by their keys (hints.rs), in a table of rows of 3 words: value, instruction, 1 for incoming or 0 for outgoing.
+#![tactic(auto)]
+
 ghost use Rattle.std.specs.Prelude.{◌≡◌, true, ◌+◌, ◌*◌, ◌≤◌};
 ghost use Rattle.rows.specs.RowsAt.{rows_at};
 ghost use Rattle.words.specs.Words.{word_count, words_of};

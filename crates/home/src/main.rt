@@ -1,5 +1,7 @@
 // Moves every stored sheet on standard input to its other form and home again, and holds each refusal to the stored
 // answer. Writes how many sheets came home, are refused and differ. What fails is said on standard error.
+#![tactic(auto)]
+
 ghost use Rattle.std.specs.Prelude.{◌≡◌, ◌+◌, ◌^◌, ◌≤◌, ◌<◌, length};
 ghost use Rattle.lines.specs.Wrote.{Wrote};
 ghost use Rattle.home.specs.Tallies.{differs_line, tally_line, broken_line};

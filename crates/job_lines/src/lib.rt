@@ -1,4 +1,6 @@
 // A line of a job sheet, of either form, from a row of words, put into a lent buffer behind its first `at` bytes. Each function answers where its text ends.
+#![tactic(auto)]
+
 ghost use Rattle.std.specs.Prelude.{◌≡◌, ◌∷◌, ◌+◌, ◌*◌, ◌≤◌, length, take, drop};
 ghost use Rattle.words.specs.Words.{word_count, words_of};
 ghost use Rattle.definition.specs.SheetForms.{form_line};

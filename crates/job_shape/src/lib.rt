@@ -1,4 +1,6 @@
 // Entry test 1 on a binary job: the layout that its header gives, and whether the slice has that shape.
+#![tactic(auto)]
+
 ghost use Rattle.std.specs.Prelude.{◌≡◌, ◌+◌, ◌*◌, ◌≤◌, ◌<◌, eqb, get_or};
 ghost use Rattle.words.specs.Words.{word_count, words_of};
 ghost use Rattle.layout.specs.Layout.{Fits};

@@ -1,4 +1,6 @@
 // Where the tables of a job stand in its slice, and the records that the builder reads.
+#![tactic(auto)]
+
 ghost use Rattle.std.specs.Prelude.{◌≡◌, ℕ, ◌+◌, ◌*◌, ◌≤◌, ◌<◌, get_or};
 ghost use Rattle.words.specs.Words.{word_count, words_of};
 ghost use Rattle.layout.specs.Layout.{Fits, options_row, flags_of, seg_row, next_use};

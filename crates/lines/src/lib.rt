@@ -1,4 +1,6 @@
 // Text put into a lent buffer, behind the first `at` bytes of it. Each function answers where the text ends.
+#![tactic(auto)]
+
 ghost use Rattle.std.specs.Prelude.{◌≡◌, List, [], ◌∷◌, ◌++◌, ℕ, ◌+◌, ◌*◌, ◌≤◌, ◌<◌, length};
 ghost use Rattle.definition.specs.Text.{decimal, eight_digits};
 ghost use Rattle.lines.specs.Wrote.{Wrote, fields_text, index_text, index_fields};

@@ -1,4 +1,6 @@
 // How many instructions the pieces of a register touch (live_range.rs, `live_insts`), read off rows of 7 words: value, from, to, flags, origin, first use, use count.
+#![tactic(auto)]
+
 ghost use Rattle.std.specs.Prelude.{◌≡◌, ◌+◌, ◌-◌, ◌*◌, ◌≤◌, ◌<◌};
 ghost use Rattle.rows.specs.RowsAt.{rows_at};
 ghost use Rattle.words.specs.Words.{word_count, words_of};

@@ -1,4 +1,6 @@
 // Points of a live range: 4 * instruction + slot (live_range.rs).
+#![tactic(auto)]
+
 ghost use Rattle.std.specs.Prelude.{◌≡◌, ◌+◌, ◌*◌, ◌≤◌, ◌<◌};
 ghost use Rattle.definition.specs.declared.Slot.TheVariants.{Boundary};
 ghost use Rattle.definition.specs.Types.{inst, point};

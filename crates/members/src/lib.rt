@@ -1,4 +1,6 @@
 // builder.rs: the members of a register group, a class narrowed by theirs, and the register at a place of a mapped group.
+#![tactic(auto)]
+
 ghost use Rattle.std.specs.Prelude.{◌≡◌, ◌≤◌, ◌<◌, length, get_or};
 ghost use Rattle.std.proofs.Math.Option.{Option, none, some, bind};
 ghost use Rattle.words.specs.Words.{word_count, words_of};

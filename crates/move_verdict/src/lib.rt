@@ -1,4 +1,6 @@
 // The verdict on a job sheet that was read and is to be moved to a form: 1 where it has that form already, else the number of its tests, or none.
+#![tactic(auto)]
+
 ghost use Rattle.std.specs.Prelude.{◌≡◌, ◌≤◌};
 ghost use Rattle.words.specs.Words.{word_count, words_of};
 ghost use Rattle.work_layout.specs.Regions.{max_work};

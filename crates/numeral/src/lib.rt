@@ -1,4 +1,6 @@
 // Fields of a sheet read byte by byte: a number, a mask, a word.
+#![tactic(auto)]
+
 ghost use Rattle.std.specs.Prelude.{◌≡◌, ℕ, ◌+◌, ◌-◌, ◌*◌, ◌≤◌, ◌<◌};
 ghost use Rattle.definition.specs.Text.{digit_of};
 ghost use Rattle.numeral.specs.Bytes.{number_byte, mask_byte, word_byte, take_byte, closed_of};

@@ -1,5 +1,7 @@
 // function.rs's inst_operands, HashMap's keys: the operand at an instruction and slot, found through an index by instruction.
 // An operand row has four words: instruction, slot, value group, class.
+#![tactic(auto)]
+
 ghost use Rattle.std.specs.Prelude.{◌≡◌, ℕ, ◌+◌, ◌*◌, ◌≤◌, ◌<◌, replicate};
 ghost use Rattle.rows.specs.Parts.{splice};
 ghost use Rattle.words.specs.Words.{word_count, words_of};

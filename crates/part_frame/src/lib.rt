@@ -1,4 +1,6 @@
 // The layouts of a build as one table of numbers, lent from level to level of the recursion, so that its frames are small.
+#![tactic(auto)]
+
 ghost use Rattle.std.specs.Prelude.{◌≡◌, ◌+◌, ◌≤◌, ◌<◌, length};
 ghost use Rattle.part_frame.specs.Frame.{table_in, layout_in, out_in, work_in, framed};
 

@@ -1,4 +1,6 @@
 // The group operands of a part's uses mapped to a new group, in the work slice's table of mappings.
+#![tactic(auto)]
+
 ghost use Rattle.std.specs.Prelude.{◌≡◌, ◌+◌, ◌<◌};
 ghost use Rattle.std.proofs.Math.Option.{some};
 ghost use Rattle.words.specs.Words.{word_count, words_of};

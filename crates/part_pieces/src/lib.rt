@@ -1,4 +1,6 @@
 // The pieces of a working part, written into the result tables: first its uses, marked ones as conflicts, then a row for each segment.
+#![tactic(auto)]
+
 ghost use Rattle.std.specs.Prelude.{◌≡◌, List, [], ℕ, ◌+◌, ◌-◌, ◌≤◌, ◌<◌};
 ghost use Rattle.rows.specs.Tab.{tab};
 ghost use Rattle.words.specs.Words.{word_count, words_of};
@@ -84,7 +86,7 @@ fn write_rows(
     u: usize,
 )
     requires fits { Fits (word_count job.now) lay × PartOk (words_of job.now) lay sp × (tables_end ol ≤ word_count out.old) }
-    requires seg_bound { (p + (sp.last + 1 - sp.seg) ≤ ol.segs) × (u + (sp.end - sp.first) < 4294967296) }
+    requires room { (p + (sp.last + 1 - sp.seg) ≤ ol.segs) × (u + (sp.end - sp.first) < 4294967296) }
     ensures { (O K : List ℕ) (marks : ℕ) (us : List Use) → Written ol O p u [] us (words_of out.old) → Written ol O p u (as_own (part_segs K marks (words_of job.now) lay sp)) us (words_of out.new) }
 {
     let first = sp.first;
@@ -113,7 +115,7 @@ pub fn write_part(
     u: usize,
 )
     requires fits { Fits (word_count job.now) lay × PartOk (words_of job.now) lay sp × (marks + lay.uses.n ≤ word_count work.now) × (tables_end ol ≤ word_count out.old) }
-    requires seg_bound { (p + (sp.last + 1 - sp.seg) ≤ ol.segs) × (u + (sp.end - sp.first) ≤ ol.uses) × (u + (sp.end - sp.first) < 4294967296) }
+    requires room { (p + (sp.last + 1 - sp.seg) ≤ ol.segs) × (u + (sp.end - sp.first) ≤ ol.uses) × (u + (sp.end - sp.first) < 4294967296) }
     ensures { Written ol (words_of out.old) p u (as_own (part_segs (words_of work.now) marks (words_of job.now) lay sp)) (uses_of (part_segs (words_of work.now) marks (words_of job.now) lay sp)) (words_of out.new) }
 {
     let a = sp.first;

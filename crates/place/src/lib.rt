@@ -1,4 +1,6 @@
 // builder.rs: a register whose pieces and uses stand in the result tables is placed: in no group, in a new group, in a group's empty place, or merged into a member.
+#![tactic(auto)]
+
 ghost use Rattle.std.specs.Prelude.{◌≡◌, List, ℕ, ◌+◌, ◌*◌, ◌^◌, ◌≤◌, ◌<◌, length, get_or};
 ghost use Rattle.rows.specs.Parts.{splice};
 ghost use Rattle.words.specs.Words.{word_count, words_of};
@@ -175,7 +177,7 @@ pub fn finish_merge(
     nu: usize,
 ) -> Counts
     requires weighable { Weighable job.now lay work.now starts × (tables_end ol ≤ word_count out.old) × Spreadable ol g (words_of out.old) × (v.0 < ol.regs) × (c.segs + np < 2 ^ 32) × (c.uses + nu < 2 ^ 32) }
-    requires v_bound { get_or (words_of out.old) (v.0 * 8 + 6) 0 + get_or (words_of out.old) (v.0 * 8 + 7) 0 ≤ ol.segs }
+    requires pieces_room { get_or (words_of out.old) (v.0 * 8 + 6) 0 + get_or (words_of out.old) (v.0 * 8 + 7) 0 ≤ ol.segs }
     ensures { (result ≡ pieces_more c np nu) × ((st : State) (new : List Piece) (h : Held) (hg : HeldGroup) → Filled (job_in job.now lay) ol c np nu v st new (words_of out.old) → h.class ≡ class
         → hg.index ≡ index → g.0 < length st.groups
         → Left ol (words_of out.new) result (merge_state (job_in job.now lay) h hg g v new st)) }

@@ -1,4 +1,6 @@
 // builder.rs: the register of a conflict piece is placed: in no group, in a new group, in a group's empty place, or merged into a member.
+#![tactic(auto)]
+
 ghost use Rattle.std.specs.Prelude.{◌≡◌, ◌+◌, ◌-◌, ◌*◌, ◌^◌, ◌≤◌, ◌<◌, length};
 ghost use Rattle.words.specs.Words.{word_count, words_of};
 ghost use Rattle.definition.specs.Types.{State};

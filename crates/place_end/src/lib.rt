@@ -1,4 +1,6 @@
 // How placing a register ends.
+#![tactic(auto)]
+
 use definition::Stop;
 use virt_regs::Counts;
 

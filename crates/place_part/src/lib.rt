@@ -1,4 +1,6 @@
 // builder.rs: a working part placed as a register: in no group, in a new group, in a group's empty place, or merged into a member.
+#![tactic(auto)]
+
 ghost use Rattle.std.specs.Prelude.{◌≡◌, true, ◌<◌};
 ghost use Rattle.std.proofs.Math.Option.{some};
 ghost use Rattle.words.specs.Words.{word_count, words_of};

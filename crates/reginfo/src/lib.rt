@@ -1,5 +1,7 @@
 // reginfo.rs: the records of the register book, and the lowest class that two classes have in common.
 // A class row has four words: subclass mask, cost, group size, spillslots. A bank row has one, the top class; a reg row one, memory.
+#![tactic(auto)]
+
 ghost use Rattle.std.specs.Prelude.{◌≡◌, ℕ, ◌+◌, ◌*◌, ◌≤◌, ◌<◌, get_or};
 ghost use Rattle.std.specs.Int.Bits.{bit_and};
 ghost use Rattle.words.specs.Words.{word_count, words_of};

@@ -1,4 +1,6 @@
 // The lines of a register sheet, put into a lent buffer behind its first `at` bytes. Each function answers where the line ends.
+#![tactic(auto)]
+
 ghost use Rattle.std.specs.Prelude.{◌≡◌, List, [], ◌∷◌, ◌++◌, ℕ, ◌+◌, ◌*◌, ◌≤◌, ◌<◌, length, get_or};
 ghost use Rattle.lines.specs.Wrote.{Wrote};
 ghost use Rattle.register_sheet.specs.Typed.{flag_number, use_length, use_numbers_line, vreg_head, vreg_tail, origin_end, vreg_line, seg_line, use_line, group_line, end_line, refused_line};

@@ -1,4 +1,6 @@
 // Replays the stored answers on standard input: answers each sheet anew and compares, byte for byte. What fails is said on standard error.
+#![tactic(auto)]
+
 ghost use Rattle.std.specs.Prelude.{◌≡◌, ◌≤◌, length};
 ghost use Rattle.words.specs.Words.{word_count};
 ghost use Rattle.work_layout.specs.Regions.{max_work};

@@ -1,4 +1,6 @@
 // All that `replay` does between its first read and its last write, over streams: each frame of stored answers is read, its sheet answered anew and compared with its answer, byte for byte.
+#![tactic(auto)]
+
 ghost use Rattle.std.specs.Prelude.{◌≡◌, ◌≤◌, length};
 ghost use Rattle.words.specs.Words.{word_count};
 ghost use Rattle.work_layout.specs.Regions.{max_work};

@@ -1,1 +1,2 @@
 // Lemmas on rows of words in flat tables; no code.
+#![tactic(auto)]

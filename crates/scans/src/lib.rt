@@ -1,4 +1,6 @@
 // builder.rs: the scans over uses, and the step that they lead to.
+#![tactic(auto)]
+
 ghost use Rattle.std.specs.Prelude.{◌≡◌, false, List, ℕ, ◌+◌, ◌-◌, ◌*◌, ◌≤◌, ◌<◌, length};
 ghost use Rattle.std.specs.Float.{binary32};
 ghost use Rattle.std.specs.Float.Ieee.{of_bits};
@@ -104,7 +106,7 @@ pub fn scan_uses(
     b: usize,
 ) -> ScanAnswer
     requires { Ready (word_count job.now) (word_count work.now) (words_of job.now) (words_of work.now) lay wl × (tables_end ol ≤ word_count out.now) × (a ≤ b) × (b ≤ lay.uses.n) × (0 < lay.segments.n) }
-    ensures a_le_at { (a ≤ result.at) × (result.ok ≡ false → result.at < b) }
+    ensures within { (a ≤ result.at) × (result.ok ≡ false → result.at < b) }
     ensures ends { (st : State)
         → Stands ol (words_of out.now) (words_of job.now) (words_of work.now) lay wl st
         → Ends (job_of (words_of job.now) lay) st
@@ -145,7 +147,7 @@ pub fn scan_back(
     e: usize,
 ) -> ScanAnswer
     requires { Ready (word_count job.now) (word_count work.now) (words_of job.now) (words_of work.now) lay wl × (tables_end ol ≤ word_count out.now) × (a ≤ e) × (e < lay.uses.n) × (0 < lay.segments.n) }
-    ensures a_le_at { (a ≤ result.at) × (result.ok ≡ false → result.at ≤ e) }
+    ensures within { (a ≤ result.at) × (result.ok ≡ false → result.at ≤ e) }
     ensures ends { (st : State)
         → Stands ol (words_of out.now) (words_of job.now) (words_of work.now) lay wl st
         → Ends (job_of (words_of job.now) lay) st

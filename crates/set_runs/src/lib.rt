@@ -1,4 +1,6 @@
 // mod.rs build_initial_vregs: the set and the top class of a job's segment, and where the segments of one set end.
+#![tactic(auto)]
+
 ghost use Rattle.std.specs.Prelude.{◌≡◌, ◌∷◌, ◌≤◌, ◌<◌, get_or};
 ghost use Rattle.words.specs.Words.{word_count, words_of};
 ghost use Rattle.definition.specs.Types.{cls};

@@ -1,4 +1,6 @@
 // The reader of job sheets within a line: bytes, the end of a field, the end of a record. The state goes from call to call by value; the rows go into one lent table.
+#![tactic(auto)]
+
 ghost use Rattle.std.specs.Prelude.{◌≡◌, ℕ, ◌+◌, ◌-◌, ◌*◌, ◌≤◌, ◌<◌};
 ghost use Rattle.words.specs.Words.{words_of};
 ghost use Rattle.sheet_fields.specs.Fields.{fed, begin_of, byte_of, start_of, next_of, end_field, close_record};

@@ -3,6 +3,8 @@
 // reader of the first form, which is fed the rest; the written fields go into a lent table of their own, 512 words for
 // first instructions and
 // 1,024 for sets.
+#![tactic(auto)]
+
 ghost use Rattle.std.specs.Prelude.{◌≡◌, get_or};
 ghost use Rattle.words.specs.Words.{word_count, words_of};
 ghost use Rattle.definition.specs.SheetForms.{form_line};

@@ -1,4 +1,6 @@
 // A job sheet in memory moved to the other form as `to_form2` and `to_form1` answer it, and home again.
+#![tactic(auto)]
+
 ghost use Rattle.std.specs.Prelude.{◌≡◌, true, ◌≤◌, length};
 ghost use Rattle.words.specs.Words.{word_count};
 ghost use Rattle.definition.specs.Conversion.{move_to, moved_text};

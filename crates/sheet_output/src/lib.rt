@@ -1,4 +1,6 @@
 // The register sheet of the result tables, page by page through a lent buffer: a cursor has how many lines of each kind are printed.
+#![tactic(auto)]
+
 ghost use Rattle.std.specs.Prelude.{◌≡◌, false, ◌+◌, ◌*◌, ◌^◌, ◌≤◌, ◌<◌, length, get_or, take};
 ghost use Rattle.words.specs.Words.{word_count, words_of};
 ghost use Rattle.virt_regs.specs.Encoding.{use_base, group_base, tables_end};

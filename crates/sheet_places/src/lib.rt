@@ -1,5 +1,7 @@
 // Where the reader stores the records of a job sheet: words 0 to 9 hold the counts, 10 to 13 the options, and each table stands at its own place with room for its limit.
 // 4294967295 is nowhere: no table of words has that place.
+#![tactic(auto)]
+
 ghost use Rattle.std.specs.Prelude.{◌≡◌, ℕ, ◌+◌, ◌-◌, ◌*◌, ◌≤◌, ◌<◌};
 ghost use Rattle.sheet_places.specs.Places.{limit_of, base_of, width_of, stored_of, count_at, row_at, place_of, tail_at, tail_of, up_of};
 

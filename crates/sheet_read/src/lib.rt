@@ -1,4 +1,6 @@
 // The reader of a whole job sheet of either form in memory. The sheet is left as it was; both tables are zeros where it is refused.
+#![tactic(auto)]
+
 ghost use Rattle.std.specs.Prelude.{◌≡◌};
 ghost use Rattle.words.specs.Words.{word_count};
 ghost use Rattle.sheet_places.specs.Places.{table_words};
@@ -9,8 +11,8 @@ use sheet::Answer;
 // A refusal: its number, and tables of zeros.
 fn refuse(number: u32, table: &mut [u8], written: &mut [u8]) -> u32
     ensures value { result ≡ number }
-    ensures cleared { Cleared table.old table.new }
-    ensures cleared_2 { Cleared written.old written.new }
+    ensures table_cleared { Cleared table.old table.new }
+    ensures written_cleared { Cleared written.old written.new }
 {
     spans::clear(table);
     spans::clear(written);

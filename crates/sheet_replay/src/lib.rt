@@ -1,4 +1,6 @@
 // A stored answer held to the answer to its sheet, byte for byte.
+#![tactic(auto)]
+
 ghost use Rattle.std.specs.Prelude.{◌≡◌, ◌≤◌, length, take, drop};
 ghost use Rattle.words.specs.Words.{word_count};
 ghost use Rattle.definition.specs.Text.{same};

@@ -1,5 +1,7 @@
 // The rules of the job sheet's records as tables of numbers: the forms of their fields, their words, their order.
 // A record is named by its place in that order: opt 0, bank 1, class 2, reg 3, block 4, value 5, vgroup 6, operand 7, hint 8, seg 9, use 10, end 11.
+#![tactic(auto)]
+
 ghost use Rattle.std.specs.Prelude.{◌≡◌, ℕ, ◌+◌, ◌-◌, ◌*◌, ◌≤◌, ◌<◌};
 ghost use Rattle.sheet_rules.specs.Rules.{form_row, code_at, form_of, form_at, more_after, key_of, follows_of, low_of, kind_after};
 

@@ -1,5 +1,7 @@
 // Runs every sample of the document SHEETS.md: a block marked `job` is read, answered and printed, and held byte for byte to the block
 // marked `registers` behind it. Writes how many samples agree and differ, and how many such blocks have no partner. What fails is said on standard error.
+#![tactic(auto)]
+
 mod document;
 
 ghost use Rattle.std.specs.Prelude.{◌≡◌, ◌+◌, ◌^◌, ◌≤◌, ◌<◌, length};

@@ -1,4 +1,6 @@
 // The verdict on a job sheet of either form that was read: the number of tests 1 to 7 and 10, or none, and what a build needs of a sheet that passes.
+#![tactic(auto)]
+
 ghost use Rattle.std.specs.Prelude.{◌≡◌, ◌≤◌};
 ghost use Rattle.words.specs.Words.{word_count, words_of};
 ghost use Rattle.job_shape.specs.Shape.{Shaped};

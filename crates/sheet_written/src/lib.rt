@@ -1,5 +1,7 @@
 // Refusal 10: whether the first instructions and the sets written in a sheet of the second form are those of its job.
 // They are the words of a lent table: word i is the first instruction of block i, word 512 + j the set of segment j.
+#![tactic(auto)]
+
 ghost use Rattle.std.specs.Prelude.{◌≡◌, take, drop};
 ghost use Rattle.words.specs.Words.{word_count, words_of};
 ghost use Rattle.definition.specs.Text.{same};

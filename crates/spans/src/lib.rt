@@ -1,4 +1,6 @@
 // Runs of words in lent byte slices: clearing, copying, inserting. An index counts words.
+#![tactic(auto)]
+
 ghost use Rattle.std.specs.Prelude.{◌≡◌, ◌++◌, ◌+◌, ◌≤◌, length, take, drop, replicate};
 ghost use Rattle.std.proofs.Math.Seq.{slice};
 ghost use Rattle.rows.specs.Parts.{splice};
@@ -9,8 +11,8 @@ use words::{put_word, word_at};
 
 // Zeros everywhere, in the bytes behind the last word too.
 pub fn clear(s: &mut [u8])
-    ensures s_after { s.new ≡ replicate (length s.old) 0 }
-    ensures s_after_2 { words_of s.new ≡ replicate (word_count s.old) 0 }
+    ensures zeroed { s.new ≡ replicate (length s.old) 0 }
+    ensures zero_words { words_of s.new ≡ replicate (word_count s.old) 0 }
 {
     let mut i: usize = 0;
     while i < s.len() {

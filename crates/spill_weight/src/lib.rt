@@ -1,4 +1,6 @@
 // The cost of a use and the spill weight of a register, in f32.
+#![tactic(auto)]
+
 ghost use Rattle.std.specs.Prelude.{◌≡◌, ◌≤◌, T};
 ghost use Rattle.definition.specs.Entry.{plain, small};
 ghost use Rattle.definition.specs.Weights.{scaled, add_cost, normalized};

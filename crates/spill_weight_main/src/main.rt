@@ -1,4 +1,6 @@
 // Weights of single uses and of a hundred, their costs and patterns, each held to bits that were computed elsewhere.
+#![tactic(auto)]
+
 ghost use Rattle.std.specs.Prelude.{◌≡◌, ◌≤◌, ◌<◌, T};
 ghost use Rattle.definition.specs.RegInfo.{zero_f};
 ghost use Rattle.floats.specs.Nonneg.{nonneg};

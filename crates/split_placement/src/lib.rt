@@ -1,5 +1,7 @@
 // split_placement.rs: the place of a cut between two instructions, by block frequency, over the table of block starts.
 // Frequencies are compared by their bits: all are finite and not negative. The cost grows with the blocks between the ends.
+#![tactic(auto)]
+
 ghost use Rattle.std.specs.Prelude.{◌≡◌, cond, List, ◌+◌, ◌-◌, ◌*◌, ◌≤◌, ◌<◌, ltb, length};
 ghost use Rattle.definition.specs.declared.BlockData.{BlockData};
 ghost use Rattle.definition.specs.Entry.{insts_of};

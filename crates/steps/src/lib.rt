@@ -1,4 +1,6 @@
 // The steps over the working part of a set (builder.rs `compute_constraints`).
+#![tactic(auto)]
+
 ghost use Rattle.std.specs.Prelude.{◌≡◌, true, cond, ◌+◌, ◌-◌, ◌*◌, ◌≤◌, ◌<◌};
 ghost use Rattle.rows.specs.Parts.{splice};
 ghost use Rattle.rows.specs.RowsAt.{rows_at};
@@ -108,8 +110,8 @@ pub fn cut_front(
 ) -> Front
     requires { Ready (word_count job.now) (word_count work.now) (words_of job.now) (words_of work.now) lay wl × (tables_end ol ≤ word_count out.now) × PartOk (words_of job.now) lay sp
         × (sp.«from».0 < 4 * p.0) × (4 * p.0 < sp.to.0) × (chained not_after (rows_at hint_at (words_of job.now) lay.hints.at 3 lay.hints.n) ≡ true) }
-    ensures left_value { (result.left ≡ (cut_part (job_of (words_of job.now) lay).hints (words_of job.now) lay p sp).left) × (result.right ≡ (cut_part (job_of (words_of job.now) lay).hints (words_of job.now) lay p sp).right) }
-    ensures top_value { (st : State) → Stands ol (words_of out.now) (words_of job.now) (words_of work.now) lay wl st
+    ensures parts { (result.left ≡ (cut_part (job_of (words_of job.now) lay).hints (words_of job.now) lay p sp).left) × (result.right ≡ (cut_part (job_of (words_of job.now) lay).hints (words_of job.now) lay p sp).right) }
+    ensures top_held { (st : State) → Stands ol (words_of out.now) (words_of job.now) (words_of work.now) lay wl st
         → SegsFit 0 (part_segs (words_of work.now) wl.marks (words_of job.now) lay sp)
         → move (job_of (words_of job.now) lay) st top (uses_of (part_segs (words_of work.now) wl.marks (words_of job.now) lay sp)) ≡ cut p
         → scan (job_of (words_of job.now) lay) st (uses_of (left_cut (job_of (words_of job.now) lay).hints p (part_segs (words_of work.now) wl.marks (words_of job.now) lay sp))) (fresh top) ≡ through (held_of result.held) }

@@ -1,4 +1,6 @@
 // Turned uses of a working part (builder.rs): the marks, a use under its mark, and what is kept of a use that is turned.
+#![tactic(auto)]
+
 ghost use Rattle.std.specs.Prelude.{◌≡◌, ◌+◌, ◌≤◌, ◌<◌, set};
 ghost use Rattle.words.specs.Words.{word_count, words_of};
 ghost use Rattle.definition.specs.Uses.{param_of};

@@ -1,4 +1,6 @@
 // uses.rs: a use list shows its part of the job's uses or of the added ones; where it is split.
+#![tactic(auto)]
+
 ghost use Rattle.std.specs.Prelude.{◌≡◌, ℕ, ◌+◌, ◌*◌, ◌≤◌, ◌<◌};
 ghost use Rattle.use_lists.specs.Lists.{Within, part_of, left_list, right_list};
 

@@ -1,4 +1,6 @@
 // virt_regs/mod.rs: the result tables in one lent slice. Registers (8 words), segments (7), uses (6) and groups (9) follow each other; an OutLayout has how many rows each can hold.
+#![tactic(auto)]
+
 ghost use Rattle.std.specs.Prelude.{◌≡◌, ◌+◌, ◌*◌, ◌≤◌, ◌<◌, get_or};
 ghost use Rattle.words.specs.Words.{word_count, words_of};
 ghost use Rattle.definition.specs.Types.{cls};
@@ -135,8 +137,8 @@ pub fn piece_at(out: &[u8], ol: OutLayout, i: usize) -> PieceRow
 
 // The rows of register v's pieces, as that part of the slice.
 pub fn segments(out: &[u8], ol: OutLayout, v: VirtReg) -> &[u8]
-    requires ol_bound { (tables_end ol ≤ word_count out.now) × (v.0 < ol.regs) }
-    requires v_bound { get_or (words_of out.now) (v.0 * 8 + 6) 0 + get_or (words_of out.now) (v.0 * 8 + 7) 0 ≤ ol.segs }
+    requires room { (tables_end ol ≤ word_count out.now) × (v.0 < ol.regs) }
+    requires pieces_room { get_or (words_of out.now) (v.0 * 8 + 6) 0 + get_or (words_of out.now) (v.0 * 8 + 7) 0 ≤ ol.segs }
     ensures { words_of result.now ≡ segments_in ol (words_of out.now) v }
 {
     let s = pieces_of(out, v);

@@ -1,4 +1,6 @@
 // Changes of rows in the result tables: class and weight of the members of a group, the places of a group, a new group.
+#![tactic(auto)]
+
 ghost use Rattle.std.specs.Prelude.{◌≡◌, ◌+◌, ◌*◌, ◌^◌, ◌≤◌, ◌<◌, set};
 ghost use Rattle.words.specs.Words.{word_count, words_of};
 ghost use Rattle.virt_regs.specs.Encoding.{group_base, tables_end};

@@ -1,4 +1,6 @@
 // The place for pieces that are merged into a register of the result tables.
+#![tactic(auto)]
+
 ghost use Rattle.std.specs.Prelude.{◌≡◌, ◌&&◌, List, ◌+◌, ◌*◌, ◌≤◌, ◌<◌, ltb, length, get_or, drop};
 ghost use Rattle.words.specs.Words.{word_count, words_of};
 ghost use Rattle.definition.specs.Types.{Piece, State};
@@ -76,8 +78,8 @@ pub fn find_place(
     a: LiveRangePoint,
     b: LiveRangePoint,
 ) -> Place
-    requires ol_bound { (tables_end ol ≤ word_count out.now) × (v.0 < ol.regs) }
-    requires v_bound { get_or (words_of out.now) (v.0 * 8 + 6) 0 + get_or (words_of out.now) (v.0 * 8 + 7) 0 ≤ ol.segs }
+    requires room { (tables_end ol ≤ word_count out.now) × (v.0 < ol.regs) }
+    requires pieces_room { get_or (words_of out.now) (v.0 * 8 + 6) 0 + get_or (words_of out.now) (v.0 * 8 + 7) 0 ≤ ol.segs }
     ensures { (st : State) → Holds ol (words_of out.now) st → v.0 < length st.registers → result ≡ place_of a b (register_at st v).pieces }
 {
     let s = pieces_of(out, v);

@@ -1,4 +1,6 @@
 // Gaps opened in the result tables for pieces that are merged into a register. The caller then writes their rows and those of their uses.
+#![tactic(auto)]
+
 ghost use Rattle.std.specs.Prelude.{◌≡◌, ℕ, ◌+◌, ◌-◌, ◌*◌, ◌^◌, ◌≤◌, ◌<◌, length, get_or};
 ghost use Rattle.words.specs.Words.{word_count, words_of};
 ghost use Rattle.definition.specs.Types.{State};
@@ -23,8 +25,8 @@ pub struct Gaps {
 
 // Adds m to word `at` and to each s words behind it, n of them.
 fn raise(out: &mut [u8], at: usize, s: usize, n: usize, m: u32)
-    requires s_bound { (at + n * s < word_count out.old + s) × (0 < s) × (s ≤ 16) }
-    requires by_index { (k : ℕ) → k < n → get_or (words_of out.old) (at + k * s) 0 + m < 2 ^ 32 }
+    requires in_table { (at + n * s < word_count out.old + s) × (0 < s) × (s ≤ 16) }
+    requires no_overflow { (k : ℕ) → k < n → get_or (words_of out.old) (at + k * s) 0 + m < 2 ^ 32 }
     ensures { words_of out.new ≡ raised m s (words_of out.old) at n }
 {
     let mut j = at;

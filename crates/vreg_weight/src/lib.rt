@@ -1,5 +1,7 @@
 // The spill weight of pieces that stand in the result tables, and the least of a group's weights.
 // Words of the result tables that a piece or a place can't hold are tested for; such a piece or place adds nothing.
+#![tactic(auto)]
+
 ghost use Rattle.std.specs.Prelude.{◌≡◌, List, ℕ, ◌+◌, ◌*◌, ◌≤◌, ◌<◌, T, length, get_or, Float};
 ghost use Rattle.std.proofs.Math.Option.{none};
 ghost use Rattle.std.specs.Float.{binary32};

@@ -1,4 +1,6 @@
 // The answer to a job sheet that was read: the refusal that its verdict is, or the build of its table.
+#![tactic(auto)]
+
 ghost use Rattle.std.specs.Prelude.{◌≡◌, ◌≤◌, length};
 ghost use Rattle.words.specs.Words.{word_count, words_of};
 ghost use Rattle.work_layout.specs.Regions.{max_work};

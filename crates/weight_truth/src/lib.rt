@@ -1,1 +1,2 @@
 // How true the weights are (change request 13): definitions and laws; no code.
+#![tactic(auto)]

@@ -1,4 +1,6 @@
 // The byte order: words read, and the bytes of a word stored.
+#![tactic(auto)]
+
 ghost use Rattle.std.specs.Prelude.{◌≡◌, true, [], ◌∷◌, length};
 ghost use Rattle.words.specs.Words.{words_of};
 
