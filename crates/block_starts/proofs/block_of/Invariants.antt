@@ -1,0 +1,11 @@
+use Prim.Native.Nat.{◌-◌}
+use Rattle.words.specs.Words.{words_of}
+use Rattle.block_starts.proofs.Loops.{Between}
+use Rattle.block_starts.proofs.block_of.Given as goal
+
+
+abbrev pub invariant-loop-high : goal.invariant-loop-high
+invariant-loop-high l = Between (words_of l.starts) l.at l.n l.inst.0 l.low l.high
+
+abbrev pub decreases-loop-high : goal.decreases-loop-high
+decreases-loop-high l = l.high - l.low

@@ -1,0 +1,18 @@
+use Rattle.build_part.proofs.Cuts.{front_asked, place_asked}
+use Rattle.build_part.proofs.Ways.{step_cuts}
+use Rattle.build_part.proofs.step_cut.Goals as goal
+
+
+pub cut_front-f-requires : goal.cut_front-f-requires
+cut_front-f-requires c = let g = c.requires.0 in
+    front_asked g.laid g.state _ _ (c.requires.1 g.state g.stands.stands) _ _ g.builds
+
+pub place_part-r-requires : goal.place_part-r-requires
+place_part-r-requires c = let g = c.requires.0 in
+    let f = c.cut_front-f.ensures in
+    let m = c.requires.1 g.state g.stands.stands in
+    place_asked g.laid g.state _ _ m g.builds g.stands _ (f.1 g.state g.stands.stands g.laid.fair.fit m) _ f.0.0
+
+pub returns : goal.returns
+returns c = let f = c.cut_front-f.ensures in
+    step_cuts c.requires.0 _ _ _ c.requires.1 _ _ _ f.0.0 f.0.1 f.1 _ _ _ c.place_part-r.ensures _ c.is_done-go.ensures

@@ -1,0 +1,12 @@
+use mathlib.Core.Path.{◌≡◌}
+use lib.ListN.{length}
+use Rattle.job_pages.specs.Cursors.{steps_left}
+use Rattle.convert_run.proofs.Pages.{Showing}
+use Rattle.convert_run.proofs.print.Given as goal
+
+
+abbrev pub invariant-loop-cur : goal.invariant-loop-cur
+invariant-loop-cur l = (length l.paper ≡ length l.initial.paper) × (length l.buf ≡ length l.initial.buf) × Showing l.second l.table l.initial.paper l.initial.at l.at l.cur l.paper
+
+abbrev pub decreases-loop-cur : goal.decreases-loop-cur
+decreases-loop-cur l = steps_left l.cur

@@ -1,0 +1,29 @@
+use native.Mathlib.Omega.{arith}
+use Rattle.words.specs.Laws.{length_words}
+use Rattle.entry.proofs.Preparing.{prepared_is}
+use Rattle.entry.proofs.prepare.Goals as goal
+
+
+pub clear_words-requires : goal.clear_words-requires
+clear_words-requires c = let p = c.requires in
+    let r = p.0.regions in
+    omega (arith, p.1, r.mapping, r.starts, r.marks, r.turned)
+
+pub overflow_cast-blocks : goal.overflow_cast-blocks
+overflow_cast-blocks c = let p = c.requires in
+    record { fits = omega (arith, p.0.limited.blocks) }
+
+pub put_starts-requires : goal.put_starts-requires
+put_starts-requires c = let p = c.requires in
+    let r = p.0.regions in
+    let k = c.clear_words.auto.work in
+    (p.0.shaped.fits.blocks, omega (arith, p.1, k, r.starts, r.marks, r.turned), omega (arith, p.0.limited.insts))
+
+pub clear_words-requires-2 : goal.clear_words-requires-2
+clear_words-requires-2 c = let p = c.requires in
+    let r = p.0.regions in
+    omega (arith, p.1, c.put_starts.auto.1, c.clear_words.auto.work, r.starts, r.marks, r.turned)
+
+pub returns : goal.returns
+returns c = prepared_is c.requires.0 (omega (arith, c.requires.1, length_words c.args.work.now)) c.clear_words.ensures c.put_starts.ensures c.clear_words-2.ensures
+    (λ i. omega (arith, c.shared_slice_known-1.given i))

@@ -1,0 +1,13 @@
+use mathlib.Core.Path.{refl}
+use native.Mathlib.Omega.{arith}
+use Rattle.lines.specs.Laws.{then, as_text}
+use Rattle.job_lines.specs.Rows.{line_text}
+use Rattle.job_lines.proofs.put_record.Goals as goal
+
+
+pub returns : goal.returns
+unfolding line_text
+returns c = as_text 248 _
+    (then c.put_word-w.ensures
+    (then c.put_row-end.ensures c.put_tail.ensures))
+    (omega arith) refl

@@ -1,0 +1,50 @@
+use native.Mathlib.Omega.{arith}
+use Rattle.job_pages.specs.Lines.{line_step}
+use Rattle.job_pages.proofs.Asked.{shown_few, row_word, ready_at, fields_in, fields_few}
+use Rattle.job_pages.proofs.next_line.Goals as goal
+
+
+pub overflow_cast-shown : goal.overflow_cast-shown
+overflow_cast-shown c = let p = c.requires in
+    omega (arith, shown_few p.0 p.1 p.2, c.shown.ensures)
+
+pub behind-c-requires : goal.behind-c-requires
+behind-c-requires c = let p = c.requires in
+    let r = ready_at p.0 p.1 p.2 c.shown.ensures c.row_at-w.ensures in (
+      r.key,
+      omega (arith, r.rows),
+      omega (arith, r.segs),
+      omega (arith, r.uses),
+      λ q. (omega (arith, (r.block q).0, p.0.long), omega (arith, (r.block q).1)),
+    )
+
+pub fields-n-requires : goal.fields-n-requires
+fields-n-requires c = let p = c.requires in
+    let r = ready_at p.0 p.1 p.2 c.shown.ensures c.row_at-w.ensures in
+    (λ q. omega (arith, r.group q, p.0.long), λ q. (omega (arith, (r.kind q).0, p.0.long), (r.kind q).1))
+
+pub first_field-a-requires : goal.first_field-a-requires
+first_field-a-requires c = let p = c.requires in
+    let r = ready_at p.0 p.1 p.2 c.shown.ensures c.row_at-w.ensures in
+    omega (arith, r.row)
+
+pub implied-field-requires : goal.implied-field-requires
+implied-field-requires c = let p = c.requires in
+    let r = ready_at p.0 p.1 p.2 c.shown.ensures c.row_at-w.ensures in
+    (p.0.long, r.values, r.seg)
+
+pub put_record-end-requires : goal.put_record-end-requires
+put_record-end-requires c = let p = c.requires in
+    let r = ready_at p.0 p.1 p.2 c.shown.ensures c.row_at-w.ensures in (
+      omega (arith, p.3, c.«open».ensures.most, c.«open».auto),
+      fields_in p.0 p.1 p.2 r c.fields-n.ensures c.first_field-a.ensures,
+      fields_few p.0 p.1 p.2 r c.fields-n.ensures,
+    )
+
+pub returns : goal.returns
+returns c = let p = c.requires in
+    line_step _ _ p.1 p.0.long _ _ _ _ _ _ _ _ _ _ _ _ _ p.0 p.2
+    (row_word p.0 p.1 p.2 c.shown.ensures c.row_at-w.ensures)
+    c.fields-n.ensures c.implied-field.ensures c.«open».ensures
+    c.Has-more.ensures c.first_field-a.ensures
+    c.put_record-end.ensures c.behind-c.ensures

@@ -1,0 +1,16 @@
+use Prim.Native.Nat.{◌-◌}
+use native.Mathlib.Omega.{arith}
+use Rattle.members.proofs.Narrowing.{narrow_start, narrow_next, narrow_stop, narrow_end}
+use Rattle.members.proofs.narrowed_by.Goals as goal
+
+pub loop-i-init : goal.loop-i-init
+loop-i-init c = narrow_start _ _ _ _ _
+
+pub returns-in_default : goal.returns-in_default
+returns-in_default c = narrow_stop c.loop-i.invariant _ _ c.place_word_lem.ensures c.narrow.ensures c.enum_told-1.given.1
+
+pub loop-i-preserved : goal.loop-i-preserved
+loop-i-preserved c = narrow_next c.loop-i.invariant _ _ c.place_word_lem.ensures c.narrow.ensures _ c.n-1.given.1
+
+pub returns : goal.returns
+returns c = narrow_end c.loop-i.invariant (omega arith)

@@ -1,0 +1,22 @@
+use native.Mathlib.Omega.{arith}
+use Rattle.words.specs.Laws.{length_words}
+use Rattle.place.specs.Laws.{spreadable_row, left_join}
+use borrow.Author.Rules.{rules}
+use Rattle.place.proofs.finish_join.Goals as goal
+
+
+pub spread-requires : goal.spread-requires
+spread-requires c = let p = c.add_register-n in
+    (search rules, spreadable_row _ _ _ _ _ _ p.ensures.1 c.requires.2.regs (omega (arith, c.requires.1, length_words c.args.out.now)) c.requires.3)
+
+pub set_member-requires : goal.set_member-requires
+set_member-requires c = (search rules, c.requires.3.here, search rules, omega (arith, c.requires.2.small))
+
+pub returns : goal.returns
+returns c = let p = c.add_register-n.ensures in
+    let l = c.least_weight_lem.ensures in
+    let w = c.weight_of_pieces-w.ensures in (
+      p.0,
+      λ O st ps h hg r ek ei here hi.
+          left_join _ _ O _ _ _ _ _ st ps r c.requires.2 _ _ h hg _ _ _ _ _ _ _ _ w.1 l.1 l.0 ek ei here hi p.0 p.1 c.spread.ensures c.set_member.ensures,
+    )

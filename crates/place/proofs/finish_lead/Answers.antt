@@ -1,0 +1,23 @@
+use mathlib.Core.Path.{refl, ap}
+use native.Mathlib.Omega.{arith}
+use Rattle.virt_regs.specs.declared.Counts.{Counts}
+use Rattle.place.specs.Ready.{group_more}
+use Rattle.place.specs.Laws.{left_lead}
+use borrow.Author.Rules.{rules}
+use Rattle.place.proofs.finish_lead.Goals as goal
+
+
+pub add_group-requires : goal.add_group-requires
+add_group-requires c = (search rules, search rules, search rules, omega (arith, c.requires.2.small))
+
+pub overflow_add-result : goal.overflow_add-result
+overflow_add-result c = let p = c.add_register-n.ensures in
+    omega (arith, ap (λ (x : Counts). x.groups) p.0, c.requires.4)
+
+pub returns : goal.returns
+returns c = let p = c.add_register-n.ensures in
+    let w = c.weight_of_pieces-w.ensures in (
+      ap group_more p.0,
+      λ O st ps h hg ms r ek ei hi hs.
+          left_lead _ _ O _ _ _ _ _ st ps r c.requires.2 _ _ h hg ms _ _ _ _ _ _ _ w.1 w.0 ek ei c.requires.3 hi hs p.0 p.1 c.class_data-data.ensures.0 refl c.add_group.ensures,
+    )

@@ -1,0 +1,26 @@
+use native.Mathlib.Omega.{arith}
+use Rattle.constraints.proofs.Operand.{job_blocks}
+use Rattle.scans.proofs.Uses.{pos_within}
+use Rattle.scans.proofs.Steps.{part_start, part_end, part_cut}
+use Rattle.scans.proofs.part_at.Goals as goal
+
+
+pub returns-then-is_def : goal.returns-then-is_def
+returns-then-is_def c h a b ls ms le me = part_start _ _ _ a b _ _ ls ms le me _ _ c.marked_use-x.ensures c.marked_use-y.ensures _ _
+    c.if-p-q.true c.is_def.ensures c.if-is_def.true
+    (c.turn_at.ensures h a b ls ms)
+
+pub returns-then-p-q : goal.returns-then-p-q
+returns-then-p-q c h a b ls ms le me = part_end _ _ _ a b _ _ ls ms le me _ _ c.marked_use-x.ensures c.marked_use-y.ensures _ _
+    c.if-p-q.true c.is_def.ensures c.if-is_def.false
+    (c.turn_at-then-p-q.ensures h a b le me)
+
+pub cut_at-requires : goal.cut_at-requires
+cut_at-requires c = let r = c.requires.0 in
+    let px = pos_within _ _ _ c.args.lay _ _ _ c.marked_use-x.ensures (r.within c.requires.3 _ c.requires.1) in
+    let py = pos_within _ _ _ c.args.lay _ _ _ c.marked_use-y.ensures (r.within c.requires.3 _ c.requires.2) in
+    (r, c.requires.4, omega (arith, r.few_insts, px, py), omega (arith, px, py))
+
+pub returns : goal.returns
+returns c h a b ls ms le me = part_cut _ _ _ a b _ _ ls ms le me _ _ c.marked_use-x.ensures c.marked_use-y.ensures h _ _
+    c.if-p-q.false (job_blocks _ _) c.cut_at.ensures

@@ -1,0 +1,14 @@
+use mathlib.Core.Path.{refl}
+use native.Mathlib.Omega.{arith}
+use lib.ListN.{take}
+use Rattle.lines.specs.Laws.{as_text}
+use Rattle.register_sheet.specs.Typed.{group_line}
+use Rattle.sheet_output.specs.Rows.{group_text}
+use Rattle.sheet_output.proofs.next_group.Goals as goal
+
+
+pub returns : goal.returns
+unfolding group_text
+returns c = let n = c.word_at-n.ensures in
+    let p = c.group_row-places.ensures in
+    (as_text 256 _ c.put_places-end.ensures (omega arith) (λ x. group_line c.args.cur.groups (take (n x) (p x))), refl)

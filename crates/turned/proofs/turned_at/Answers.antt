@@ -1,0 +1,14 @@
+use Rattle.turned.proofs.Read.{row_kept, head_within}
+use native.Mathlib.Omega.{arith}
+use Rattle.turned.proofs.turned_at.Goals as goal
+
+
+pub marked_use-head-requires : goal.marked_use-head-requires
+marked_use-head-requires c = let pre = c.requires in
+    let h = head_within _ _ _ _ _ _ pre.1 (omega arith) pre.2 c.holder_of.ensures.0 c.part_seg-row.ensures in
+    (pre.0, h, omega (arith, pre.3))
+
+pub returns : goal.returns
+returns c = let a = c.args in
+    row_kept _ a.marks _ a.lay a.sp a.n _ _ _ _ _ _ c.holder_of.ensures.0 c.part_seg-row.ensures
+    c.marked_use-u.ensures c.marked_use-head.ensures c.is_param_at.ensures c.param_index.ensures

@@ -1,0 +1,5 @@
+use Rattle.virt_regs.proofs.class_of.Goals as goal
+
+
+pub returns : goal.returns
+returns c = cc

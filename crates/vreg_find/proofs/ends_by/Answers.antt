@@ -1,0 +1,16 @@
+use Prim.Native.Nat.{◌-◌}
+use native.Mathlib.Omega.{arith}
+use Rattle.vreg_find.proofs.Scans.{ends_start, ends_next, ends_stop, ends_done}
+use Rattle.vreg_find.proofs.ends_by.Goals as goal
+
+pub loop-i-init : goal.loop-i-init
+loop-i-init c = ends_start _ _ _ _ _
+
+pub returns-then-a-word_at : goal.returns-then-a-word_at
+returns-then-a-word_at c = (c.loop-i.invariant.within, ends_stop _ _ _ _ _ _ _ c.loop-i.invariant c.loop-i-test.true c.word_at.ensures c.if-a-word_at.true)
+
+pub loop-i-preserved : goal.loop-i-preserved
+loop-i-preserved c = ends_next _ _ _ _ _ _ _ c.loop-i.invariant c.loop-i-test.true c.word_at.ensures c.if-a-word_at.false
+
+pub returns : goal.returns
+returns c = (omega arith, ends_done _ _ _ _ _ _ c.loop-i.invariant c.loop-i-test.false)

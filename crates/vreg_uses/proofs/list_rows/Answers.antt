@@ -1,0 +1,12 @@
+use mathlib.Core.Path.{ap, ◌∙◌}
+use Rattle.words.specs.Words.{words_of}
+use Rattle.vreg_uses.proofs.Bytes.{list_words, list_within}
+use Rattle.vreg_uses.proofs.list_rows.Goals as goal
+
+-- src/lib.rt:48:5
+pub use_list-requires : goal.use_list-requires
+use_list-requires c = list_within _ _ c.args.lay c.args.ol c.args.list c.requires.2 c.requires.0 c.requires.1
+
+-- src/lib.rt:40:1
+pub returns : goal.returns
+returns c = ap words_of c.use_list.ensures ∙ list_words _ _ c.args.lay c.args.ol c.args.list c.requires.2
