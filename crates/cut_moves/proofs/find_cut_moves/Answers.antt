@@ -26,11 +26,11 @@ module _ (c : tie.After-number-of) where
 accepted : (c : tie.Else1)
     → (let a = (start c).args in
     Accepted a.blocks.now a.after a a.side (room c) (list c))
-accepted c = record { zeros = cleared c; none = sym c.if-number-ne0.false ∙ c.number_of_lem.ensures }
+accepted c = record { zeros = cleared c; none = sym c.if-number-ne0.false ∙ c.number_of-number.ensures }
 
 pub returns-then-number-ne0 : goal.returns-then-number-ne0
 returns-then-number-ne0 c = let a = (start c).args in
-    left_empty a.blocks.now a.after a a.side (room c) _ (cleared c) _ c.number_of_lem.ensures
+    left_empty a.blocks.now a.after a a.side (room c) _ (cleared c) _ c.number_of-number.ensures
     c.if-number-ne0.true
 
 pub overflow_cast-n : goal.overflow_cast-n

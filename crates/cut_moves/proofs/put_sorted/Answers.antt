@@ -49,7 +49,7 @@ put_moves-count-requires c = let p = (start c).requires in
       omega (arith, t),
       open_finite o,
       table_chosen o ec,
-      above o _ _ ec c.edge_of_lem.ensures,
+      above o _ _ ec c.edge_of-e.ensures,
       p.9,
     )
 
@@ -61,5 +61,5 @@ sort-requires c = let p = (start c).requires in
 
 pub returns : goal.returns
 returns c = let p = (start c).requires in
-    listed (found c) _ _ c.chosen-c.ensures c.edge_of_lem.ensures _ _ _ _ (omega arith)
+    listed (found c) _ _ c.chosen-c.ensures c.edge_of-e.ensures _ _ _ _ (omega arith)
     c.put_moves-count.ensures.0 c.put_moves-count.ensures.1 c.sort.ensures

@@ -17,7 +17,7 @@ returns-then-n-eq0 c = let k = part_long c.loop-got.got c.loop-got.buf c.read-r.
 
 pub overflow_add-got : goal.overflow_add-got
 overflow_add-got c = let k = part_long c.loop-got.got c.loop-got.buf c.read-r.new.buf c.read-r.auto.buf in
-    omega (arith, k, c.read-r.ensures.once.within, c.loop-got.invariant.0, c.well-formed, c.loop-got-test.true)
+    omega (arith, k, c.read-r.ensures.once.within, c.loop-got.invariant.0, c.well_formed, c.loop-got-test.true)
 
 pub loop-got-smaller : goal.loop-got-smaller
 loop-got-smaller c = let k = part_long c.loop-got.got c.loop-got.buf c.read-r.new.buf c.read-r.auto.buf in
