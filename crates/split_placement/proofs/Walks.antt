@@ -142,14 +142,14 @@ unfolding first_least
 first_from f lo c j zero s = let e : j + 0 ≡ j = omega arith in subst (λ (n : ℕ). FirstOf f lo n c) (sym e) s
 first_from f lo c j (suc k) s =
     let e : j + suc k ≡ j + 1 + k = omega arith in
-    subst (λ (n : ℕ). FirstOf f lo n (first_least f (cond (ltb (f (j + 1)) (f c)) (j + 1) c) (j + 1) k)) (sym e) (first_from f lo _ (j + 1) k (first_more f lo j c s))
+    subst (λ (n : ℕ). FirstOf f lo n (first_least f (cond (ltb (f (j + 1)) (f c)) (j + 1) c) (j + 1) k)) (sym e) (first_from f lo (cond (ltb (f (j + 1)) (f c)) (j + 1) c) (j + 1) k (first_more f lo j c s))
 
 last_from : (f : ℕ → ℕ) (lo c j k : ℕ) → LastOf f lo j c → LastOf f lo (j + k) (last_least f c j k)
 unfolding last_least
 last_from f lo c j zero s = let e : j + 0 ≡ j = omega arith in subst (λ (n : ℕ). LastOf f lo n c) (sym e) s
 last_from f lo c j (suc k) s =
     let e : j + suc k ≡ j + 1 + k = omega arith in
-    subst (λ (n : ℕ). LastOf f lo n (last_least f (cond (ltb (f c) (f (j + 1))) c (j + 1)) (j + 1) k)) (sym e) (last_from f lo _ (j + 1) k (last_more f lo j c s))
+    subst (λ (n : ℕ). LastOf f lo n (last_least f (cond (ltb (f c) (f (j + 1))) c (j + 1)) (j + 1) k)) (sym e) (last_from f lo (cond (ltb (f c) (f (j + 1))) c (j + 1)) (j + 1) k (last_more f lo j c s))
 
 same_number : (f : ℕ → ℕ) (i j : ℕ) → i ≡ j → f j ≤ f i
 same_number f i j e = omega (arith, ap f e)
