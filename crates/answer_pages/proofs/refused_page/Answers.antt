@@ -8,4 +8,4 @@ pub returns-then-cur : goal.returns-then-cur
 returns-then-cur c = refuses_none _ _ _ _ c.if-cur.true c.behind_end-c.ensures refl
 
 pub returns : goal.returns
-returns c = refuses_line _ _ _ _ _ c.if-cur.false c.behind_end-c.ensures (search rules) c.Put-refused.ensures
+returns c = refuses_line _ _ _ _ _ c.if-cur.false c.behind_end-c.ensures (search rules) c.put_refused-n.ensures

@@ -3,7 +3,7 @@ use Rattle.cut_margins.proofs.last_open.Goals as goal
 
 
 pub returns-in-Early : goal.returns-in-Early
-returns-in-Early c = let r = c.Block-of.ensures in
+returns-in-Early c = let r = c.block_of.ensures in
     (r.0, last_early _ _ _ _ _ c.in-Early.is r.1)
 
 pub returns-in-Late : goal.returns-in-Late

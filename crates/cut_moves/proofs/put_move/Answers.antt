@@ -6,4 +6,4 @@ pub returns-then-steps-eq0 : goal.returns-then-steps-eq0
 returns-then-steps-eq0 c = put_none _ _ _ _ _ c.if-steps-eq0.true
 
 pub returns : goal.returns
-returns c = put_one _ _ _ _ _ _ _ c.if-steps-eq0.false c.Way-of.ensures c.put_3.ensures
+returns c = put_one _ _ _ _ _ _ _ c.if-steps-eq0.false c.way_of.ensures c.put_3.ensures

@@ -46,5 +46,5 @@ returns c = let p = c.requires in
     line_step _ _ p.1 p.0.long _ _ _ _ _ _ _ _ _ _ _ _ _ p.0 p.2
     (row_word p.0 p.1 p.2 c.shown.ensures c.row_at-w.ensures)
     c.fields-n.ensures c.implied-field.ensures c.«open».ensures
-    c.Has-more.ensures c.first_field-a.ensures
+    c.has_more-more.ensures c.first_field-a.ensures
     c.put_record-end.ensures c.behind-c.ensures

@@ -24,7 +24,7 @@ returns-then-number-ne0 c = let p = c.requires in
     = λ i. omega (arith, c.shared_slice_known-1.given i) in
     answered_refused _ _ _ _ _ _ _ _ _ c.verdict_on-number.ensures c.if-number-ne0.true
     (led _ _ _ _ b (fed_once _ _ _ _ _ p.1 p.2 c.«open».ensures c.feed-cur.ensures))
-    c.Put-refused.ensures (omega (arith, p.0, c.Put-refused.auto))
+    c.put_refused-n.ensures (omega (arith, p.0, c.put_refused-n.auto))
 
 pub fill-page-requires : goal.fill-page-requires
 fill-page-requires c = let p = c.requires in
