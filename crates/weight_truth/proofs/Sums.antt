@@ -240,7 +240,7 @@ module _ (job : Job) (p : PlainJob job) (f : F32Job job) where
   uses_near r t [] j S s g = near_as (sym (add-zero j)) (sym (add-zero S)) s
   uses_near r t (u ∷ us) j S s g =
       near_as (add_assoc j _ _) (add_assoc S _ _)
-      (uses_near r _ us _ _ (use_near r t u j S s (first_use job r t u us g)) (other_uses job r t u us g))
+      (uses_near r (add_cost t (scaled_cost job r u) (freq_of job u)) us _ _ (use_near r t u j S s (first_use job r t u us g)) (other_uses job r t u us g))
 
   segs_near : (t : Float) (ss : List Segment) (j S : ℕ) → SumNear t j S → FineSegs job t ss
       → SumNear (sum_segs job t ss) (j + nonzeros job ss) (S + exact_sum job ss)
@@ -248,7 +248,7 @@ module _ (job : Job) (p : PlainJob job) (f : F32Job job) where
   segs_near t [] j S s g = near_as (sym (add-zero j)) (sym (add-zero S)) s
   segs_near t (q ∷ ss) j S s g =
       near_as (add_assoc j _ _) (add_assoc S _ _)
-      (segs_near _ ss _ _ (uses_near _ t q.uses j S s (first_seg job t q ss g)) (other_segs job t q ss g))
+      (segs_near (sum_uses job (value_at job q.value).remat t q.uses) ss _ _ (uses_near _ t q.uses j S s (first_seg job t q ss g)) (other_segs job t q ss g))
 
   pub sum_near : (ss : List Segment) → FineSegs job zero_f ss
       → SumNear (sum_segs job zero_f ss) (nonzeros job ss) (exact_sum job ss)
@@ -291,10 +291,10 @@ module _ (job : Job) (p : PlainJob job) (f : F32Job job) where
   uses_more r t [] g = omega arith
   uses_more r t (u ∷ us) g =
       let a = use_more r u (scale_fine job r t u (first_use job r t u us g)) in
-      omega (arith, a, uses_more r _ us (other_uses job r t u us g))
+      omega (arith, a, uses_more r (add_cost t (scaled_cost job r u) (freq_of job u)) us (other_uses job r t u us g))
 
   pub skips_more : (t : Float) (ss : List Segment) → FineSegs job t ss → nonzeros job ss ≤ unskipped_in job ss
   unfolding nonzeros unskipped_in
   skips_more t [] g = omega arith
   skips_more t (s ∷ ss) g =
-      omega (arith, uses_more _ t s.uses (first_seg job t s ss g), skips_more _ ss (other_segs job t s ss g))
+      omega (arith, uses_more _ t s.uses (first_seg job t s ss g), skips_more (sum_uses job (value_at job s.value).remat t s.uses) ss (other_segs job t s ss g))
