@@ -15,4 +15,6 @@ place_part-r-requires c = let g = c.requires.0 in
 
 pub returns : goal.returns
 returns c = let f = c.cut_front-f.ensures in
-    step_cuts c.requires.0 _ _ _ c.requires.1 _ _ _ f.0.0 f.0.1 f.1 _ _ _ c.place_part-r.ensures _ c.is_done-go.ensures
+    let both =
+    step_cuts c.requires.0 _ _ _ c.requires.1 _ _ _ f.0.0 f.0.1 f.1 _ _ _ c.place_part-r.ensures _ c.is_done-go.ensures in
+    record { stepped = both.0;  step_to = both.1; }
