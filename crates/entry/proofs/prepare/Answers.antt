@@ -22,7 +22,7 @@ put_starts-requires c = let p = c.requires in
 pub clear_words-requires-2 : goal.clear_words-requires-2
 clear_words-requires-2 c = let p = c.requires in
     let r = p.0.regions in
-    omega (arith, p.1, c.put_starts.auto.1, c.clear_words.auto.work, r.starts, r.marks, r.turned)
+    omega (arith, p.1, c.put_starts.auto.starts, c.clear_words.auto.work, r.starts, r.marks, r.turned)
 
 pub returns : goal.returns
 returns c =
