@@ -16,16 +16,16 @@ next_move-m-requires c = let g = c.requires in
 
 pub place_part-r-requires : goal.place_part-r-requires
 place_part-r-requires c = let g = c.requires in
-    let m = moves_whole _ _ _ _ _ g.laid.ok g.state _ _ (c.next_move-m.ensures g.state g.stands.stands) c.enum_told-1.given.1 in
+    let m = moves_whole _ _ _ _ _ g.laid.ok g.state _ _ (c.next_move-m.ensures g.state g.stands.stands) c.in-Whole.is in
     whole_asked g.laid g.builds g.stands _ _ m
 
 pub returns-in-Whole : goal.returns-in-Whole
 returns-in-Whole c = let g = c.requires in
-    step_whole g _ _ _ (λ st h. moves_whole _ _ _ _ _ g.laid.ok st _ _ (c.next_move-m.ensures st h) c.enum_told-1.given.1) _ _ _ c.place_part-r.ensures _ c.over.ensures
+    step_whole g _ _ _ (λ st h. moves_whole _ _ _ _ _ g.laid.ok st _ _ (c.next_move-m.ensures st h) c.in-Whole.is) _ _ _ c.place_part-r.ensures _ c.over.ensures
 
 pub turn_one-requires : goal.turn_one-requires
 turn_one-requires c = let g = c.requires in
-    let m = moves_turn _ _ _ _ _ g.laid.ok g.state _ _ (c.next_move-m.ensures g.state g.stands.stands) _ c.kind-1.given.1 in
+    let m = moves_turn _ _ _ _ _ g.laid.ok g.state _ _ (c.next_move-m.ensures g.state g.stands.stands) _ c.in-Turn.is in
     turn_asked g.laid (sym (length_words _)) g.state _ _ (m ∙ ap turn (sym c.saturating_sub-i.ensures))
 
 pub overflow_add-n : goal.overflow_add-n
@@ -33,13 +33,13 @@ overflow_add-n c = let g = c.requires in omega (arith, g.laid.left, g.laid.turns
 
 pub returns-in-Turn : goal.returns-in-Turn
 returns-in-Turn c = let g = c.requires in
-    step_turn g _ _ _ (λ st h. moves_turn _ _ _ _ _ g.laid.ok st _ _ (c.next_move-m.ensures st h) _ c.kind-1.given.1 ∙ ap turn (sym c.saturating_sub-i.ensures))
+    step_turn g _ _ _ (λ st h. moves_turn _ _ _ _ _ g.laid.ok st _ _ (c.next_move-m.ensures st h) _ c.in-Turn.is ∙ ap turn (sym c.saturating_sub-i.ensures))
     (sym (length_words _)) _ c.turn_one.ensures _ c.go_on.ensures
 
 pub step_cut-requires : goal.step_cut-requires
 step_cut-requires c = let g = c.requires in
-    (g, λ st h. moves_cut _ _ _ _ _ g.laid.ok st _ _ (c.next_move-m.ensures st h) _ c.kind-in-Cut-1.given.1)
+    (g, λ st h. moves_cut _ _ _ _ _ g.laid.ok st _ _ (c.next_move-m.ensures st h) _ c.in-Cut.is)
 
 pub returns-in-Halt : goal.returns-in-Halt
 returns-in-Halt c = let g = c.requires in
-    step_halt g _ _ _ (λ st h. moves_halt _ _ _ _ _ g.laid.ok st _ _ (c.next_move-m.ensures st h) _ c.kind-in-Halt-1.given.1) _ c.over-in-Halt.ensures
+    step_halt g _ _ _ (λ st h. moves_halt _ _ _ _ _ g.laid.ok st _ _ (c.next_move-m.ensures st h) _ c.in-Halt.is) _ c.over-in-Halt.ensures

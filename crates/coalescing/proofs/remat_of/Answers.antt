@@ -5,16 +5,16 @@ use Rattle.coalescing.proofs.remat_of.Goals as goal
 
 pub returns-in-1 : goal.returns-in-1
 unfolding remat_of
-returns-in-1 c = simp c.in_default.keys1
+returns-in-1 c = simp c.in-1.is
 
 pub returns-in-2 : goal.returns-in-2
 unfolding remat_of
-returns-in-2 c = simp c.in_default.keys2
+returns-in-2 c = simp c.in-2.is
 
 pub returns-in-3 : goal.returns-in-3
 unfolding remat_of
-returns-in-3 c = simp c.in_default.keys3
+returns-in-3 c = simp c.in-3.is
 
 pub returns-in_default : goal.returns-in_default
 unfolding remat_of
-returns-in_default c = simp (ne_eqb _ _ c.in_default.rest.1, ne_eqb _ _ c.in_default.rest.0.1, ne_eqb _ _ c.in_default.rest.0.0.1)
+returns-in_default c = simp (ne_eqb _ _ c.in_default.in_default-own.rest.1, ne_eqb _ _ c.in_default.in_default-own.rest.0.1, ne_eqb _ _ c.in_default.in_default-own.rest.0.0.1)

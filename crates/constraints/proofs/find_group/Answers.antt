@@ -6,10 +6,10 @@ pub returns-then-insts-p : goal.returns-then-insts-p
 returns-then-insts-p c b = absurd (said_past _ c.args.lay c.args.p _ _ c.requires.under c.if-insts-p.true b)
 
 pub operand_group-requires : goal.operand_group-requires
-operand_group-requires c = (c.requires, found_known _ c.args.lay c.args.p _ _ _ c.find_operand.ensures c.k-1.given.1)
+operand_group-requires c = (c.requires, found_known _ c.args.lay c.args.p _ _ _ c.find_operand.ensures c.in-At.is)
 
 pub returns-in-At : goal.returns-in-At
-returns-in-At c b = said_found _ c.args.lay c.args.p _ _ c.args.wl _ _ _ c.requires.single c.find_operand.ensures c.k-1.given.1 c.operand_group.ensures
+returns-in-At c b = said_found _ c.args.lay c.args.p _ _ c.args.wl _ _ _ c.requires.single c.find_operand.ensures c.in-At.is c.operand_group.ensures
 
 pub returns-in-Nothing : goal.returns-in-Nothing
-returns-in-Nothing c b = absurd (said_nothing _ c.args.lay c.args.p _ _ c.find_operand.ensures c.enum_told-1.given.1 b)
+returns-in-Nothing c b = absurd (said_nothing _ c.args.lay c.args.p _ _ c.find_operand.ensures c.in-Nothing.is b)

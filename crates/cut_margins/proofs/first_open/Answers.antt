@@ -4,8 +4,8 @@ use Rattle.cut_margins.proofs.first_open.Goals as goal
 
 pub returns-in-Early : goal.returns-in-Early
 returns-in-Early c = let r = c.Block-of.ensures in
-    (r.0, first_early _ _ _ _ _ c.enum_told-1.given.1 r.1)
+    (r.0, first_early _ _ _ _ _ c.in-Early.is r.1)
 
 pub returns-in-Late : goal.returns-in-Late
 returns-in-Late c = let r = c.block_of-in-Late.ensures in
-    (r.0, first_late _ _ _ _ _ c.enum_told-in-Late-1.given.1 r.1)
+    (r.0, first_late _ _ _ _ _ c.in-Late.is r.1)

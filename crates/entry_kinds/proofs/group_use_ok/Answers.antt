@@ -3,10 +3,10 @@ use Rattle.entry_kinds.proofs.group_use_ok.Goals as goal
 
 
 pub operand_fits-requires : goal.operand_fits-requires
-operand_fits-requires c = (c.requires.0, found_below _ _ _ _ _ _ c.requires.0 c.args.v _ _ c.args.class c.args.index _ c.find_operand.ensures _ c.k-1.given.1)
+operand_fits-requires c = (c.requires.0, found_below _ _ _ _ _ _ c.requires.0 c.args.v _ _ c.args.class c.args.index _ c.find_operand.ensures _ c.in-At.is)
 
 pub returns-in-At : goal.returns-in-At
-returns-in-At c = group_at _ _ _ _ _ _ c.requires.0 _ _ _ _ _ _ c.find_operand.ensures _ c.k-1.given.1 _ c.operand_fits.ensures
+returns-in-At c = group_at _ _ _ _ _ _ c.requires.0 _ _ _ _ _ _ c.find_operand.ensures _ c.in-At.is _ c.operand_fits.ensures
 
 pub returns-in-Nothing : goal.returns-in-Nothing
-returns-in-Nothing c = group_none _ _ _ _ _ _ c.requires.0 _ _ _ _ _ _ c.find_operand.ensures c.enum_told-1.given.1
+returns-in-Nothing c = group_none _ _ _ _ _ _ c.requires.0 _ _ _ _ _ _ c.find_operand.ensures c.in-Nothing.is

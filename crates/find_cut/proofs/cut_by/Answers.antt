@@ -8,10 +8,10 @@ pub returns-in-Early : goal.returns-in-Early
 returns-in-Early c = let a = c.args in
     let q = c.requires in
     let e = c.put_starts.ensures in
-    (early_by _ _ _ _ _ _ _ e (omega (arith, length_words a.work.now)) (words_small a.blocks.now (λ i. omega (arith, c.shared_slice_known-1.given i))) q.6 q.4 _ c.enum_told-1.given.1 c.early_cut.ensures, e)
+    (early_by _ _ _ _ _ _ _ e (omega (arith, length_words a.work.now)) (words_small a.blocks.now (λ i. omega (arith, c.shared_slice_known-1.given i))) q.6 q.4 _ c.in-Early.is c.early_cut.ensures, e)
 
 pub returns-in-Late : goal.returns-in-Late
 returns-in-Late c = let a = c.args in
     let q = c.requires in
     let e = c.put_starts.ensures in
-    (late_by _ _ _ _ _ _ _ e (omega (arith, length_words a.work.now)) (words_small a.blocks.now (λ i. omega (arith, c.shared_slice_known-1.given i))) q.6 q.4 _ c.enum_told-in-Late-1.given.1 c.late_cut.ensures, e)
+    (late_by _ _ _ _ _ _ _ e (omega (arith, length_words a.work.now)) (words_small a.blocks.now (λ i. omega (arith, c.shared_slice_known-1.given i))) q.6 q.4 _ c.in-Late.is c.late_cut.ensures, e)

@@ -4,10 +4,10 @@ use Rattle.live_range.proofs.slot_of.Goals as goal
 
 
 pub returns-in-0 : goal.returns-in-0
-returns-in-0 c = sym (ap slot_at c.in_default.keys1)
+returns-in-0 c = sym (ap slot_at c.in-0.is)
 
 pub returns-in-1 : goal.returns-in-1
-returns-in-1 c = sym (ap slot_at c.in_default.keys2)
+returns-in-1 c = sym (ap slot_at c.in-1.is)
 
 pub returns-in_default : goal.returns-in_default
-returns-in_default c = sym (slot_rest _ c.in_default.rest.0.1 c.in_default.rest.1)
+returns-in_default c = sym (slot_rest _ c.in_default.in_default-own.rest.0.1 c.in_default.in_default-own.rest.1)

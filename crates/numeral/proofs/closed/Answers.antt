@@ -9,12 +9,12 @@ returns-in-Nothing c = search rules
 
 pub returns-in-Number : goal.returns-in-Number
 unfolding closed_of
-returns-in-Number c = rw c.enum_told-in-Number-1.given.1
+returns-in-Number c = rw c.in-Number.is
 
 pub returns-in-Mask : goal.returns-in-Mask
 unfolding closed_of
-returns-in-Mask c = rw c.enum_told-in-Mask-1.given.1
+returns-in-Mask c = rw c.in-Mask.is
 
 pub returns-in-Word : goal.returns-in-Word
 unfolding closed_of
-returns-in-Word c = rw c.enum_told-in-Word-1.given.1
+returns-in-Word c = rw c.in-Word.is

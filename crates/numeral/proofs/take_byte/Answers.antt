@@ -9,12 +9,12 @@ returns-in-Nothing c = search rules
 
 pub returns-in-Number : goal.returns-in-Number
 unfolding take_byte
-returns-in-Number c = rw c.form-1.given.1 c.number_byte.ensures
+returns-in-Number c = rw c.in-Number.is c.number_byte.ensures
 
 pub returns-in-Mask : goal.returns-in-Mask
 unfolding take_byte
-returns-in-Mask c = rw c.enum_told-in-Mask-1.given.1 c.mask_byte.ensures
+returns-in-Mask c = rw c.in-Mask.is c.mask_byte.ensures
 
 pub returns-in-Word : goal.returns-in-Word
 unfolding take_byte
-returns-in-Word c = rw c.enum_told-in-Word-1.given.1 c.word_byte.ensures
+returns-in-Word c = rw c.in-Word.is c.word_byte.ensures

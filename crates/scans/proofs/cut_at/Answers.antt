@@ -17,9 +17,9 @@ late_at-requires c = let r = c.requires.0 in
     (r.some_block, r.few_blocks, r.room, c.requires.2)
 
 pub returns-in-Early : goal.returns-in-Early
-returns-in-Early c = by_side _ _ _ _ _ _ (sym c.cut_side.ensures ∙ c.enum_told-1.given.1)
+returns-in-Early c = by_side _ _ _ _ _ _ (sym c.cut_side.ensures ∙ c.in-Early.is)
     (c.early_at.ensures _ c.requires.0.starts (length_rows_at block_row _ _ 2 _) c.requires.3)
 
 pub returns-in-Late : goal.returns-in-Late
-returns-in-Late c = by_side _ _ _ _ _ _ (sym c.cut_side.ensures ∙ c.enum_told-in-Late-1.given.1)
+returns-in-Late c = by_side _ _ _ _ _ _ (sym c.cut_side.ensures ∙ c.in-Late.is)
     (c.late_at.ensures _ c.requires.0.starts (length_rows_at block_row _ _ 2 _) c.requires.3)

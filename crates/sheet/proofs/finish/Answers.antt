@@ -3,7 +3,7 @@ use Rattle.sheet.proofs.finish.Goals as goal
 
 
 pub returns-in-Bad : goal.returns-in-Bad
-returns-in-Bad c = judged_bad _ c.enum_told-1.given.1
+returns-in-Bad c = judged_bad _ c.in-Bad.is
 
 pub returns-in-Go : goal.returns-in-Go
-returns-in-Go c = judged_go _ _ _ c.cur-1.given.1 c.ended.ensures
+returns-in-Go c = judged_go _ _ _ c.in-Go.is c.ended.ensures

@@ -3,7 +3,7 @@ use Rattle.sheet.proofs.push.Goals as goal
 
 
 pub returns-in-Go : goal.returns-in-Go
-returns-in-Go c = push_go _ _ _ _ _ c.cur-1.given.1 c.step.ensures
+returns-in-Go c = push_go _ _ _ _ _ c.in-Go.is c.step.ensures
 
 pub returns-in-Bad : goal.returns-in-Bad
-returns-in-Bad c = push_bad _ _ _ c.enum_told-1.given.1
+returns-in-Bad c = push_bad _ _ _ c.in-Bad.is

@@ -10,7 +10,7 @@ unfolding written_of
 returns-then-b-eq9 c = simp (eq-eqb _ _ c.if-b-eq9.true)
 
 pub returns-in-Num : goal.returns-in-Num
-returns-in-Num c = written_digit _ _ _ _ c.if-b-eq9.false _ (sym c.take_byte-t.ensures ∙ c.t-1.given.1)
+returns-in-Num c = written_digit _ _ _ _ c.if-b-eq9.false _ (sym c.take_byte-t.ensures ∙ c.in-Num.is)
 
 pub returns-in-Bad : goal.returns-in-Bad
-returns-in-Bad c = written_none _ _ _ _ c.if-b-eq9.false (sym c.take_byte-t.ensures ∙ c.enum_told-1.given.1)
+returns-in-Bad c = written_none _ _ _ _ c.if-b-eq9.false (sym c.take_byte-t.ensures ∙ c.in-Bad.is)

@@ -28,4 +28,4 @@ not_first (Before key left) h = refl
 not_first (Written key x) h = refl
 
 pub returns-in_default : goal.returns-in_default
-returns-in_default c = not_first c.args.cur.front c.in_default.keys2
+returns-in_default c = not_first c.args.cur.front c.in_default.in_default-own.keys2

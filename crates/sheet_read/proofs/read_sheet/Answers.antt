@@ -16,14 +16,14 @@ whole c =
     went _ _ _ _ _ _ _ _ _ b c.«open».ensures c.feed-cur.ensures (search rules) (search rules) c.requires.0 c.requires.1
 
 pub returns-in-Read : goal.returns-in-Read
-returns-in-Read c = read_sheet _ _ _ _ _ (whole c) _ c.finish-read.ensures c.enum_told-1.given.1
+returns-in-Read c = read_sheet _ _ _ _ _ (whole c) _ c.finish-read.ensures c.in-Read.is
 
 pub returns-in-Malformed : goal.returns-in-Malformed
 returns-in-Malformed c = let r = c.refuse in
-    no_sheet _ _ _ _ _ (whole c) _ _ r.new.table r.new.written c.finish-read.ensures c.enum_told-in-Malformed-1.given.1
+    no_sheet _ _ _ _ _ (whole c) _ _ r.new.table r.new.written c.finish-read.ensures c.in-Malformed.is
     r.ensures.value r.ensures.table_cleared.0 r.ensures.table_cleared.1
 
 pub returns-in-TooMany : goal.returns-in-TooMany
 returns-in-TooMany c = let r = c.refuse-in-TooMany in
-    crowded_sheet _ _ _ _ _ (whole c) _ _ r.new.table r.new.written c.finish-read.ensures c.enum_told-in-TooMany-1.given.1
+    crowded_sheet _ _ _ _ _ (whole c) _ _ r.new.table r.new.written c.finish-read.ensures c.in-TooMany.is
     r.ensures.value r.ensures.table_cleared.0 r.ensures.table_cleared.1

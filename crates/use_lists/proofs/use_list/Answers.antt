@@ -27,6 +27,10 @@ overflow_add-result c = omega (arith, in-job c)
 pub overflow_mul-result-in-Job : goal.overflow_mul-result-in-Job
 overflow_mul-result-in-Job c = omega (arith, in-job c)
 
+-- src/lib.rt:28:24
+pub ??slice-bounds-result-end : goal.??slice-bounds-result-end
+??slice-bounds-result-end c = omega (arith, in-job c)
+
 -- src/lib.rt:29:33
 pub overflow_mul-result-in-Added : goal.overflow_mul-result-in-Added
 overflow_mul-result-in-Added c = omega (arith, in-added c)
@@ -39,10 +43,14 @@ overflow_add-result-in-Added c = omega (arith, in-added c)
 pub overflow_mul-result-in-Added-2 : goal.overflow_mul-result-in-Added-2
 overflow_mul-result-in-Added-2 c = omega (arith, in-added c)
 
+-- src/lib.rt:29:26
+pub ??slice-bounds-result-end-2 : goal.??slice-bounds-result-end-2
+??slice-bounds-result-end-2 c = omega (arith, in-added c)
+
 -- src/lib.rt:20:1
 pub returns-in-Job : goal.returns-in-Job
-returns-in-Job c = part _ _ c.args.list Job c.enum_told-1.given.1
+returns-in-Job c = part _ _ c.args.list Job c.in-Job.is
 
 -- src/lib.rt:20:1
 pub returns-in-Added : goal.returns-in-Added
-returns-in-Added c = part _ _ c.args.list Added c.enum_told-in-Added-1.given.1
+returns-in-Added c = part _ _ c.args.list Added c.in-Added.is
