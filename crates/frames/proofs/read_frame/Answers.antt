@@ -5,7 +5,6 @@ use borrow.Author.Tests.{not-true, not-false}
 use Rattle.frames.proofs.Reading.{no_frame_read, sheet_short, answer_short, frame_whole}
 use Rattle.frames.proofs.read_frame.Goals as goal
 
-
 pub returns-then-not-f : goal.returns-then-not-f
 returns-then-not-f g c = no_frame_read _ _ _ _ _ _ c.read_head-f.ensures (not-true _ c.if-not-f.true)
 
