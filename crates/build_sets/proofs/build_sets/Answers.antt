@@ -21,15 +21,15 @@ pub is_done-requires : goal.is_done-requires
 is_done-requires c = tt
 
 pub shape_of-out-then-not-is_done : goal.shape_of-out-then-not-is_done
-shape_of-out-then-not-is_done c = omega (arith, c.loop-a.invariant.2, c.build_set_lem.auto.1.1.0)
+shape_of-out-then-not-is_done c = omega (arith, c.loop-a.invariant.2, c.build_set-r.auto.out)
 
 pub shape_of-work-then-not-is_done : goal.shape_of-work-then-not-is_done
-shape_of-work-then-not-is_done c = omega (arith, c.loop-a.invariant.1, c.build_set_lem.auto.1.1.1.1.0)
+shape_of-work-then-not-is_done c = omega (arith, c.loop-a.invariant.1, c.build_set-r.auto.work)
 
 pub returns-then-not-is_done : goal.returns-then-not-is_done
 returns-then-not-is_done c = let e = c.set_end-b.ensures in
-    let r = c.build_set_lem.ensures in
-    setting_stop _ _ _ _ _ _ _ _ _ _ _ c.loop-a.invariant.0 _ e.0 e.1 e.2 c.loop-a-test.true _ _ _ r.1 (done_not _ _ c.is_done.ensures c.if-not-is_done.true)
+    let r = c.build_set-r.ensures in
+    setting_stop _ _ _ _ _ _ _ _ _ _ _ c.loop-a.invariant.0 _ e.0 e.1 e.2 c.loop-a-test.true _ _ _ r.1 (done_not _ _ c.is_done.ensures c.if-not-is_done.true-raw)
 
 pub loop-a-smaller : goal.loop-a-smaller
 loop-a-smaller c = omega (arith, c.loop-a-test.true, c.set_end-b.ensures.0)
@@ -37,11 +37,11 @@ loop-a-smaller c = omega (arith, c.loop-a-test.true, c.set_end-b.ensures.0)
 pub loop-a-preserved : goal.loop-a-preserved
 loop-a-preserved c = let l = c.loop-a in
     let e = c.set_end-b.ensures in
-    let r = c.build_set_lem in (
-      setting_next _ _ _ _ _ _ _ _ _ _ _ l.invariant.0 _ e.0 e.1 e.2 c.loop-a-test.true _ _ _ r.ensures.1 (done_is _ _ c.is_done.ensures c.if-not-is_done.false)
-          (onward_now _ _ _ _ _ _ _ c.args.work.now l.work l.invariant.1 r.ensures.0),
-      r.auto.1.1.1.1.0 ∙ l.invariant.1,
-      r.auto.1.1.0 ∙ l.invariant.2,
+    let r = c.build_set-r in (
+      setting_next _ _ _ _ _ _ _ _ _ _ _ l.invariant.0 _ e.0 e.1 e.2 c.loop-a-test.true _ _ _ r.ensures.ends_as (done_is _ _ c.is_done.ensures c.if-not-is_done.false-raw)
+          (onward_now _ _ _ _ _ _ _ c.args.work.now l.work l.invariant.1 r.ensures.onward),
+      r.auto.work ∙ l.invariant.1,
+      r.auto.out ∙ l.invariant.2,
     )
 
 pub shape_of-out : goal.shape_of-out

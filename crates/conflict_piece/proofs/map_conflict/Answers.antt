@@ -24,14 +24,14 @@ shape_of-work-then-not-map_use c = omega (arith, c.loop-i.invariant.1, c.map_use
 pub returns-then-not-map_use : goal.returns-then-not-map_use
 returns-then-not-map_use c = let o = run_outside _ _ _ _ _ _ _ _ _ _ c.loop-i.invariant.0 in
     maps_conflict _ _ _ _ _ _ _ _ _
-    (run_stop _ _ _ _ _ _ _ _ _ _ c.loop-i.invariant.0 c.loop-i-test.true _ (c.turned_use-u.ensures ∙ row_kept _ _ _ _ o c.requires.1 _ _) _ _ c.map_use.ensures c.if-not-map_use.true)
+    (run_stop _ _ _ _ _ _ _ _ _ _ c.loop-i.invariant.0 c.loop-i-test.true _ (c.turned_use-u.ensures ∙ row_kept _ _ _ _ o c.requires.1 _ _) _ _ c.map_use.ensures c.if-not-map_use.true-raw)
 
 pub overflow_add-i : goal.overflow_add-i
 overflow_add-i c = omega (arith, c.loop-i-test.true, c.ranges)
 
 pub loop-i-preserved : goal.loop-i-preserved
 loop-i-preserved c = let o = run_outside _ _ _ _ _ _ _ _ _ _ c.loop-i.invariant.0 in (
-      run_next _ _ _ _ _ _ _ _ _ _ c.loop-i.invariant.0 c.loop-i-test.true _ (c.turned_use-u.ensures ∙ row_kept _ _ _ _ o c.requires.1 _ _) _ _ c.map_use.ensures c.if-not-map_use.false,
+      run_next _ _ _ _ _ _ _ _ _ _ c.loop-i.invariant.0 c.loop-i-test.true _ (c.turned_use-u.ensures ∙ row_kept _ _ _ _ o c.requires.1 _ _) _ _ c.map_use.ensures c.if-not-map_use.false-raw,
       omega (arith, c.loop-i.invariant.1, c.map_use),
       omega (arith, c.loop-i.invariant.2),
     )

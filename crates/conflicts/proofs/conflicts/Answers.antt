@@ -32,7 +32,7 @@ shape_of-work-then-not-is_done c = omega (arith, c.loop-i.invariant.1, c.at_inst
 pub returns-then-not-is_done : goal.returns-then-not-is_done
 returns-then-not-is_done c = let v = c.loop-i.invariant.0 in
     let e = c.run_end-e.ensures in
-    let r = c.at_inst-r.ensures in record { between = between_then _ _ _ _ _ v.between r.0.between;  ends_as = going_stop _ _ _ _ _ _ _ _ _ _ _ _ _ _ _ _ _ v _ e.0 e.1 e.2 _ _ _ r.0 r.1 (done_not _ _ c.is_done.ensures c.if-not-is_done.true); }
+    let r = c.at_inst-r.ensures in record { between = between_then _ _ _ _ _ v.between r.0.between;  ends_as = going_stop _ _ _ _ _ _ _ _ _ _ _ _ _ _ _ _ _ v _ e.0 e.1 e.2 _ _ _ r.0 r.1 (done_not _ _ c.is_done.ensures c.if-not-is_done.true-raw); }
 
 pub loop-i-smaller : goal.loop-i-smaller
 loop-i-smaller c = omega (arith, c.loop-i-test.true, c.run_end-e.ensures.0)
@@ -41,7 +41,7 @@ pub loop-i-preserved : goal.loop-i-preserved
 loop-i-preserved c = let l = c.loop-i in
     let e = c.run_end-e.ensures in
     let r = c.at_inst-r in (
-      going_next _ _ _ _ _ _ _ _ _ _ _ _ _ _ _ _ _ l.invariant.0 _ e.0 e.1 e.2 _ _ _ r.ensures.rounded r.ensures.ends_as (done_is _ _ c.is_done.ensures c.if-not-is_done.false),
+      going_next _ _ _ _ _ _ _ _ _ _ _ _ _ _ _ _ _ l.invariant.0 _ e.0 e.1 e.2 _ _ _ r.ensures.rounded r.ensures.ends_as (done_is _ _ c.is_done.ensures c.if-not-is_done.false-raw),
       r.auto.work ∙ l.invariant.1,
       r.auto.out ∙ l.invariant.2,
     )

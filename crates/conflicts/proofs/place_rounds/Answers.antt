@@ -25,17 +25,17 @@ shape_of-work-then-not-is_done c = omega (arith, c.loop-i.invariant.1, c.place_r
 
 pub returns-then-not-is_done : goal.returns-then-not-is_done
 returns-then-not-is_done c = let v = c.loop-i.invariant.0 in
-    let r = c.place_round-r in record { rounded = rounded_then _ _ _ _ _ _ v.rounded r.ensures.onto_next.2;  ends_as = rounding_stop _ _ _ _ _ _ _ _ _ _ _ _ _ _ _ _ _ _ _ v c.loop-i-test.true _ _ _ _ r.ensures.round_as (done_not _ _ c.is_done.ensures c.if-not-is_done.true); }
+    let r = c.place_round-r in record { rounded = rounded_then _ _ _ _ _ _ v.rounded r.ensures.onto_next.2;  ends_as = rounding_stop _ _ _ _ _ _ _ _ _ _ _ _ _ _ _ _ _ _ _ v c.loop-i-test.true _ _ _ _ r.ensures.round_as (done_not _ _ c.is_done.ensures c.if-not-is_done.true-raw); }
 
 pub loop-i-smaller : goal.loop-i-smaller
 loop-i-smaller c = let r = c.place_round-r in
-    let d = done_is _ _ c.is_done.ensures c.if-not-is_done.false in
+    let d = done_is _ _ c.is_done.ensures c.if-not-is_done.false-raw in
     omega (arith, c.loop-i-test.true, r.ensures.onto_next.0 d, r.ensures.onto_next.1)
 
 pub loop-i-preserved : goal.loop-i-preserved
 loop-i-preserved c = let l = c.loop-i in
     let r = c.place_round-r in
-    let d = done_is _ _ c.is_done.ensures c.if-not-is_done.false in
+    let d = done_is _ _ c.is_done.ensures c.if-not-is_done.false-raw in
     let kw = r.auto.work ∙ l.invariant.1 in (
       rounding_next _ _ _ _ _ _ _ _ _ _ _ _ _ _ _ _ _ _ _ l.invariant.0 c.loop-i-test.true _ _ _ _ r.ensures.round_as d (r.ensures.onto_next.0 d) r.ensures.onto_next.1 r.ensures.onto_next.2
           (rows_now r.new.work c.args.work.now _ _ _ _ _ (sym kw) r.ensures.onto_next.3),

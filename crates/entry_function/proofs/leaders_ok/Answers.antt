@@ -10,10 +10,10 @@ loop-i-init c = each_start _ _ _
 
 pub returns-then-not-leads_at : goal.returns-then-not-leads_at
 unfolding values_at rows_at
-returns-then-not-leads_at c = each_stop _ c.loop-i.invariant (omega arith) c.leads_at.ensures c.if-not-leads_at.true
+returns-then-not-leads_at c = each_stop _ c.loop-i.invariant (omega arith) c.leads_at.ensures c.if-not-leads_at.true-raw
 
 pub loop-i-preserved : goal.loop-i-preserved
-loop-i-preserved c = each_next _ c.loop-i.invariant (omega arith) c.leads_at.ensures c.if-not-leads_at.false
+loop-i-preserved c = each_next _ c.loop-i.invariant (omega arith) c.leads_at.ensures c.if-not-leads_at.false-raw
 
 pub returns : goal.returns
 unfolding values_at rows_at

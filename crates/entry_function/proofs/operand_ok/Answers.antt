@@ -16,19 +16,19 @@ pub returns-then-classes-class : goal.returns-then-classes-class
 returns-then-classes-class c = operand_class _ _ _ _ _ c.Operand-at.ensures c.requires.1 c.if-count-o.false c.if-o-ge65536.false c.if-groups-group.false c.if-classes-class.true
 
 pub overflow_add-lay-2 : goal.overflow_add-lay-2
-overflow_add-lay-2 c = omega (arith, c.requires.0.classes, c.well-formed)
+overflow_add-lay-2 c = omega (arith, c.requires.0.classes, c.well_formed)
 
 pub overflow_add-lay-3 : goal.overflow_add-lay-3
-overflow_add-lay-3 c = omega (arith, c.requires.0.classes, c.well-formed)
+overflow_add-lay-3 c = omega (arith, c.requires.0.classes, c.well_formed)
 
 pub word_at-size-requires : goal.word_at-size-requires
-word_at-size-requires c = omega (arith, c.requires.0.classes, c.well-formed)
+word_at-size-requires c = omega (arith, c.requires.0.classes, c.well_formed)
 
 pub overflow_add-lay-4 : goal.overflow_add-lay-4
-overflow_add-lay-4 c = omega (arith, c.requires.0.vgroups, c.well-formed)
+overflow_add-lay-4 c = omega (arith, c.requires.0.vgroups, c.well_formed)
 
 pub group_len-requires : goal.group_len-requires
-group_len-requires c = omega (arith, c.requires.0.vgroups, c.well-formed)
+group_len-requires c = omega (arith, c.requires.0.vgroups, c.well_formed)
 
 pub returns : goal.returns
 returns c = operand_by _ _ _ _ _ c.Operand-at.ensures c.requires.1 c.if-count-o.false c.if-o-ge65536.false c.if-groups-group.false c.if-classes-class.false

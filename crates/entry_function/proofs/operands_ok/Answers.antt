@@ -11,10 +11,10 @@ loop-i-init c = each_start _ _ _
 
 pub returns-then-not-operand_ok : goal.returns-then-not-operand_ok
 unfolding operands_at rows_at
-returns-then-not-operand_ok c = each_stop _ c.loop-i.invariant (omega arith) c.operand_ok.ensures c.if-not-operand_ok.true
+returns-then-not-operand_ok c = each_stop _ c.loop-i.invariant (omega arith) c.operand_ok.ensures c.if-not-operand_ok.true-raw
 
 pub loop-i-preserved : goal.loop-i-preserved
-loop-i-preserved c = each_next _ c.loop-i.invariant (omega arith) c.operand_ok.ensures c.if-not-operand_ok.false
+loop-i-preserved c = each_next _ c.loop-i.invariant (omega arith) c.operand_ok.ensures c.if-not-operand_ok.false-raw
 
 pub returns : goal.returns
 unfolding operands_at rows_at

@@ -11,10 +11,10 @@ loop-i-init c = each_start _ _ _
 
 pub returns-then-not-vgroup_ok : goal.returns-then-not-vgroup_ok
 unfolding vgroups_at rows_at
-returns-then-not-vgroup_ok c = each_stop _ c.loop-i.invariant (omega arith) c.vgroup_ok.ensures c.if-not-vgroup_ok.true
+returns-then-not-vgroup_ok c = each_stop _ c.loop-i.invariant (omega arith) c.vgroup_ok.ensures c.if-not-vgroup_ok.true-raw
 
 pub loop-i-preserved : goal.loop-i-preserved
-loop-i-preserved c = each_next _ c.loop-i.invariant (omega arith) c.vgroup_ok.ensures c.if-not-vgroup_ok.false
+loop-i-preserved c = each_next _ c.loop-i.invariant (omega arith) c.vgroup_ok.ensures c.if-not-vgroup_ok.false-raw
 
 pub returns : goal.returns
 unfolding vgroups_at rows_at

@@ -10,10 +10,10 @@ loop-i-init c = each_start _ _ _
 
 pub returns-then-not-hint_known : goal.returns-then-not-hint_known
 unfolding rows_at
-returns-then-not-hint_known c = each_stop _ c.loop-i.invariant (omega arith) c.hint_known.ensures c.if-not-hint_known.true
+returns-then-not-hint_known c = each_stop _ c.loop-i.invariant (omega arith) c.hint_known.ensures c.if-not-hint_known.true-raw
 
 pub loop-i-preserved : goal.loop-i-preserved
-loop-i-preserved c = each_next _ c.loop-i.invariant (omega arith) c.hint_known.ensures c.if-not-hint_known.false
+loop-i-preserved c = each_next _ c.loop-i.invariant (omega arith) c.hint_known.ensures c.if-not-hint_known.false-raw
 
 pub returns : goal.returns
 unfolding rows_at

@@ -7,7 +7,7 @@ pub returns-then-o-class : goal.returns-then-o-class
 returns-then-o-class c = fits_class _ _ c.requires.0.passed _ c.requires.1 _ c.Operand-at.ensures _ _ _ c.if-o-class.true
 
 pub overflow_add-group : goal.overflow_add-group
-overflow_add-group c = omega (arith, group_there _ _ c.requires.0.passed _ c.requires.1 _ c.Operand-at.ensures, c.requires.0.fits.vgroups, c.well-formed)
+overflow_add-group c = omega (arith, group_there _ _ c.requires.0.passed _ c.requires.1 _ c.Operand-at.ensures, c.requires.0.fits.vgroups, c.well_formed)
 
 pub group_len-requires : goal.group_len-requires
 group_len-requires c = omega (arith, group_there _ _ c.requires.0.passed _ c.requires.1 _ c.Operand-at.ensures, c.requires.0.fits.vgroups)

@@ -7,10 +7,10 @@ pub loop-i-init : goal.loop-i-init
 loop-i-init c = chain_start _ _ _
 
 pub returns-then-not-next_behind : goal.returns-then-not-next_behind
-returns-then-not-next_behind c = chain_stop _ c.loop-i.invariant (omega arith) c.next_behind.ensures c.if-not-next_behind.true
+returns-then-not-next_behind c = chain_stop _ c.loop-i.invariant (omega arith) c.next_behind.ensures c.if-not-next_behind.true-raw
 
 pub loop-i-preserved : goal.loop-i-preserved
-loop-i-preserved c = chain_next _ c.loop-i.invariant (omega arith) c.next_behind.ensures c.if-not-next_behind.false
+loop-i-preserved c = chain_next _ c.loop-i.invariant (omega arith) c.next_behind.ensures c.if-not-next_behind.false-raw
 
 pub returns : goal.returns
 returns c = chain_done c.loop-i.invariant (omega arith)

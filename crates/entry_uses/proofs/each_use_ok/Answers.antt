@@ -2,6 +2,7 @@ use native.Mathlib.Omega.{arith}
 use Prim.Native.Nat.{◌-◌}
 use Rattle.entry_function.proofs.Scans.{each_start, each_next, each_stop, each_done}
 use Rattle.rows.specs.RowsAt.{rows_at}
+use Rattle.definition.specs.Entry.{use_ok}
 use Rattle.entry_uses.proofs.each_use_ok.Goals as goal
 
 pub loop-i-init : goal.loop-i-init
@@ -9,10 +10,10 @@ loop-i-init c = each_start _ _ _
 
 pub returns-then-not-use_ok : goal.returns-then-not-use_ok
 unfolding rows_at
-returns-then-not-use_ok c = each_stop _ c.loop-i.invariant (omega arith) c.use_ok_lem.ensures c.if-not-use_ok.true
+returns-then-not-use_ok c = each_stop _ c.loop-i.invariant (omega arith) c.use_ok.ensures c.if-not-use_ok.true-raw
 
 pub loop-i-preserved : goal.loop-i-preserved
-loop-i-preserved c = each_next _ c.loop-i.invariant (omega arith) c.use_ok_lem.ensures c.if-not-use_ok.false
+loop-i-preserved c = each_next _ c.loop-i.invariant (omega arith) c.use_ok.ensures c.if-not-use_ok.false-raw
 
 pub returns : goal.returns
 unfolding rows_at

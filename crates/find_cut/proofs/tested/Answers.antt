@@ -11,7 +11,7 @@ pub returns-then-total-gt4096 : goal.returns-then-total-gt4096
 returns-then-total-gt4096 c = long _ _ _ _ c.count_insts-total.ensures c.if-total-gt4096.true
 
 pub returns-then-not-blocks_ok : goal.returns-then-not-blocks_ok
-returns-then-not-blocks_ok c = bad _ _ _ _ c.if-blocks-gt512.false c.count_insts-total.ensures c.if-total-gt4096.false (sym (not-true _ c.if-not-blocks_ok.true) ∙ c.blocks_ok.ensures)
+returns-then-not-blocks_ok c = bad _ _ _ _ c.if-blocks-gt512.false c.count_insts-total.ensures c.if-total-gt4096.false (sym (not-true _ c.if-not-blocks_ok.true-raw) ∙ c.blocks_ok.ensures)
 
 pub returns-then-before-after : goal.returns-then-before-after
 returns-then-before-after c = unordered _ _ _ _ c.if-blocks-gt512.false c.count_insts-total.ensures c.if-total-gt4096.false c.if-before-after.true
@@ -20,4 +20,4 @@ pub returns-then-total-before : goal.returns-then-total-before
 returns-then-total-before c = past _ _ _ _ c.if-blocks-gt512.false c.count_insts-total.ensures c.if-total-gt4096.false c.if-total-before.true
 
 pub returns : goal.returns
-returns c = passing _ _ _ _ c.if-blocks-gt512.false c.count_insts-total.ensures c.if-total-gt4096.false (sym (not-false _ c.if-not-blocks_ok.false) ∙ c.blocks_ok.ensures) c.if-before-after.false c.if-total-before.false
+returns c = passing _ _ _ _ c.if-blocks-gt512.false c.count_insts-total.ensures c.if-total-gt4096.false (sym (not-false _ c.if-not-blocks_ok.false-raw) ∙ c.blocks_ok.ensures) c.if-before-after.false c.if-total-before.false

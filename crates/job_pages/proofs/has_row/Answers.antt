@@ -19,7 +19,7 @@ returns-then-key-eq10 c = simp (
       ne_eqb _ _ c.if-key-eq0.false,
       le-ltb _ _ c.if-key-gt10.false,
       eq-eqb _ _ c.if-key-eq10.true,
-      sym c.uses_end_lem.ensures,
+      sym c.uses_end.ensures,
     )
 
 pub returns : goal.returns

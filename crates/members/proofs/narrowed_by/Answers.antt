@@ -7,10 +7,10 @@ pub loop-i-init : goal.loop-i-init
 loop-i-init c = narrow_start _ _ _ _ _
 
 pub returns-in_default : goal.returns-in_default
-returns-in_default c = narrow_stop c.loop-i.invariant _ _ c.place_word_lem.ensures c.narrow.ensures c.in_default.is
+returns-in_default c = narrow_stop c.loop-i.invariant _ _ c.place_word-w.ensures c.narrow.ensures c.in_default.is
 
 pub loop-i-preserved : goal.loop-i-preserved
-loop-i-preserved c = narrow_next c.loop-i.invariant _ _ c.place_word_lem.ensures c.narrow.ensures _ c.in-Class.is
+loop-i-preserved c = narrow_next c.loop-i.invariant _ _ c.place_word-w.ensures c.narrow.ensures _ c.in-Class.is
 
 pub returns : goal.returns
 returns c = narrow_end c.loop-i.invariant (omega arith)

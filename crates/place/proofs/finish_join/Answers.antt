@@ -14,7 +14,7 @@ set_member-requires c = (search rules, c.requires.3.here, search rules, omega (a
 
 pub returns : goal.returns
 returns c = let p = c.add_register-n.ensures in
-    let l = c.least_weight_lem.ensures in
+    let l = c.least_weight-least.ensures in
     let w = c.weight_of_pieces-w.ensures in (
       p.0,
       λ O st ps h hg r ek ei here hi.

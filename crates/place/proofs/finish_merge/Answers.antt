@@ -4,7 +4,7 @@ use Rattle.place.proofs.finish_merge.Goals as goal
 
 
 pub returns : goal.returns
-returns c = let l = c.least_weight_lem.ensures in
+returns c = let l = c.least_weight-weight.ensures in
     let w = c.weight_of_pieces-w.ensures in
     let q = c.pieces_of-s.ensures in (
       refl,

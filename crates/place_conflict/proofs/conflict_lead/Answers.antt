@@ -19,17 +19,17 @@ map_conflict-requires c = let k = c.requires.1 in
 
 pub returns-then-not-map_conflict : goal.returns-then-not-map_conflict
 returns-then-not-map_conflict c = λ st h hg sd ec sane eh ei.
-    lead_stopped _ _ _ _ _ _ _ st _ h _ _ hg _ _ _ (ap (λ (x : Counts). x.groups) ec) (c.map_conflict.ensures c.args.value c.args.pos (param_by c.args.param)) sd.mapped (not-true _ c.if-not-map_conflict.true) refl
+    lead_stopped _ _ _ _ _ _ _ st _ h _ _ hg _ _ _ (ap (λ (x : Counts). x.groups) ec) (c.map_conflict.ensures c.args.value c.args.pos (param_by c.args.param)) sd.mapped (not-true _ c.if-not-map_conflict.true-raw) refl
 
 pub returns-then-not-has_room : goal.returns-then-not-has_room
 returns-then-not-has_room c = λ st h hg sd ec sane eh ei.
-    lead_full _ _ _ _ _ _ _ st _ h _ _ hg _ _ _ (ap (λ (x : Counts). x.groups) ec) (c.map_conflict.ensures c.args.value c.args.pos (param_by c.args.param)) sd.mapped (not-false _ c.if-not-map_conflict.false)
-    (asks_full _ _ _ _ _ _ _ _ _ _ _ _ _ _ c.requires.1 c.args.value c.args.param _ _ _ _ c.has_room.ensures c.use_count-nu.ensures c.if-not-has_room.true st ec) refl
+    lead_full _ _ _ _ _ _ _ st _ h _ _ hg _ _ _ (ap (λ (x : Counts). x.groups) ec) (c.map_conflict.ensures c.args.value c.args.pos (param_by c.args.param)) sd.mapped (not-false _ c.if-not-map_conflict.false-raw)
+    (asks_full _ _ _ _ _ _ _ _ _ _ _ _ _ _ c.requires.1 c.args.value c.args.param _ _ _ _ c.has_room.ensures c.use_count-nu.ensures c.if-not-has_room.true-raw st ec) refl
 
 pub write_conflict-requires : goal.write_conflict-requires
 write_conflict-requires c = let k = c.requires.1 in
     let e = c.use_count-nu.ensures in
-    let f = asks_fit _ _ _ _ _ _ _ _ _ _ _ _ _ _ k c.args.value c.args.param _ _ _ _ c.has_room.ensures e c.if-not-has_room.false in
+    let f = asks_fit _ _ _ _ _ _ _ _ _ _ _ _ _ _ k c.args.value c.args.param _ _ _ _ c.has_room.ensures e c.if-not-has_room.false-raw in
     let i = asks_inst _ _ _ _ _ _ _ _ _ _ _ _ _ _ k c.args.value c.args.param in
     let o = (c.map_conflict.ensures c.args.value c.args.pos (param_by c.args.param)).outside in
     ((k.ready.fits, rows_ok _ _ _ _ o k.apart _ _ _ _ (omega (arith, c.map_conflict)) k.rows, k.long), (omega (arith, f.1), omega (arith, e, f.2), omega (arith, e, f.2, k.small.2), omega (arith, i)))
@@ -37,11 +37,11 @@ write_conflict-requires c = let k = c.requires.1 in
 pub finish_lead-n-requires : goal.finish_lead-n-requires
 finish_lead-n-requires c = let k = c.requires.1 in
     let e = c.use_count-nu.ensures in
-    let f = asks_fit _ _ _ _ _ _ _ _ _ _ _ _ _ _ k c.args.value c.args.param _ _ _ _ c.has_room.ensures e c.if-not-has_room.false in
+    let f = asks_fit _ _ _ _ _ _ _ _ _ _ _ _ _ _ k c.args.value c.args.param _ _ _ _ c.has_room.ensures e c.if-not-has_room.false-raw in
     let o = (c.map_conflict.ensures c.args.value c.args.pos (param_by c.args.param)).outside in (
       weighable_kept _ _ _ _ _ _ _ c.requires.0 (ready_kept _ _ _ _ o k.apart _ _ _ k.ready) (omega (arith, c.map_conflict)),
       omega (arith, c.write_conflict, k.long),
-      asks_space _ _ _ _ _ _ _ _ _ _ _ _ _ _ k c.args.value c.args.param _ _ _ c.has_room.ensures e c.if-not-has_room.false,
+      asks_space _ _ _ _ _ _ _ _ _ _ _ _ _ _ k c.args.value c.args.param _ _ _ c.has_room.ensures e c.if-not-has_room.false-raw,
       omega (arith, f.3),
       asks_groups _ _ _ _ _ _ _ _ _ _ _ _ _ _ k c.args.value c.args.param,
       omega (arith, c.requires.2, c.requires.3),
@@ -52,7 +52,7 @@ returns c = let k = c.requires.1 in
     let e = c.use_count-nu.ensures in
     let m = c.map_conflict.ensures c.args.value c.args.pos (param_by c.args.param) in
     λ st h hg sd ec sane eh ei.
-    lead_done _ _ _ _ _ _ _ st _ h _ _ hg _ _ _ (ap (λ (x : Counts). x.groups) ec) m sd.mapped (not-false _ c.if-not-map_conflict.false) sane (asks_fair _ _ _ _ _ _ _ _ _ _ _ _ _ _ k c.args.value c.args.param)
-    (asks_room _ _ _ _ _ _ _ _ _ _ _ _ _ _ k c.args.value c.args.param _ _ _ _ c.has_room.ensures e c.if-not-has_room.false st ec)
+    lead_done _ _ _ _ _ _ _ st _ h _ _ hg _ _ _ (ap (λ (x : Counts). x.groups) ec) m sd.mapped (not-false _ c.if-not-map_conflict.false-raw) sane (asks_fair _ _ _ _ _ _ _ _ _ _ _ _ _ _ k c.args.value c.args.param)
+    (asks_room _ _ _ _ _ _ _ _ _ _ _ _ _ _ k c.args.value c.args.param _ _ _ _ c.has_room.ensures e c.if-not-has_room.false-raw st ec)
     (λ ms.
     c.finish_lead-n.ensures.1 _ st _ h hg ms (asks_ready _ _ _ _ _ _ _ _ _ _ _ _ _ _ k c.args.value c.args.param _ _ st sd.tables ec (c.write_conflict.ensures _ (rows_kept _ _ _ _ m.outside k.apart _ _ _)) e) eh ei c.requires.2 c.requires.3) refl

@@ -13,16 +13,16 @@ overflow_sub-nu c = first_le_end _ _ _ c.requires.0.part
 
 pub returns-then-not-has_room : goal.returns-then-not-has_room
 returns-then-not-has_room c = let a = c.requires.0 in
-    λ st q hf f. join_full _ _ _ _ _ _ _ _ _ st _ _ _ _ _ _ q (sym (said_at _ _ _ _ _ st _ _ _ _ _ a.part q.counts c.has_room.ensures) ∙ not-true c.has_room.result c.if-not-has_room.true) refl
+    λ st q hf f. join_full _ _ _ _ _ _ _ _ _ st _ _ _ _ _ _ q (sym (said_at _ _ _ _ _ st _ _ _ _ _ a.part q.counts c.has_room.ensures) ∙ not-true c.has_room.result c.if-not-has_room.true-raw) refl
 
 pub write_part-requires : goal.write_part-requires
 write_part-requires c = let a = c.requires.0 in
-    ((a.ready.fits, a.part, a.ready.marks, a.long), asked_write _ _ _ _ _ _ _ _ _ _ _ _ a _ _ c.has_room.ensures (not-false c.has_room.result c.if-not-has_room.false))
+    ((a.ready.fits, a.part, a.ready.marks, a.long), asked_write _ _ _ _ _ _ _ _ _ _ _ _ a _ _ c.has_room.ensures (not-false c.has_room.result c.if-not-has_room.false-raw))
 
 pub finish_join-n-requires : goal.finish_join-n-requires
 finish_join-n-requires c = let p = c.requires in
     let a = p.0 in
-    let yes = not-false c.has_room.result c.if-not-has_room.false in (
+    let yes = not-false c.has_room.result c.if-not-has_room.false-raw in (
       weighable _ _ _ _ a.ready a.book,
       omega (arith, a.long, c.write_part),
       asked_space _ _ _ _ _ _ _ _ _ _ _ _ a _ _ c.has_room.ensures yes,
@@ -34,7 +34,7 @@ finish_join-n-requires c = let p = c.requires in
 pub returns : goal.returns
 returns c = let p = c.requires in
     let a = p.0 in
-    let yes = not-false c.has_room.result c.if-not-has_room.false in
+    let yes = not-false c.has_room.result c.if-not-has_room.false-raw in
     λ st q hf f.
     join_done _ _ _ _ _ _ _ _ _ st _ _ _ _ _ _ q (sym (said_at _ _ _ _ _ st _ _ _ _ _ a.part q.counts c.has_room.ensures) ∙ yes) refl f
     (c.finish_join-n.ensures.1 _ st _ _ _ (part_ready _ _ _ _ _ _ st _ _ _ _ _ q.stands.tables q.counts a.part f c.write_part.ensures c.hint_in_part-hint.ensures) (held_class _) refl (hf.group p.1 _ p.2).0 (hf.group p.1 _ p.2).1)

@@ -14,7 +14,7 @@ map_part-requires c = let a = c.requires.0 in
 
 pub returns-then-not-map_part : goal.returns-then-not-map_part
 returns-then-not-map_part c = λ st q hf f.
-    lead_stopped _ _ _ _ _ _ _ _ _ _ st _ _ _ _ _ q c.map_part.ensures (not-true c.map_part.result c.if-not-map_part.true) refl
+    lead_stopped _ _ _ _ _ _ _ _ _ _ st _ _ _ _ _ q c.map_part.ensures (not-true c.map_part.result c.if-not-map_part.true-raw) refl
 
 pub put_lead-requires : goal.put_lead-requires
 put_lead-requires c = let p = c.requires in
@@ -24,4 +24,4 @@ pub returns : goal.returns
 returns c = let a = c.requires.0 in
     let m = c.map_part in
     λ st q hf f.
-    lead_put _ _ _ _ _ _ _ _ _ _ st _ _ _ _ _ q m.ensures (not-false m.result c.if-not-map_part.false) hf f (pieces_kept _ _ _ _ _ _ m.ensures.outside a.apart) c.put_lead.ensures
+    lead_put _ _ _ _ _ _ _ _ _ _ st _ _ _ _ _ q m.ensures (not-false m.result c.if-not-map_part.false-raw) hf f (pieces_kept _ _ _ _ _ _ m.ensures.outside a.apart) c.put_lead.ensures

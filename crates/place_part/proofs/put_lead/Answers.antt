@@ -12,16 +12,16 @@ overflow_sub-nu c = first_le_end _ _ _ c.requires.0.part
 
 pub returns-then-not-has_room : goal.returns-then-not-has_room
 returns-then-not-has_room c = let a = c.requires.0 in
-    λ st ms hs ec hf f. room_ends_full _ _ _ _ _ _ (said_at _ _ _ _ _ st _ _ _ _ _ a.part ec c.has_room.ensures) (not-true c.has_room.result c.if-not-has_room.true) refl
+    λ st ms hs ec hf f. room_ends_full _ _ _ _ _ _ (said_at _ _ _ _ _ st _ _ _ _ _ a.part ec c.has_room.ensures) (not-true c.has_room.result c.if-not-has_room.true-raw) refl
 
 pub write_part-requires : goal.write_part-requires
 write_part-requires c = let a = c.requires.0 in
-    ((a.ready.fits, a.part, a.ready.marks, a.long), asked_write _ _ _ _ _ _ _ _ _ _ _ _ a _ _ c.has_room.ensures (not-false c.has_room.result c.if-not-has_room.false))
+    ((a.ready.fits, a.part, a.ready.marks, a.long), asked_write _ _ _ _ _ _ _ _ _ _ _ _ a _ _ c.has_room.ensures (not-false c.has_room.result c.if-not-has_room.false-raw))
 
 pub finish_lead-n-requires : goal.finish_lead-n-requires
 finish_lead-n-requires c = let p = c.requires in
     let a = p.0 in
-    let yes = not-false c.has_room.result c.if-not-has_room.false in (
+    let yes = not-false c.has_room.result c.if-not-has_room.false-raw in (
       weighable _ _ _ _ a.ready a.book,
       omega (arith, a.long, c.write_part),
       asked_space _ _ _ _ _ _ _ _ _ _ _ _ a _ _ c.has_room.ensures yes,
@@ -33,7 +33,7 @@ finish_lead-n-requires c = let p = c.requires in
 pub returns : goal.returns
 returns c = let p = c.requires in
     let a = p.0 in
-    let yes = not-false c.has_room.result c.if-not-has_room.false in
+    let yes = not-false c.has_room.result c.if-not-has_room.false-raw in
     λ st ms hs ec hf f.
     room_ends_done _ _ _ _ _ _ (said_at _ _ _ _ _ st _ _ _ _ _ a.part ec c.has_room.ensures) yes refl
     (c.finish_lead-n.ensures.1 _ st _ _ _ ms (part_ready _ _ _ _ _ _ st _ _ _ _ _ hs ec a.part f c.write_part.ensures c.hint_in_part-hint.ensures) (held_class _) refl (hf.index p.1).0 (hf.index p.1).1)

@@ -17,5 +17,5 @@ pub use_line-requires : goal.use_line-requires
 use_line-requires c = (search rules, omega (arith, length-take-le c.use_length-k.result c.args.row.now (omega (arith, c.use_length-k.ensures.1, c.requires.1)), c.use_length-k.ensures.1))
 
 pub returns : goal.returns
-returns c = as_text 256 _ c.use_line_lem.ensures (omega arith)
+returns c = as_text 256 _ c.use_line.ensures (omega arith)
     (ap (λ (k : ℕ). use_numbers_line (take k c.args.row.now)) c.use_length-k.ensures.0 ∙ use_text_lem c.args.row.now c.requires.1 c.requires.2)

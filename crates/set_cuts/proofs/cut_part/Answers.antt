@@ -4,7 +4,7 @@ use Rattle.set_cuts.proofs.cut_part.Goals as goal
 
 
 pub overflow_mul-q : goal.overflow_mul-q
-overflow_mul-q c = omega (arith, c.well-formed.1.1.0, c.requires.3)
+overflow_mul-q c = omega (arith, c.well_formed.1.1.0, c.requires.3)
 
 pub first_past-k-requires : goal.first_past-k-requires
 first_past-k-requires c = let pre = c.requires in (pre.0, pre.1.order, pre.1.within)

@@ -24,17 +24,17 @@ same_text-requires c = c.loop-cur.invariant.1.within
 
 pub overflow_add-at : goal.overflow_add-at
 overflow_add-at c = let p = c.page-page in
-    let h : c.loop-cur.at + p.result.n ≤ length c.args.answer.now = agreed_within _ _ _ _ _ _ _ _ p.ensures (follows _ _ _ c.loop-cur.invariant.1.within (sym c.same_text.ensures ∙ not-false _ c.if-not-same_text.false)) in
-    omega (arith, h, c.well-formed)
+    let h : c.loop-cur.at + p.result.n ≤ length c.args.answer.now = agreed_within _ _ _ _ _ _ _ _ p.ensures (follows _ _ _ c.loop-cur.invariant.1.within (sym c.same_text.ensures ∙ not-false _ c.if-not-same_text.false-raw)) in
+    omega (arith, h, c.well_formed)
 
 pub returns-then-not-same_text : goal.returns-then-not-same_text
-returns-then-not-same_text c = agreed_differs _ _ _ _ _ _ _ _ c.loop-cur.invariant.1 c.page-page.ensures (sym c.same_text.ensures ∙ not-true _ c.if-not-same_text.true)
+returns-then-not-same_text c = agreed_differs _ _ _ _ _ _ _ _ c.loop-cur.invariant.1 c.page-page.ensures (sym c.same_text.ensures ∙ not-true _ c.if-not-same_text.true-raw)
 
 pub loop-cur-smaller : goal.loop-cur-smaller
 loop-cur-smaller c = c.page-page.ensures.fewer (not-true _ c.loop-cur-test.true)
 
 pub loop-cur-preserved : goal.loop-cur-preserved
-loop-cur-preserved c = (search rules, agreed_next _ _ _ _ _ _ _ _ c.loop-cur.invariant.1 c.page-page.ensures (follows _ _ _ c.loop-cur.invariant.1.within (sym c.same_text.ensures ∙ not-false _ c.if-not-same_text.false)))
+loop-cur-preserved c = (search rules, agreed_next _ _ _ _ _ _ _ _ c.loop-cur.invariant.1 c.page-page.ensures (follows _ _ _ c.loop-cur.invariant.1.within (sym c.same_text.ensures ∙ not-false _ c.if-not-same_text.false-raw)))
 
 pub returns : goal.returns
 returns c = agreed_all _ _ _ _ _ _ c.loop-cur.invariant.1 (not-false _ c.loop-cur-test.false)

@@ -20,13 +20,13 @@ returns-then-not-as_implied c = let p = c.enter_prepared-e in
     let e = p.ensures in
     tested_ten _ _ _ _ _ p.result e.0.0 e.0.1 c.if-e-ne0.false
     c.if-second.true _ c.as_implied.ensures
-    (not-true _ c.if-not-as_implied.true) _ c.refuse.ensures
+    (not-true _ c.if-not-as_implied.true-raw) _ c.refuse.ensures
 
 pub returns-else-not-as_implied : goal.returns-else-not-as_implied
 returns-else-not-as_implied c = let e = c.enter_prepared-e.ensures in
     let z = c.if-e-ne0.false in
     tested_second _ _ _ _ _ _ e.0.0 e.0.1 z (e.1 z) c.if-second.true _
-    c.as_implied.ensures (not-false _ c.if-not-as_implied.false)
+    c.as_implied.ensures (not-false _ c.if-not-as_implied.false-raw)
 
 pub returns-else-second : goal.returns-else-second
 returns-else-second c = let e = c.enter_prepared-e.ensures in

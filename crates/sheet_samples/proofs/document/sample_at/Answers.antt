@@ -12,7 +12,7 @@ returns-then-not-stands-2 c = let b = c.sheet_of-b in
     (alone_inside c.single-then-not-stands-2.result _ _ c.single-then-not-stands-2.ensures b.ensures.0, omega (arith, c.single-then-not-stands-2.ensures.0, b.ensures.1))
 
 pub block_at-a-requires : goal.block_at-a-requires
-block_at-a-requires c = omega (arith, c.stands-2.ensures (passed _ c.if-not-stands-2.false))
+block_at-a-requires c = omega (arith, c.stands-2.ensures (passed _ c.if-not-stands-2.false-raw))
 
 pub returns : goal.returns
 returns c = let b = c.sheet_of-b in
