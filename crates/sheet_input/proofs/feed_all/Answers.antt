@@ -11,10 +11,10 @@ pub read-r-requires : goal.read-r-requires
 read-r-requires g c = c.loop-turns.invariant.3.bound
 
 pub returns-then-r : goal.returns-then-r
-returns-then-r g c = taken_from _ _ _ _ _ _ _ _ c.«open».ensures (taking_failed _ _ _ _ _ _ _ _ _ c.loop-turns.invariant.3 c.read-r.ensures c.if-r.true (c.read-r.ensures.once.nothing c.if-r.true))
+returns-then-r g c = taken_from _ _ _ _ _ _ _ _ c.open-cur.ensures (taking_failed _ _ _ _ _ _ _ _ _ c.loop-turns.invariant.3 c.read-r.ensures c.if-r.true (c.read-r.ensures.once.nothing c.if-r.true))
 
 pub returns-then-n-eq0 : goal.returns-then-n-eq0
-returns-then-n-eq0 g c = taken_from _ _ _ _ _ _ _ _ c.«open».ensures
+returns-then-n-eq0 g c = taken_from _ _ _ _ _ _ _ _ c.open-cur.ensures
     (taking_end _ _ _ _ _ _ _ _ _ c.loop-turns.invariant.3 c.read-r.ensures c.if-r.false c.if-n-eq0.true
     (omega (arith, c.buf-1.given, c.loop-turns.invariant.0, c.requires.1)))
 
@@ -34,4 +34,4 @@ loop-turns-preserved g c = (
 )
 
 pub returns : goal.returns
-returns g c = taken_from _ _ _ _ _ _ _ _ c.«open».ensures (taking_out _ _ _ _ _ _ _ c.loop-turns.invariant.3 c.loop-turns-test.false)
+returns g c = taken_from _ _ _ _ _ _ _ _ c.open-cur.ensures (taking_out _ _ _ _ _ _ _ c.loop-turns.invariant.3 c.loop-turns-test.false)
