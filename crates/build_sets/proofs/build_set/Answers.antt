@@ -20,9 +20,9 @@ pub conflicts-requires : goal.conflicts-requires
 conflicts-requires c = let p = c.requires in
     let r = c.build_part-r in
     let o = r.ensures in
-    set_turns _ _ _ _ _ _ _ _ _ _ _ _ p _ c.whole_part-sp.ensures _ _ c.set_at-set.ensures c.top_at-top.ensures _ _ _ o.0.0 o.1 _ _
+    set_turns _ _ _ _ _ _ _ _ _ _ _ _ p _ c.whole_part-sp.ensures _ _ c.set_at-set.ensures c.top_at-top.ensures _ _ _ o.changed.0 o.built_fit _ _
     (ap (λ (n : ℕ). n / 4) (sym r.auto.work)) (ap (λ (n : ℕ). n / 4) (sym r.auto.out))
-    (done_is _ _ c.is_done.ensures c.if-not-is_done.false-raw) o.0.1
+    (done_is _ _ c.is_done.ensures c.if-not-is_done.false-raw) o.changed.1
 
 pub returns : goal.returns
 returns c = let p = c.requires in
