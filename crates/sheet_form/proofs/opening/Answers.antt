@@ -9,7 +9,7 @@ returns-then-k-lt6 c = opening_more _ _ _ _ _ c.form_byte.ensures c.push-more.en
 
 pub returns-then-form_byte-b : goal.returns-then-form_byte-b
 returns-then-form_byte-b c = opening_whole _ _ _ _ _ c.form_byte.ensures c.if-form_byte-b.true c.if-k-lt6.false
-    (open_same _ _ _ (ap (λ (n : ℕ). n / 4) c.push-more.auto.out) c.«open».ensures)
+    (open_same _ _ _ (ap (λ (n : ℕ). n / 4) c.push-more.auto.out) c.open-anew.ensures)
 
 pub returns : goal.returns
 returns c = opening_first _ _ _ _ _ c.form_byte.ensures c.push-more.ensures c.if-form_byte-b.false

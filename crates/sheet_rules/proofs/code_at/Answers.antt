@@ -19,3 +19,6 @@ overflow_add-i c = omega (arith, c.form_row.ensures, form_row_lt c.args.key c.ar
 pub returns : goal.returns
 unfolding code_at forms
 returns c = simp (le-ltb _ _ c.if-n-gt10.false, sym c.form_row.ensures)
+
+pub bounds-i : goal.bounds-i
+bounds-i c = omega (arith, c.form_row.ensures, form_row_lt c.args.key c.args.kind c.args.n, c.if-n-gt10.false)
