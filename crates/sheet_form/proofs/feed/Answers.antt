@@ -14,10 +14,10 @@ returns-then-is_first c = run_rest c.loop-i.at _ _ _ _ _ c.args.part.now c.loop-
 
 pub loop-i-preserved : goal.loop-i-preserved
 loop-i-preserved c = (
-      search rules,
-      search rules,
-      c.loop-i.invariant.2 ∙ run_more _ _ _ _ c.loop-i-test.true c.push-at.ensures,
-    )
+  search rules,
+  search rules,
+  c.loop-i.invariant.2 ∙ run_more _ _ _ _ c.loop-i-test.true c.push-at.ensures,
+)
 
 pub returns : goal.returns
 returns c = sym (c.loop-i.invariant.2 ∙ run_done _ _ _ c.loop-i-test.false)

@@ -3,7 +3,6 @@ use mathlib.Core.Path.{ap}
 use Prim.Native.Nat.{ℕ, ◌/◌}
 use Rattle.sheet_form.proofs.opening.Goals as goal
 
-
 pub returns-then-k-lt6 : goal.returns-then-k-lt6
 returns-then-k-lt6 c = opening_more _ _ _ _ _ c.form_byte.ensures c.push-more.ensures c.if-form_byte-b.true c.if-k-lt6.true
 

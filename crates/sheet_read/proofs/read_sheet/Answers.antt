@@ -5,7 +5,6 @@ use Rattle.sheet_read.specs.Laws.{Went, went, read_sheet, no_sheet, crowded_shee
 use borrow.Author.Rules.{rules}
 use Rattle.sheet_read.proofs.read_sheet.Goals as goal
 
-
 pub returns-in-Read : goal.returns-in-Read
 returns-in-Read c =
     let b : (i : ℕ) → get_or c.args.sheet.now i 0 < 256 = λ i. omega (arith, c.shared_slice_known-1.given i) in

@@ -5,7 +5,6 @@ use mathlib.Core.Path.{sym}
 use Rattle.sheet_rules.specs.Rules.{code_at, forms}
 use Rattle.sheet_rules.proofs.code_at.Goals as goal
 
-
 pub returns-then-n-gt10 : goal.returns-then-n-gt10
 unfolding code_at forms
 returns-then-n-gt10 c = simp (lt-ltb _ _ c.if-n-gt10.true)
