@@ -62,7 +62,7 @@ module _ (side : Side) (f g : ℕ → ℕ) (c : ℕ) where
       let t = tie side i c in
       ap (λ (z : ℕ). edge_of side f c (cond (not (eqb i c) && ltb (z + t) e) (z + t) e) (suc i) k)
       (h i (omega arith) (omega arith))
-      ∙ edge_ext _ (suc i) k (λ j l u. h j (omega arith) (omega arith))
+      ∙ edge_ext (cond (not (eqb i c) && ltb (g i + t) e) (g i + t) e) (suc i) k (λ j l u. h j (omega arith) (omega arith))
 
   move_ext : (e i : ℕ) → f c ≡ g c → f i ≡ g i → move_of side f c e i ≡ move_of side g c e i
   move_ext e i p q = λ x. cond (eqb i c) (up x) (down x)

@@ -16,4 +16,4 @@ build_entered-requires c = let p = c.requires in
 
 pub returns : goal.returns
 returns c = let e = c.enter_prepared-e.ensures in
-    answered_entry _ _ _ _ _ _ _ _ e.0.1 e.0.0 c.if-test-ne0.false c.build_entered.ensures
+    answered_entry _ _ _ _ _ _ _ _ e.number_value.1 e.number_value.0 c.if-test-ne0.false c.build_entered.ensures

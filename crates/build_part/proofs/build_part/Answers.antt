@@ -6,4 +6,6 @@ pub build_behind-requires : goal.build_behind-requires
 build_behind-requires c = part_ready _ _ _ _ c.frame_of-frame.ensures _ _ _ _ _ _ _ _ _ c.requires
 
 pub returns : goal.returns
-returns c = part_built _ _ _ _ c.frame_of-frame.ensures _ _ _ _ _ _ _ _ _ _ _ _ c.build_behind.ensures
+returns c =
+    let both = part_built _ _ _ _ c.frame_of-frame.ensures _ _ _ _ _ _ _ _ _ _ _ _ c.build_behind.ensures in
+    record { changed = both.0;  built_fit = both.1; }

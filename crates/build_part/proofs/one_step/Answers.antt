@@ -21,7 +21,9 @@ place_part-r-requires c = let g = c.requires in
 
 pub returns-in-Whole : goal.returns-in-Whole
 returns-in-Whole c = let g = c.requires in
-    step_whole g _ _ _ (λ st h. moves_whole _ _ _ _ _ g.laid.ok st _ _ (c.next_move-m.ensures st h) c.in-Whole.is) _ _ _ c.place_part-r.ensures _ c.over.ensures
+    let both =
+    step_whole g _ _ _ (λ st h. moves_whole _ _ _ _ _ g.laid.ok st _ _ (c.next_move-m.ensures st h) c.in-Whole.is) _ _ _ c.place_part-r.ensures _ c.over.ensures in
+    record { stepped = both.0;  step_to = both.1; }
 
 pub turn_one-requires : goal.turn_one-requires
 turn_one-requires c = let g = c.requires in
@@ -33,8 +35,10 @@ overflow_add-n c = let g = c.requires in omega (arith, g.laid.left, g.laid.turns
 
 pub returns-in-Turn : goal.returns-in-Turn
 returns-in-Turn c = let g = c.requires in
+    let both =
     step_turn g _ _ _ (λ st h. moves_turn _ _ _ _ _ g.laid.ok st _ _ (c.next_move-m.ensures st h) _ c.in-Turn.is ∙ ap turn (sym c.saturating_sub-i.ensures))
-    (sym (length_words _)) _ c.turn_one.ensures _ c.go_on.ensures
+    (sym (length_words _)) _ c.turn_one.ensures _ c.go_on.ensures in
+    record { stepped = both.0;  step_to = both.1; }
 
 pub step_cut-requires : goal.step_cut-requires
 step_cut-requires c = let g = c.requires in
@@ -42,4 +46,6 @@ step_cut-requires c = let g = c.requires in
 
 pub returns-in-Halt : goal.returns-in-Halt
 returns-in-Halt c = let g = c.requires in
-    step_halt g _ _ _ (λ st h. moves_halt _ _ _ _ _ g.laid.ok st _ _ (c.next_move-m.ensures st h) _ c.in-Halt.is) _ c.over-in-Halt.ensures
+    let both =
+    step_halt g _ _ _ (λ st h. moves_halt _ _ _ _ _ g.laid.ok st _ _ (c.next_move-m.ensures st h) _ c.in-Halt.is) _ c.over-in-Halt.ensures in
+    record { stepped = both.0;  step_to = both.1; }

@@ -7,4 +7,6 @@ pub one_step-requires : goal.one_step-requires
 one_step-requires c = ready_as _ _ _ _ _ _ (sym c.layout_in-lay.ensures) (sym c.out_in-ol.ensures) (sym c.work_in-wl.ensures) _ _ _ _ _ _ _ _ _ c.requires.1
 
 pub returns : goal.returns
-returns c = stepped_as _ _ _ _ _ _ c.layout_in-lay.ensures c.out_in-ol.ensures c.work_in-wl.ensures _ _ _ _ _ _ _ _ _ _ _ _ _ c.one_step.ensures
+returns c =
+    let both = stepped_as _ _ _ _ _ _ c.layout_in-lay.ensures c.out_in-ol.ensures c.work_in-wl.ensures _ _ _ _ _ _ _ _ _ _ _ _ _ c.one_step.ensures in
+    record { stepped = both.0;  steps_to = both.1; }

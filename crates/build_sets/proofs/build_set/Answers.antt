@@ -11,8 +11,10 @@ build_part-r-requires c = let p = c.requires in (set_laid _ _ _ _ _ _ _ _ _ _ _ 
 pub returns-then-not-is_done : goal.returns-then-not-is_done
 returns-then-not-is_done c = let p = c.requires in
     let o = c.build_part-r.ensures in
-    set_stop _ _ _ _ _ _ _ _ _ _ _ _ p _ c.whole_part-sp.ensures _ _ c.set_at-set.ensures c.top_at-top.ensures _ _ _ o.0.0 o.1
-    (done_not _ _ c.is_done.ensures c.if-not-is_done.true-raw)
+    let both =
+    set_stop _ _ _ _ _ _ _ _ _ _ _ _ p _ c.whole_part-sp.ensures _ _ c.set_at-set.ensures c.top_at-top.ensures _ _ _ o.changed.0 o.built_fit
+    (done_not _ _ c.is_done.ensures c.if-not-is_done.true-raw) in
+    record { onward = both.0;  ends_as = both.1; }
 
 pub conflicts-requires : goal.conflicts-requires
 conflicts-requires c = let p = c.requires in
@@ -26,5 +28,7 @@ pub returns : goal.returns
 returns c = let p = c.requires in
     let o = c.build_part-r.ensures in
     let e = c.conflicts.ensures in
-    set_done _ _ _ _ _ _ _ _ _ _ _ _ p _ c.whole_part-sp.ensures _ _ c.set_at-set.ensures c.top_at-top.ensures _ _ _ o.0.0 o.1
-    (done_is _ _ c.is_done.ensures c.if-not-is_done.false-raw) _ _ _ e.0 e.1
+    let both =
+    set_done _ _ _ _ _ _ _ _ _ _ _ _ p _ c.whole_part-sp.ensures _ _ c.set_at-set.ensures c.top_at-top.ensures _ _ _ o.changed.0 o.built_fit
+    (done_is _ _ c.is_done.ensures c.if-not-is_done.false-raw) _ _ _ e.between e.ends_as in
+    record { onward = both.0;  ends_as = both.1; }

@@ -29,7 +29,7 @@ shape_of-work-then-not-is_done c = omega (arith, c.loop-a.invariant.1, c.build_s
 pub returns-then-not-is_done : goal.returns-then-not-is_done
 returns-then-not-is_done c = let e = c.set_end-b.ensures in
     let r = c.build_set-r.ensures in
-    setting_stop _ _ _ _ _ _ _ _ _ _ _ c.loop-a.invariant.0 _ e.0 e.1 e.2 c.loop-a-test.true _ _ _ r.1 (done_not _ _ c.is_done.ensures c.if-not-is_done.true-raw)
+    setting_stop _ _ _ _ _ _ _ _ _ _ _ c.loop-a.invariant.0 _ e.0 e.1 e.2 c.loop-a-test.true _ _ _ r.ends_as (done_not _ _ c.is_done.ensures c.if-not-is_done.true-raw)
 
 pub loop-a-smaller : goal.loop-a-smaller
 loop-a-smaller c = omega (arith, c.loop-a-test.true, c.set_end-b.ensures.0)

@@ -8,8 +8,10 @@ use Rattle.cut_moves.proofs.find_cut_moves.Goals as goal
 pub returns-then-number-ne0 : goal.returns-then-number-ne0
 returns-then-number-ne0 c =
     let a = c.args in
+    let both =
     left_empty a.blocks.now a.after a.before a.side (length a.list.now) _ c.clear.ensures.zeroed _ c.number_of-number.ensures
-    c.if-number-ne0.true
+    c.if-number-ne0.true in
+    record { value = both.0;  list_after = both.1; }
 
 pub overflow_cast-n : goal.overflow_cast-n
 overflow_cast-n c =
@@ -45,5 +47,6 @@ returns c =
     let o : Accepted a.blocks.now a.after a.before a.side (length a.list.now) c.clear.new.s =
         record { zeros = c.clear.ensures.zeroed; none = sym c.if-number-ne0.false ∙ c.number_of-number.ensures } in
     let r = c.put_sorted-count in
-    left_moves o _ _ _ c.side_of.ensures r.auto.list
-    (λ i. omega (arith, c.slice_known-3-1.given i)) r.ensures.0 r.ensures.1
+    let both = left_moves o _ _ _ c.side_of.ensures r.auto.list
+        (λ i. omega (arith, c.slice_known-3-1.given i)) r.ensures.0 r.ensures.1 in
+    record { value = both.0; list_after = both.1 }

@@ -11,15 +11,19 @@ pub limits_ok-requires : goal.limits_ok-requires
 limits_ok-requires c = c.requires.0
 
 pub returns-then-not-limits_ok : goal.returns-then-not-limits_ok
-returns-then-not-limits_ok c = no_entry_lem _ 1 _ _ c.refuse.ensures (number_limits _ _ c.if-not-limits_ok.true-raw c.limits_ok.ensures)
+returns-then-not-limits_ok c =
+    let both = no_entry_lem _ 1 _ _ c.refuse.ensures (number_limits _ _ c.if-not-limits_ok.true-raw c.limits_ok.ensures) in
+    record { number_value = both.0;  accepted = both.1; }
 
 pub book_ok-requires : goal.book_ok-requires
 book_ok-requires c = let b = c.requires.0 in
     (b.fits, few b c.if-not-limits_ok.false-raw c.limits_ok.ensures)
 
 pub returns-then-not-book_ok : goal.returns-then-not-book_ok
-returns-then-not-book_ok c = no_entry_lem _ 2 _ _ c.refuse-then-not-book_ok.ensures
-    (number_book _ _ c.if-not-limits_ok.false-raw c.limits_ok.ensures c.if-not-book_ok.true-raw c.book_ok.ensures)
+returns-then-not-book_ok c =
+    let both = no_entry_lem _ 2 _ _ c.refuse-then-not-book_ok.ensures
+    (number_book _ _ c.if-not-limits_ok.false-raw c.limits_ok.ensures c.if-not-book_ok.true-raw c.book_ok.ensures) in
+    record { number_value = both.0;  accepted = both.1; }
 
 pub overflow_cast-blocks : goal.overflow_cast-blocks
 overflow_cast-blocks c = let l = few c.requires.0 c.if-not-limits_ok.false-raw c.limits_ok.ensures in

@@ -22,8 +22,10 @@ put_starts-requires c = let p = c.requires in
 pub clear_words-requires-2 : goal.clear_words-requires-2
 clear_words-requires-2 c = let p = c.requires in
     let r = p.0.regions in
-    omega (arith, p.1, c.put_starts.auto.1, c.clear_words.auto.work, r.starts, r.marks, r.turned)
+    omega (arith, p.1, c.put_starts.auto.starts, c.clear_words.auto.work, r.starts, r.marks, r.turned)
 
 pub returns : goal.returns
-returns c = prepared_is c.requires.0 (omega (arith, c.requires.1, length_words c.args.work.now)) c.clear_words.ensures c.put_starts.ensures c.clear_words-2.ensures
-    (λ i. omega (arith, c.shared_slice_known-1.given i))
+returns c =
+    let both = prepared_is c.requires.0 (omega (arith, c.requires.1, length_words c.args.work.now)) c.clear_words.ensures c.put_starts.ensures c.clear_words-2.ensures
+    (λ i. omega (arith, c.shared_slice_known-1.given i)) in
+    record { work_after = both.0;  accepted = both.1; }

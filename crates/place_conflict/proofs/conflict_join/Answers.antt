@@ -17,7 +17,7 @@ write_conflict-requires c = let k = c.requires.1 in
     let e = c.use_count-nu.ensures in
     let f = asks_fit _ _ _ _ _ _ _ _ _ _ _ _ _ _ k c.args.value c.args.param _ _ _ _ c.has_room.ensures e c.if-not-has_room.false-raw in
     let i = asks_inst _ _ _ _ _ _ _ _ _ _ _ _ _ _ k c.args.value c.args.param in
-    ((k.ready.fits, k.rows, k.long), (omega (arith, f.1), omega (arith, e, f.2), omega (arith, e, f.2, k.small.2), omega (arith, i)))
+    record { fits = (k.ready.fits, k.rows, k.long);  room = (omega (arith, f.1), omega (arith, e, f.2), omega (arith, e, f.2, k.small.2), omega (arith, i)); }
 
 pub finish_join-n-requires : goal.finish_join-n-requires
 finish_join-n-requires c = let k = c.requires.1 in (

@@ -15,7 +15,7 @@ returns-then-not-has_room c = let a = c.requires in
 
 pub write_part-requires : goal.write_part-requires
 write_part-requires c = let a = c.requires in
-    ((a.ready.fits, a.part, a.ready.marks, a.long), asked_write _ _ _ _ _ _ _ _ _ _ _ _ a _ _ c.has_room.ensures (not-false c.has_room.result c.if-not-has_room.false-raw))
+    record { fits = (a.ready.fits, a.part, a.ready.marks, a.long);  room = asked_write _ _ _ _ _ _ _ _ _ _ _ _ a _ _ c.has_room.ensures (not-false c.has_room.result c.if-not-has_room.false-raw); }
 
 pub finish_alone-n-requires : goal.finish_alone-n-requires
 finish_alone-n-requires c = let a = c.requires in

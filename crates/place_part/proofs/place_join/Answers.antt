@@ -17,7 +17,7 @@ returns-then-not-has_room c = let a = c.requires.0 in
 
 pub write_part-requires : goal.write_part-requires
 write_part-requires c = let a = c.requires.0 in
-    ((a.ready.fits, a.part, a.ready.marks, a.long), asked_write _ _ _ _ _ _ _ _ _ _ _ _ a _ _ c.has_room.ensures (not-false c.has_room.result c.if-not-has_room.false-raw))
+    record { fits = (a.ready.fits, a.part, a.ready.marks, a.long);  room = asked_write _ _ _ _ _ _ _ _ _ _ _ _ a _ _ c.has_room.ensures (not-false c.has_room.result c.if-not-has_room.false-raw); }
 
 pub finish_join-n-requires : goal.finish_join-n-requires
 finish_join-n-requires c = let p = c.requires in

@@ -13,8 +13,8 @@ scan_back-back-requires c = let r = c.scan_uses-r.ensures.within in
 pub returns-then-back : goal.returns-then-back
 returns-then-back c st hs = let r = c.scan_uses-r.ensures in
     let no = c.if-r.false in
-    move_halt _ st _ _ _ c.fresh_held-first.ensures _ _ (r.1 st hs) no _
-    (back_is _ st _ _ _ _ _ _ _ r.0.0 (r.0.1 no) (c.scan_back-back.ensures.ends st hs)) c.if-back.true
+    move_halt _ st _ _ _ c.fresh_held-first.ensures _ _ (r.ends st hs) no _
+    (back_is _ st _ _ _ _ _ _ _ r.within.0 (r.within.1 no) (c.scan_back-back.ensures.ends st hs)) c.if-back.true
 
 pub part_at-requires : goal.part_at-requires
 part_at-requires c = let r = c.scan_uses-r.ensures.within.1 c.if-r.false in
@@ -26,6 +26,6 @@ returns c st hs = let r = c.scan_uses-r.ensures in
     let no = c.if-r.false in
     let b = c.scan_back-back.ensures in
     let nb = c.if-back.false in
-    move_part _ st _ _ _ c.fresh_held-first.ensures _ _ (r.1 st hs) no _
-    (back_is _ st _ _ _ _ _ _ _ r.0.0 (r.0.1 no) (b.1 st hs)) _ nb b.0.0 (b.0.1 nb)
-    (c.part_at.ensures _ _ _ b.0.0 (omega (arith, b.0.1 nb, r.0.1 no)) r.0.0 (r.0.1 no))
+    move_part _ st _ _ _ c.fresh_held-first.ensures _ _ (r.ends st hs) no _
+    (back_is _ st _ _ _ _ _ _ _ r.within.0 (r.within.1 no) (b.ends st hs)) _ nb b.within.0 (b.within.1 nb)
+    (c.part_at.ensures _ _ _ b.within.0 (omega (arith, b.within.1 nb, r.within.1 no)) r.within.0 (r.within.1 no))

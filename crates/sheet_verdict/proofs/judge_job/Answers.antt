@@ -5,7 +5,7 @@ use Rattle.sheet_verdict.proofs.judge_job.Goals as goal
 
 pub returns-then-e-ne0 : goal.returns-then-e-ne0
 returns-then-e-ne0 c = let e = c.enter_prepared-e.ensures in
-    tested_refused _ _ _ _ _ _ e.0.0 e.0.1 c.if-e-ne0.true
+    tested_refused _ _ _ _ _ _ e.number_value.0 e.number_value.1 c.if-e-ne0.true
 
 pub as_implied-requires : goal.as_implied-requires
 as_implied-requires c = let p = c.enter_prepared-e in
@@ -25,10 +25,10 @@ returns-then-not-as_implied c = let p = c.enter_prepared-e in
 pub returns-else-not-as_implied : goal.returns-else-not-as_implied
 returns-else-not-as_implied c = let e = c.enter_prepared-e.ensures in
     let z = c.if-e-ne0.false in
-    tested_second _ _ _ _ _ _ e.0.0 e.0.1 z (e.1 z) c.if-second.true _
+    tested_second _ _ _ _ _ _ e.number_value.0 e.number_value.1 z (e.accepted z) c.if-second.true _
     c.as_implied.ensures (not-false _ c.if-not-as_implied.false-raw)
 
 pub returns-else-second : goal.returns-else-second
 returns-else-second c = let e = c.enter_prepared-e.ensures in
     let z = c.if-e-ne0.false in
-    tested_first _ _ _ _ _ _ e.0.0 e.0.1 z (e.1 z) c.if-second.false
+    tested_first _ _ _ _ _ _ e.number_value.0 e.number_value.1 z (e.accepted z) c.if-second.false
