@@ -1,6 +1,5 @@
 use Rattle.sheet_form.proofs.Ways.{run_rest, run_more, run_done}
 use mathlib.Core.Path.{refl, sym, ◌∙◌}
-use Prim.Native.Nat.{◌-◌}
 use borrow.Author.Rules.{rules}
 use Rattle.sheet_form.proofs.feed.Goals as goal
 

@@ -1,7 +1,7 @@
-use Prim.Native.Nat.{ℕ, ◌/◌, ◌<◌}
+use Prim.Native.Nat.{ℕ, ◌<◌}
 use native.Mathlib.Omega.{arith}
-use lib.ListN.{length, get_or}
-use Rattle.sheet_read.specs.Laws.{Went, went, read_sheet, no_sheet, crowded_sheet}
+use lib.ListN.{get_or}
+use Rattle.sheet_read.specs.Laws.{went, read_sheet, no_sheet, crowded_sheet}
 use borrow.Author.Rules.{rules}
 use Rattle.sheet_read.proofs.read_sheet.Goals as goal
 
