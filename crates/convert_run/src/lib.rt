@@ -9,8 +9,8 @@ ghost use Rattle.job_pages.specs.Cursors.{at_start};
 ghost use Rattle.job_pages.specs.Pages.{Shows};
 ghost use Rattle.convert_run.specs.Ran.{Shown, Refused, Put, Ran};
 
-use libc::{STDIN_FILENO, STDOUT_FILENO};
-use streams::Stream;
+use std::io::{Read, Write};
+use streams::{STDIN, STDOUT, Stream};
 
 // Whether a write failed, and where the output stands.
 #[derive(Clone, Copy)]
@@ -29,13 +29,14 @@ pub struct Outcome {
 }
 
 // Writes the sheet of a table page by page, up to the first write that fails.
-fn print(
+fn print<W: Write>(
     second: bool,
     table: &[u8],
     s: Stream,
     tape: &[usize],
     paper: &mut [u8],
     buf: &mut [u8],
+    sink: &mut W,
 ) -> Printed
     requires { Shows table.now at_start × (256 ≤ length buf.old) × (s.at ≤ length paper.old) }
     ensures { Shown second (words_of table.now) tape.now paper.old s result paper.new }
@@ -45,7 +46,7 @@ fn print(
     while cur.key != 12 {
         let page = job_pages::fill(second, table, cur, buf);
         let n = page.n;
-        let w = streams::write_all(at, tape, paper, &buf[..n]);
+        let w = streams::write_all(at, tape, paper, &buf[..n], sink);
         at = w.next;
         if w.failed {
             return Printed {
@@ -62,12 +63,19 @@ fn print(
 }
 
 // Writes the line of a refusal.
-fn refuse(number: u32, s: Stream, tape: &[usize], paper: &mut [u8], buf: &mut [u8]) -> Printed
+fn refuse<W: Write>(
+    number: u32,
+    s: Stream,
+    tape: &[usize],
+    paper: &mut [u8],
+    buf: &mut [u8],
+    sink: &mut W,
+) -> Printed
     requires { (256 ≤ length buf.old) × (s.at ≤ length paper.old) }
     ensures { Refused number tape.now paper.old s result paper.new }
 {
     let n = register_sheet::put_refused(buf, 0, number);
-    let w = streams::write_all(s, tape, paper, &buf[..n]);
+    let w = streams::write_all(s, tape, paper, &buf[..n], sink);
     let next = w.next;
     Printed {
         failed: w.failed,
@@ -76,7 +84,7 @@ fn refuse(number: u32, s: Stream, tape: &[usize], paper: &mut [u8], buf: &mut [u
 }
 
 // Writes the answer that has the number: the sheet of the table, or the refusal.
-fn put(
+fn put<W: Write>(
     second: bool,
     number: u32,
     table: &[u8],
@@ -84,20 +92,21 @@ fn put(
     tape: &[usize],
     paper: &mut [u8],
     buf: &mut [u8],
+    sink: &mut W,
 ) -> Printed
     requires { (number ≡ 0 → Shows table.now at_start) × (256 ≤ length buf.old) × (s.at ≤ length paper.old) }
     ensures { Put second number (words_of table.now) tape.now paper.old s result paper.new }
 {
     if number == 0 {
-        return print(second, table, s, tape, paper, buf);
+        return print(second, table, s, tape, paper, buf, sink);
     }
-    refuse(number, s, tape, paper, buf)
+    refuse(number, s, tape, paper, buf, sink)
 }
 
 // On a tape: the bytes that were given in the second form or the first, as is asked for, or the definition's refusal, on the paper; or the first bytes of that, where a write failed; or nothing, where a read failed.
 //
 // A program that copies a sheet already in the form asked for, or one that writes some lines and then `refused`, has not this contract.
-pub fn convert(
+pub fn convert<R: Read, W: Write>(
     second: bool,
     input: Stream,
     reads: &[usize],
@@ -109,11 +118,13 @@ pub fn convert(
     table: &mut [u8],
     written: &mut [u8],
     work: &mut [u8],
+    source: &mut R,
+    sink: &mut W,
 ) -> Outcome
     requires { (input.at ≤ length given.now) × (output.at ≤ length paper.old) × (256 ≤ length buf.old) × (word_count table.old ≡ table_words) × (word_count written.old ≡ 1536) × (max_work ≤ word_count work.old) }
     ensures { Ran second reads.now given.now input writes.now paper.old output result paper.new }
 {
-    let got = sheet_input::feed_all(input, reads, given, buf, table, written);
+    let got = sheet_input::feed_all(input, reads, given, buf, table, written, source);
     let next = got.next;
     if got.failed {
         return Outcome {
@@ -125,7 +136,7 @@ pub fn convert(
     }
     let cur = got.cur;
     let number = move_verdict::verdict_on(second, cur, table, written, work);
-    let done = put(second, number, table, output, writes, paper, buf);
+    let done = put(second, number, table, output, writes, paper, buf, sink);
     let behind = done.next;
     Outcome {
         unread: false,
@@ -135,13 +146,15 @@ pub fn convert(
     }
 }
 
-// From standard input to standard output; at most one of the two failures is told. The streams are descriptors, so the tape, the bytes that it gives and the paper, of one each, are looked at by nobody.
-pub fn convert_input(
+// From a reader to a writer; at most one of the two failures is told. The streams are descriptors, so the tape, the bytes that it gives and the paper, of one each, are looked at by nobody.
+pub fn convert_input<R: Read, W: Write>(
     second: bool,
     buf: &mut [u8],
     table: &mut [u8],
     written: &mut [u8],
     work: &mut [u8],
+    source: &mut R,
+    sink: &mut W,
 ) -> Outcome
     requires { (256 ≤ length buf.old) × (word_count table.old ≡ table_words) × (word_count written.old ≡ 1536) × (max_work ≤ word_count work.old) }
     ensures { result.unread ≡ true → result.unwritten ≡ false }
@@ -149,9 +162,10 @@ pub fn convert_input(
     let tape = [0usize; 1];
     let given = [0u8; 1];
     let mut paper = [0u8; 1];
-    let input = streams::descriptor(STDIN_FILENO);
-    let output = streams::descriptor(STDOUT_FILENO);
+    let input = streams::descriptor(STDIN);
+    let output = streams::descriptor(STDOUT);
     convert(
-        second, input, &tape, &given, output, &tape, &mut paper, buf, table, written, work,
+        second, input, &tape, &given, output, &tape, &mut paper, buf, table, written, work, source,
+        sink,
     )
 }

@@ -4,7 +4,8 @@
 
 ghost use Rattle.std.specs.Prelude.{◌+◌, ◌*◌, ◌/◌, ◌≤◌, length};
 
-use libc::STDOUT_FILENO;
+use std::io;
+use streams::Noted;
 
 // The words of a list, each behind a tab.
 fn put_words(out: &mut [u8], at: usize, list: &[u8]) -> usize
@@ -201,12 +202,15 @@ fn all(out: &mut [u8], work: &mut [u8; 4104]) -> usize
     refused(out, a, &mut list, work)
 }
 
-fn main() {
+fn main(rt: HostRuntime) -> io::Result<()> {
     let mut out = [0u8; 4224];
     let mut work = [0u8; 4104];
     let n = all(&mut out, &mut work);
-    let w = streams::write_to(STDOUT_FILENO, &out[0..n]);
+    let mut sink = Noted::new(rt.stdout());
+    let w = streams::write_to(&mut sink, &out[0..n]);
     if w.failed {
-        os::fail(b"cut_moves_main: the answers could not be written, and are cut");
+        let what = "cut_moves_main: the answers could not be written, and are cut";
+        return streams::fail(&rt, what, sink.reason);
     }
+    Ok(())
 }

@@ -3,7 +3,8 @@
 
 ghost use Rattle.std.specs.Prelude.{◌+◌, ◌≤◌, length};
 
-use libc::STDOUT_FILENO;
+use std::io;
+use streams::Noted;
 
 // One answer behind the first `at` bytes: its name, the number and the instruction.
 fn show(
@@ -89,12 +90,15 @@ fn all(out: &mut [u8], work: &mut [u8; 4104]) -> usize
     bad_ends(out, c, work)
 }
 
-fn main() {
+fn main(rt: HostRuntime) -> io::Result<()> {
     let mut out = [0u8; 1024];
     let mut work = [0u8; 4104];
     let n = all(&mut out, &mut work);
-    let w = streams::write_to(STDOUT_FILENO, &out[0..n]);
+    let mut sink = Noted::new(rt.stdout());
+    let w = streams::write_to(&mut sink, &out[0..n]);
     if w.failed {
-        os::fail(b"find_cut_main: the answers could not be written, and are cut");
+        let what = "find_cut_main: the answers could not be written, and are cut";
+        return streams::fail(&rt, what, sink.reason);
     }
+    Ok(())
 }

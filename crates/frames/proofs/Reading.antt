@@ -2,7 +2,7 @@
 use mathlib.Core.Path.{◌≡◌, refl, sym, ap, subst, ◌∙◌}
 use mathlib.Core.Bool.{Bool, true, false, ◌&&◌, false≢true}
 use mathlib.Core.List.{List, ◌++◌}
-use Prim.Native.Nat.{ℕ, zero, suc, ◌+◌, ◌-◌, ◌*◌, ◌≤◌, ◌<◌}
+use Prim.Native.Nat.{ℕ, zero, suc, ◌+◌, ◌*◌, ◌≤◌, ◌<◌}
 use native.Mathlib.Omega.{arith}
 use lib.Dec.{leb, eqb}
 use lib.ListN.{length, get_or, take, drop, length-drop, length-append}
@@ -13,8 +13,8 @@ use Rattle.streams.specs.declared.Stream.{Stream}
 use Rattle.streams.specs.declared.Step.{Step}
 use Rattle.streams.specs.Tape.{AllPlayed, Filled}
 use Rattle.frames.specs.declared.Frame.{Frame}
-use Rattle.frames.specs.Frames.{spelled, sheet_size, answer_size, frame_size, is_head, is_frame, frame_sheet, frame_answer}
-use Rattle.frames.specs.Read.{Missing, Headed, HeadRead, Framed, FrameRead}
+use Rattle.frames.specs.Frames.{spelled, sheet_size, frame_size, is_head, is_frame}
+use Rattle.frames.specs.Read.{Headed, HeadRead, FrameRead}
 
 -- ---- tests
 

@@ -10,6 +10,7 @@ ghost use Rattle.frames.specs.Frames.{spelled};
 ghost use Rattle.frames.specs.Report.{differs_line, summary};
 ghost use Rattle.frames.specs.Read.{HeadRead, FrameRead};
 
+use std::io::{Read, Write};
 use streams::{Step, Stream};
 
 // A whole frame, and the sizes of its parts. Where it is none: a read failed, or the input ended before it, or what follows is no frame.
@@ -74,12 +75,12 @@ fn no_frame(failed: bool, ended: bool, next: Stream) -> Frame
 }
 
 // The head of the next frame.
-fn read_head(s: Stream, tape: &[usize], given: &[u8]) -> Frame
+fn read_head<R: Read>(s: Stream, tape: &[usize], given: &[u8], source: &mut R) -> Frame
     requires { s.at ≤ length given.now }
     ensures { HeadRead tape.now given.now s result }
 {
     let mut head = [0u8; 18];
-    let h = streams::fill(s, tape, given, &mut head);
+    let h = streams::fill(s, tape, given, &mut head, source);
     let next = h.next;
     if h.n < 18 {
         return no_frame(h.failed, h.n == 0, next);
@@ -100,27 +101,28 @@ fn read_head(s: Stream, tape: &[usize], given: &[u8]) -> Frame
 }
 
 // The next frame, its parts at the start of the two buffers.
-pub fn read_frame(
+pub fn read_frame<R: Read>(
     s: Stream,
     tape: &[usize],
     given: &[u8],
     sheet: &mut [u8],
     answer: &mut [u8],
+    source: &mut R,
 ) -> Frame
     requires { (s.at ≤ length given.now) × (262144 ≤ length sheet.old) × (524288 ≤ length answer.old) }
     ensures { FrameRead tape.now given.now s result sheet.new answer.new }
 {
-    let f = read_head(s, tape, given);
+    let f = read_head(s, tape, given, source);
     if !f.whole {
         return f;
     }
     let n = f.sheet;
-    let a = streams::fill(f.next, tape, given, &mut sheet[..n]);
+    let a = streams::fill(f.next, tape, given, &mut sheet[..n], source);
     if a.n < n {
         return no_frame(a.failed, false, a.next);
     }
     let m = f.answer;
-    let b = streams::fill(a.next, tape, given, &mut answer[..m]);
+    let b = streams::fill(a.next, tape, given, &mut answer[..m], source);
     if b.n < m {
         return no_frame(b.failed, false, b.next);
     }
@@ -176,28 +178,36 @@ fn put_summary(out: &mut [u8], whole: bool, answers: u64, differ: u64) -> usize
 }
 
 // Says which answer it is, where it is another.
-pub fn tell(same: bool, k: u64, s: Stream, tape: &[usize], paper: &mut [u8]) -> Step
+pub fn tell<W: Write>(
+    same: bool,
+    k: u64,
+    s: Stream,
+    tape: &[usize],
+    paper: &mut [u8],
+    sink: &mut W,
+) -> Step
     requires { s.at ≤ length paper.old }
     ensures { WroteAll tape.now paper.old (differs_line same k) s result paper.new }
 {
     let mut line = [0u8; 64];
     let n = put_differs(&mut line, same, k);
-    streams::write_all(s, tape, paper, &line[..n])
+    streams::write_all(s, tape, paper, &line[..n], sink)
 }
 
 // Says how many answers there were, and how many differ.
-pub fn sum_up(
+pub fn sum_up<W: Write>(
     whole: bool,
     answers: u64,
     differ: u64,
     s: Stream,
     tape: &[usize],
     paper: &mut [u8],
+    sink: &mut W,
 ) -> Step
     requires { s.at ≤ length paper.old }
     ensures { WroteAll tape.now paper.old (summary whole answers differ) s result paper.new }
 {
     let mut line = [0u8; 64];
     let n = put_summary(&mut line, whole, answers, differ);
-    streams::write_all(s, tape, paper, &line[..n])
+    streams::write_all(s, tape, paper, &line[..n], sink)
 }

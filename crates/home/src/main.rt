@@ -6,7 +6,9 @@ ghost use Rattle.std.specs.Prelude.{◌≡◌, ◌+◌, ◌^◌, ◌≤◌, ◌<
 ghost use Rattle.lines.specs.Wrote.{Wrote};
 ghost use Rattle.home.specs.Tallies.{differs_line, tally_line, broken_line};
 
-use libc::{STDIN_FILENO, STDOUT_FILENO};
+use std::io;
+use std::io::{Error, Stdout};
+use streams::{Noted, STDIN};
 
 // A sheet that was moved and came home, one that is refused as its stored answer says, or one that differs.
 #[derive(Clone, Copy)]
@@ -26,11 +28,8 @@ struct Tally {
 }
 
 // Writes a text; whether it is cut.
-fn say(text: &[u8]) -> bool {
-    let w = streams::write_to(STDOUT_FILENO, text);
-    if w.failed {
-        os::fail(b"home: the tally could not be written, and is cut");
-    }
+fn say(text: &[u8], sink: &mut Noted<Stdout>) -> bool {
+    let w = streams::write_to(sink, text);
     w.failed
 }
 
@@ -44,10 +43,10 @@ fn put_differs(out: &mut [u8], number: u64) -> usize
 }
 
 // Says which sheet it is; whether that is cut.
-fn tell(number: u64) -> bool {
+fn tell(number: u64, sink: &mut Noted<Stdout>) -> bool {
     let mut line = [0u8; 64];
     let n = put_differs(&mut line, number);
-    say(&line[..n])
+    say(&line[..n], sink)
 }
 
 fn came_home(t: Tally) -> Tally
@@ -74,14 +73,14 @@ fn was_refused(t: Tally) -> Tally
     }
 }
 
-fn differed(t: Tally) -> Tally
+fn differed(t: Tally, sink: &mut Noted<Stdout>) -> Tally
     requires { t.home + t.refused + t.differ + 1 < 2 ^ 64 }
     ensures { result.home + result.refused + result.differ ≡ t.home + t.refused + t.differ + 1 }
 {
     let number = t.home + t.refused + t.differ + 1;
     let mut cut = t.cut;
     if !cut {
-        cut = tell(number);
+        cut = tell(number, sink);
     }
     Tally {
         home: t.home,
@@ -91,14 +90,14 @@ fn differed(t: Tally) -> Tally
     }
 }
 
-fn count(t: Tally, w: Way) -> Tally
+fn count(t: Tally, w: Way, sink: &mut Noted<Stdout>) -> Tally
     requires { t.home + t.refused + t.differ + 1 < 2 ^ 64 }
     ensures { result.home + result.refused + result.differ ≡ t.home + t.refused + t.differ + 1 }
 {
     match w {
         Way::Home => came_home(t),
         Way::Refused => was_refused(t),
-        Way::Differs => differed(t),
+        Way::Differs => differed(t, sink),
     }
 }
 
@@ -184,47 +183,69 @@ fn put_broken(out: &mut [u8], all: u64) -> usize
     lines::put_bytes(out, a, b" sheets, then no frame\n")
 }
 
-// Says how many there were: the input ended with them.
-fn show(t: Tally)
+// Says how many there were: the input ended with them. Whether that is cut.
+fn show(t: Tally, sink: &mut Noted<Stdout>) -> bool
     requires { t.home + t.refused + t.differ < 2 ^ 64 }
 {
     let all = t.home + t.refused + t.differ;
     let mut line = [0u8; 160];
     let n = put_tally(&mut line, t.home, t.refused, t.differ, all);
-    say(&line[..n]);
+    say(&line[..n], sink)
 }
 
 // The same: it went on with something else.
-fn show_broken(t: Tally)
+fn show_broken(t: Tally, sink: &mut Noted<Stdout>) -> bool
     requires { t.home + t.refused + t.differ < 2 ^ 64 }
 {
     let all = t.home + t.refused + t.differ;
     let mut line = [0u8; 160];
     let n = put_broken(&mut line, all);
-    say(&line[..n]);
+    say(&line[..n], sink)
 }
 
-fn end(t: Tally, failed: bool, ended: bool)
+// Says on standard error that a line is cut.
+fn tell_cut(rt: &HostRuntime, sink: &Noted<Stdout>) -> io::Result<()> {
+    let what = "home: the tally could not be written, and is cut";
+    streams::fail(rt, what, sink.reason)
+}
+
+// The tally, or what failed; `reason` is why a read did.
+fn end(
+    rt: &HostRuntime,
+    t: Tally,
+    failed: bool,
+    ended: bool,
+    reason: Option<Error>,
+    sink: &mut Noted<Stdout>,
+) -> io::Result<()>
     requires { t.home + t.refused + t.differ < 2 ^ 64 }
 {
+    if t.cut {
+        tell_cut(rt, sink)?;
+    }
     if failed {
-        os::fail(b"home: the stored sheets could not be read, and nothing is tallied");
-        return;
+        let what = "home: the stored sheets could not be read, and nothing is tallied";
+        return streams::fail(rt, what, reason);
     }
     if t.cut {
-        return;
+        return Ok(());
     }
-    if ended {
-        show(t);
-        return;
+    let cut = if ended {
+        show(t, sink)
+    } else {
+        show_broken(t, sink)
+    };
+    if cut {
+        return tell_cut(rt, sink);
     }
-    show_broken(t);
+    Ok(())
 }
 
 // All frames. A proved loop has to end, and nothing says that the input does: so the turns are counted down, from a
 // number that no run uses up. Standard input is a descriptor, so the tape and the bytes that it gives are looked at by
 // nobody.
 fn run(
+    rt: &HostRuntime,
     sheet: &mut [u8; 262144],
     answer: &mut [u8; 524288],
     there: &mut [u8; 524288],
@@ -232,10 +253,12 @@ fn run(
     table: &mut [u8; 174680],
     written: &mut [u8; 6144],
     work: &mut [u8; 110600],
-) {
+) -> io::Result<()> {
+    let mut source = Noted::new(rt.stdin());
+    let mut sink = Noted::new(rt.stdout());
     let tape = [0usize; 1];
     let given = [0u8; 1];
-    let mut at = streams::descriptor(STDIN_FILENO);
+    let mut at = streams::descriptor(STDIN);
     let mut t = Tally {
         home: 0,
         refused: 0,
@@ -244,22 +267,21 @@ fn run(
     };
     let mut turns = u64::MAX;
     while 0 < turns {
-        let f = frames::read_frame(at, &tape, &given, sheet, answer);
+        let f = frames::read_frame(at, &tape, &given, sheet, answer, &mut source);
         at = f.next;
         if !f.whole {
-            end(t, f.failed, f.ended);
-            return;
+            return end(rt, t, f.failed, f.ended, source.reason, &mut sink);
         }
         let w = way_at(
             sheet, f.sheet, answer, f.answer, there, back, table, written, work,
         );
-        t = count(t, w);
+        t = count(t, w, &mut sink);
         turns -= 1;
     }
-    end(t, true, false);
+    end(rt, t, true, false, source.reason, &mut sink)
 }
 
-fn main() {
+fn main(rt: HostRuntime) -> io::Result<()> {
     let mut sheet = [0u8; 262144];
     let mut answer = [0u8; 524288];
     let mut there = [0u8; 524288];
@@ -268,6 +290,7 @@ fn main() {
     let mut written = [0u8; 6144];
     let mut work = [0u8; 110600];
     run(
+        &rt,
         &mut sheet,
         &mut answer,
         &mut there,
@@ -275,5 +298,5 @@ fn main() {
         &mut table,
         &mut written,
         &mut work,
-    );
+    )
 }

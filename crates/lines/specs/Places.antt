@@ -1,5 +1,5 @@
 -- The fewest digits of a number are one number: what `io` writes is the definition's text. Assumes nothing.
-use Rattle.std.specs.Prelude.{◌≡◌, refl, List, [], ◌∷◌, ◌++◌, Bool, true, false, ℕ, zero, suc, ◌+◌, ◌-◌, ◌*◌, ◌/◌, ◌%◌, ◌^◌, ◌≤◌, ◌<◌, ltb}
+use Rattle.std.specs.Prelude.{◌≡◌, refl, List, [], ◌∷◌, ◌++◌, Bool, true, false, ℕ, zero, suc, ◌-◌, ◌*◌, ◌/◌, ◌%◌, ◌^◌, ◌≤◌, ◌<◌, ltb}
 use Rattle.std.proofs.Common.{ap, ◌∙◌, arith, div-lt_iff_lt-mul, le-div_iff_mul-le, pow-suc, one-mul, ltb-true, ltb-false}
 use Rattle.std.proofs.Math.Nat.{pow-le-pow_right, pow-zero}
 use Rattle.io.specs.Digits.{last_digits as io_digits, IsDigitCount}

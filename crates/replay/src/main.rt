@@ -6,10 +6,12 @@ ghost use Rattle.words.specs.Words.{word_count};
 ghost use Rattle.work_layout.specs.Regions.{max_work};
 ghost use Rattle.sheet_places.specs.Places.{table_words};
 
-use libc::{STDIN_FILENO, STDOUT_FILENO};
+use std::io;
+use streams::{Noted, STDIN, STDOUT};
 
 // The streams are descriptors, so the tape, the bytes that it gives and the paper, of one each, are looked at by nobody.
 fn replay_input(
+    rt: &HostRuntime,
     tape: &[usize],
     given: &[u8],
     paper: &mut [u8],
@@ -20,24 +22,43 @@ fn replay_input(
     written: &mut [u8],
     out: &mut [u8],
     work: &mut [u8],
-)
+) -> io::Result<()>
     requires { (262144 ≤ length sheet.old) × (524288 ≤ length answer.old) × (256 ≤ length buf.old) × (word_count table.old ≡ table_words) × (word_count written.old ≡ 1536) × (length out.old ≡ 460800) × (max_work ≤ word_count work.old) }
 {
-    let input = streams::descriptor(STDIN_FILENO);
-    let output = streams::descriptor(STDOUT_FILENO);
+    let mut source = Noted::new(rt.stdin());
+    let mut sink = Noted::new(rt.stdout());
+    let input = streams::descriptor(STDIN);
+    let output = streams::descriptor(STDOUT);
     let r = replay_run::replay(
-        input, tape, given, output, tape, paper, sheet, answer, buf, table, written, out, work,
+        input,
+        tape,
+        given,
+        output,
+        tape,
+        paper,
+        sheet,
+        answer,
+        buf,
+        table,
+        written,
+        out,
+        work,
+        &mut source,
+        &mut sink,
     );
     if r.unread {
-        os::fail(b"replay: the stored answers could not be read, and the report is cut");
-        return;
+        let what = "replay: the stored answers could not be read, and the report is cut";
+        return streams::fail(rt, what, source.reason);
     }
     if r.unwritten {
-        os::fail(b"replay: the report could not be written, and is cut");
+        let what = "replay: the report could not be written, and is cut";
+        return streams::fail(rt, what, sink.reason);
     }
+    Ok(())
 }
 
 fn run(
+    rt: &HostRuntime,
     tape: &[usize; 1],
     given: &[u8; 1],
     paper: &mut [u8; 1],
@@ -48,13 +69,13 @@ fn run(
     written: &mut [u8; 6144],
     out: &mut [u8; 460800],
     work: &mut [u8; 110600],
-) {
+) -> io::Result<()> {
     replay_input(
-        tape, given, paper, sheet, answer, buf, table, written, out, work,
-    );
+        rt, tape, given, paper, sheet, answer, buf, table, written, out, work,
+    )
 }
 
-fn main() {
+fn main(rt: HostRuntime) -> io::Result<()> {
     let tape = [0usize; 1];
     let given = [0u8; 1];
     let mut paper = [0u8; 1];
@@ -66,6 +87,7 @@ fn main() {
     let mut out = [0u8; 460800];
     let mut work = [0u8; 110600];
     run(
+        &rt,
         &tape,
         &given,
         &mut paper,
@@ -76,5 +98,5 @@ fn main() {
         &mut written,
         &mut out,
         &mut work,
-    );
+    )
 }

@@ -8,6 +8,7 @@ ghost use Rattle.sheet_places.specs.Places.{table_words};
 ghost use Rattle.frames.specs.Report.{missed as Report·missed};
 ghost use Rattle.replay_run.specs.Ran.{AnswerRead, Ran};
 
+use std::io::{Read, Write};
 use streams::Stream;
 
 // A whole frame, and whether its answer is the one given anew. Where it is none: a read failed, or the input ended before it, or what follows is no frame.
@@ -30,7 +31,7 @@ pub struct Outcome {
 }
 
 // The next frame, compared.
-fn next_answer(
+fn next_answer<R: Read>(
     s: Stream,
     tape: &[usize],
     given: &[u8],
@@ -41,11 +42,12 @@ fn next_answer(
     written: &mut [u8],
     out: &mut [u8],
     work: &mut [u8],
+    source: &mut R,
 ) -> Found
     requires { (s.at ≤ length given.now) × (262144 ≤ length sheet.old) × (524288 ≤ length answer.old) × (256 ≤ length buf.old) × (word_count table.old ≡ table_words) × (word_count written.old ≡ 1536) × (length out.old ≡ 460800) × (max_work ≤ word_count work.old) }
     ensures { AnswerRead tape.now given.now s result }
 {
-    let f = frames::read_frame(s, tape, given, sheet, answer);
+    let f = frames::read_frame(s, tape, given, sheet, answer, source);
     let next = f.next;
     if !f.whole {
         return Found {
@@ -86,7 +88,7 @@ fn ends(unread: bool, unwritten: bool, input: Stream, output: Stream) -> Outcome
 }
 
 // On tapes: the report on the bytes that were given, on the paper; or its first bytes, where a read or a write failed. A proved loop has to end, and nothing says that the input does: so the turns are counted down, from a number that no run uses up.
-pub fn replay(
+pub fn replay<R: Read, W: Write>(
     input: Stream,
     reads: &[usize],
     given: &[u8],
@@ -100,6 +102,8 @@ pub fn replay(
     written: &mut [u8],
     out: &mut [u8],
     work: &mut [u8],
+    source: &mut R,
+    sink: &mut W,
 ) -> Outcome
     requires { (input.at ≤ length given.now) × (output.at ≤ length paper.old) × (262144 ≤ length sheet.old) × (524288 ≤ length answer.old) × (256 ≤ length buf.old) × (word_count table.old ≡ table_words) × (word_count written.old ≡ 1536) × (length out.old ≡ 460800) × (max_work ≤ word_count work.old) }
     ensures { Ran reads.now given.now input writes.now paper.old output result paper.new }
@@ -111,19 +115,19 @@ pub fn replay(
     let mut turns = u64::MAX;
     while 0 < turns {
         let f = next_answer(
-            at, reads, given, sheet, answer, buf, table, written, out, work,
+            at, reads, given, sheet, answer, buf, table, written, out, work, source,
         );
         at = f.next;
         if !f.whole {
             if f.failed {
                 return ends(true, false, at, to);
             }
-            let w = frames::sum_up(f.ended, answers, differ, to, writes, paper);
+            let w = frames::sum_up(f.ended, answers, differ, to, writes, paper, sink);
             return ends(false, w.failed, at, w.next);
         }
         answers += 1;
         differ += missed(f.same);
-        let w = frames::tell(f.same, answers, to, writes, paper);
+        let w = frames::tell(f.same, answers, to, writes, paper, sink);
         to = w.next;
         if w.failed {
             return ends(false, true, at, to);

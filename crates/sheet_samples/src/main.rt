@@ -10,7 +10,10 @@ ghost use Rattle.sheet_samples.specs.Bounds.{Inside};
 ghost use Rattle.sheet_samples.specs.Tallies.{differs_line, tally_line};
 
 use document::Sample;
-use libc::{STDERR_FILENO, STDOUT_FILENO};
+use std::fs::File;
+use std::io;
+use std::io::Stdout;
+use streams::Noted;
 
 // Cut where a line could not be written: then no more are.
 #[derive(Clone, Copy)]
@@ -22,11 +25,8 @@ struct Tally {
 }
 
 // Writes a text; whether it is cut.
-fn say(text: &[u8]) -> bool {
-    let w = streams::write_to(STDOUT_FILENO, text);
-    if w.failed {
-        os::fail(b"sheet_samples: the tally could not be written, and is cut");
-    }
+fn say(text: &[u8], sink: &mut Noted<Stdout>) -> bool {
+    let w = streams::write_to(sink, text);
     w.failed
 }
 
@@ -40,10 +40,10 @@ fn put_differs(out: &mut [u8], number: u64) -> usize
 }
 
 // Says which sample it is; whether that is cut.
-fn tell(number: u64) -> bool {
+fn tell(number: u64, sink: &mut Noted<Stdout>) -> bool {
     let mut line = [0u8; 64];
     let n = put_differs(&mut line, number);
-    say(&line[..n])
+    say(&line[..n], sink)
 }
 
 fn agreed(t: Tally) -> Tally
@@ -58,14 +58,14 @@ fn agreed(t: Tally) -> Tally
     }
 }
 
-fn differed(t: Tally) -> Tally
+fn differed(t: Tally, sink: &mut Noted<Stdout>) -> Tally
     requires { t.agree + t.differ + t.alone < 2 ^ 63 }
     ensures { result.agree + result.differ + result.alone ≡ t.agree + t.differ + t.alone + 1 }
 {
     let number = t.agree + t.differ + 1;
     let mut cut = t.cut;
     if !cut {
-        cut = tell(number as u64);
+        cut = tell(number as u64, sink);
     }
     Tally {
         agree: t.agree,
@@ -126,6 +126,7 @@ fn count(
     written: &mut [u8; 6144],
     out: &mut [u8; 460800],
     work: &mut [u8; 110600],
+    sink: &mut Noted<Stdout>,
 ) -> Tally
     requires { Inside s (length doc.now) × (t.agree + t.differ + t.alone < 2 ^ 63) }
     ensures { result.agree + result.differ + result.alone ≤ t.agree + t.differ + t.alone + 1 }
@@ -134,7 +135,7 @@ fn count(
         if agrees(doc, s, buf, table, written, out, work) {
             return agreed(t);
         }
-        return differed(t);
+        return differed(t, sink);
     }
     if s.alone {
         return left_alone(t);
@@ -150,6 +151,7 @@ fn count_all(
     written: &mut [u8; 6144],
     out: &mut [u8; 460800],
     work: &mut [u8; 110600],
+    sink: &mut Noted<Stdout>,
 ) -> Tally
     requires { length doc.now < 2 ^ 62 }
 {
@@ -162,7 +164,7 @@ fn count_all(
     let mut at = document::next_fence(doc, 0);
     while at < doc.len() {
         let s = document::sample_at(doc, at);
-        t = count(doc, s, t, buf, table, written, out, work);
+        t = count(doc, s, t, buf, table, written, out, work, sink);
         at = document::next_fence(doc, s.next);
     }
     t
@@ -180,16 +182,17 @@ fn put_tally(out: &mut [u8], agree: u64, differ: u64, alone: u64) -> usize
     lines::put_bytes(out, e, b" blocks have no partner\n")
 }
 
-fn show(t: Tally) {
+// Writes the tally, where no line before it is cut; whether one is cut.
+fn show(t: Tally, sink: &mut Noted<Stdout>) -> bool {
     if t.cut {
-        return;
+        return true;
     }
     let mut line = [0u8; 128];
     let n = put_tally(&mut line, t.agree as u64, t.differ as u64, t.alone as u64);
-    say(&line[..n]);
+    say(&line[..n], sink)
 }
 
-fn run(doc: &[u8])
+fn run(rt: &HostRuntime, doc: &[u8]) -> io::Result<()>
     requires { length doc.now < 2 ^ 62 }
 {
     let mut buf = [0u8; 4096];
@@ -197,28 +200,40 @@ fn run(doc: &[u8])
     let mut written = [0u8; 6144];
     let mut out = [0u8; 460800];
     let mut work = [0u8; 110600];
-    show(count_all(doc, &mut buf, &mut table, &mut written, &mut out, &mut work));
+    let mut sink = Noted::new(rt.stdout());
+    let t = count_all(
+        doc,
+        &mut buf,
+        &mut table,
+        &mut written,
+        &mut out,
+        &mut work,
+        &mut sink,
+    );
+    if show(t, &mut sink) {
+        let what = "sheet_samples: the tally could not be written, and is cut";
+        return streams::fail(rt, what, sink.reason);
+    }
+    Ok(())
 }
 
-fn main() {
-    let fd = os::open_read(b"SHEETS.md");
-    if fd < 0 {
-        os::fail(b"sheet_samples: SHEETS.md could not be opened, and nothing is tallied");
-        return;
-    }
+fn main(rt: HostRuntime) -> io::Result<()> {
+    let mut source = match File::open(&rt, "SHEETS.md") {
+        Ok(file) => Noted::new(file),
+        Err(e) => {
+            let what = "sheet_samples: SHEETS.md could not be opened, and nothing is tallied";
+            return streams::fail(&rt, what, Some(e));
+        }
+    };
     let mut text = [0u8; 131072];
-    let r = streams::fill_from(fd, &mut text);
+    let r = streams::fill_from(&mut source, &mut text);
     if r.failed {
-        os::fail(b"sheet_samples: SHEETS.md could not be read, and nothing is tallied");
-        return;
+        let what = "sheet_samples: SHEETS.md could not be read, and nothing is tallied";
+        return streams::fail(&rt, what, source.reason);
     }
     let n = r.n;
     if n == 131072 {
-        io::write_all(
-            STDERR_FILENO,
-            b"sheet_samples: SHEETS.md is too long, and nothing is tallied\n",
-        );
-        return;
+        return eprintln!(rt; "sheet_samples: SHEETS.md is too long, and nothing is tallied");
     }
-    run(&text[..n]);
+    run(&rt, &text[..n])
 }

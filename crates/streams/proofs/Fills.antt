@@ -2,13 +2,13 @@
 use mathlib.Core.Path.{◌≡◌, refl, sym, ap, subst, ◌∙◌}
 use mathlib.Core.Bool.{Bool, true, false}
 use mathlib.Core.List.{List, ◌++◌}
-use Prim.Native.Nat.{ℕ, ◌+◌, ◌-◌, ◌≤◌, ◌<◌}
+use Prim.Native.Nat.{ℕ, ◌+◌, ◌-◌, ◌≤◌}
 use native.Mathlib.Omega.{arith}
 use lib.ListN.{length, take, drop, length-drop, length-append}
 use lib.Seq.{length-take-le, take-add, take-append-add, take-append-le, drop-drop}
 use Rattle.streams.specs.declared.Stream.{Stream}
 use Rattle.streams.specs.declared.Step.{Step}
-use Rattle.streams.specs.Tape.{Played, Read, AllPlayed, Filled}
+use Rattle.streams.specs.Tape.{Played, Read, Filled}
 use Rattle.streams.proofs.Steps.{not_both}
 
 -- X with its elements from `done` on lent, and back as Y

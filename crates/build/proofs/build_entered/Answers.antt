@@ -14,7 +14,7 @@ pub returns-then-number-ne0 : goal.returns-then-number-ne0
 returns-then-number-ne0 c = let p = c.requires in
     let r = c.build_sets-r in
     let z = c.clear.ensures.zeroed ∙ ap (λ (n : ℕ). replicate n 0) r.auto.out in
-    answered_as c.refuse.ensures
+    answered_as (c.refuse.ensures.value, c.refuse.ensures.table_cleared, c.refuse.ensures.written_cleared)
     (answered_ended _ _ _ _ _ _ p.0 p.1 _ _ _ r.ensures _ c.end_number-number.ensures _ _ z
     c.if-number-ne0.true)
 

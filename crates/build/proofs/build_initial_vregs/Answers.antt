@@ -7,7 +7,7 @@ use Rattle.build.proofs.build_initial_vregs.Goals as goal
 
 
 pub returns-then-not-shape : goal.returns-then-not-shape
-returns-then-not-shape c = answered_as c.refuse.ensures (answered_off _ _ _ _ _ _ _ _ _ _ c.clear.ensures.zeroed c.out_layout-ol.ensures refl c.find_layout-shape.ensures c.if-not-shape.true)
+returns-then-not-shape c = answered_as (c.refuse.ensures.value, c.refuse.ensures.table_cleared, c.refuse.ensures.written_cleared) (answered_off _ _ _ _ _ _ _ _ _ _ c.clear.ensures.zeroed c.out_layout-ol.ensures refl c.find_layout-shape.ensures c.if-not-shape.true)
 
 pub slice_bounds-build_shaped-end-2 : goal.slice_bounds-build_shaped-end-2
 slice_bounds-build_shaped-end-2 c = sym (part_long (length c.args.out.now) _ _ _ _ _ _ _ _ c.clear.ensures.zeroed c.out_layout-ol.ensures refl c.tables_bytes-end.ensures)

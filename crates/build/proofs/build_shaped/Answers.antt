@@ -5,7 +5,7 @@ use Rattle.build.proofs.build_shaped.Goals as goal
 
 pub returns-then-test-ne0 : goal.returns-then-test-ne0
 returns-then-test-ne0 c = let p = c.requires in
-    answered_as c.refuse.ensures
+    answered_as (c.refuse.ensures.value, c.refuse.ensures.table_cleared, c.refuse.ensures.written_cleared)
     (refused_entry _ _ _ _ _ _ c.enter_prepared-e.ensures.number_value.0 c.if-test-ne0.true p.2.zeros)
 
 pub build_entered-requires : goal.build_entered-requires

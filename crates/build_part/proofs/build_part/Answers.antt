@@ -7,5 +7,5 @@ build_behind-requires c = part_ready _ _ _ _ c.frame_of-frame.ensures _ _ _ _ _ 
 
 pub returns : goal.returns
 returns c =
-    let both = part_built _ _ _ _ c.frame_of-frame.ensures _ _ _ _ _ _ _ _ _ _ _ _ c.build_behind.ensures in
+    let both = part_built _ _ _ _ c.frame_of-frame.ensures _ _ _ _ _ _ _ _ _ _ _ _ (c.build_behind.ensures.changed, c.build_behind.ensures.builds_to) in
     record { changed = both.0;  built_fit = both.1; }

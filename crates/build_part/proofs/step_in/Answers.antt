@@ -8,5 +8,5 @@ one_step-requires c = ready_as _ _ _ _ _ _ (sym c.layout_in-lay.ensures) (sym c.
 
 pub returns : goal.returns
 returns c =
-    let both = stepped_as _ _ _ _ _ _ c.layout_in-lay.ensures c.out_in-ol.ensures c.work_in-wl.ensures _ _ _ _ _ _ _ _ _ _ _ _ _ c.one_step.ensures in
+    let both = stepped_as _ _ _ _ _ _ c.layout_in-lay.ensures c.out_in-ol.ensures c.work_in-wl.ensures _ _ _ _ _ _ _ _ _ _ _ _ _ (c.one_step.ensures.stepped, c.one_step.ensures.step_to) in
     record { stepped = both.0;  steps_to = both.1; }

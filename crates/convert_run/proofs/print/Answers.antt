@@ -6,36 +6,36 @@ use borrow.Author.Rules.{rules}
 use Rattle.convert_run.proofs.print.Goals as goal
 
 pub loop-cur-init : goal.loop-cur-init
-loop-cur-init c = let p = c.requires in
+loop-cur-init g c = let p = c.requires in
     (refl, refl, showing_start _ _ _ _ _ p.0 c.start-cur.ensures p.2)
 
 pub fill-page-requires : goal.fill-page-requires
-fill-page-requires c = c.loop-cur.invariant.2.shows
+fill-page-requires g c = c.loop-cur.invariant.2.shows
 
 pub slice_bounds-write_all-end : goal.slice_bounds-write_all-end
-slice_bounds-write_all-end c = c.fill-page.ensures.within
+slice_bounds-write_all-end g c = c.fill-page.ensures.within
 
 pub slice_bounds-write_all-end-in-loop-cur : goal.slice_bounds-write_all-end-in-loop-cur
-slice_bounds-write_all-end-in-loop-cur c = c.fill-page.ensures.counts
+slice_bounds-write_all-end-in-loop-cur g c = c.fill-page.ensures.counts
 
 pub write_all-w-requires : goal.write_all-w-requires
-write_all-w-requires c = c.loop-cur.invariant.2.bound
+write_all-w-requires g c = c.loop-cur.invariant.2.bound
 
 pub returns-then-w : goal.returns-then-w
-returns-then-w c = showing_failed _ _ _ _ _ _ _ _ _ _ _ _ c.loop-cur.invariant.2 c.fill-page.ensures c.write_all-w.ensures c.if-w.true
+returns-then-w g c = showing_failed _ _ _ _ _ _ _ _ _ _ _ _ c.loop-cur.invariant.2 c.fill-page.ensures c.write_all-w.ensures c.if-w.true
 
 pub loop-cur-smaller : goal.loop-cur-smaller
-loop-cur-smaller c = let h = c.requires.1 in
+loop-cur-smaller g c = let h = c.requires.1 in
     c.fill-page.ensures.fewer (ne_eqb _ _ c.loop-cur-test.true)
     (omega (arith, c.fill-page.auto, c.loop-cur.invariant.1, h))
 
 pub loop-cur-preserved : goal.loop-cur-preserved
-loop-cur-preserved c = (
-      search rules,
-      search rules,
-      showing_next _ _ _ _ _ _ _ _ _ _ _ _ c.loop-cur.invariant.2 c.fill-page.ensures c.write_all-w.ensures
-          c.if-w.false,
-    )
+loop-cur-preserved g c = (
+  search rules,
+  search rules,
+  showing_next _ _ _ _ _ _ _ _ _ _ _ _ c.loop-cur.invariant.2 c.fill-page.ensures c.write_all-w.ensures
+      c.if-w.false,
+)
 
 pub returns : goal.returns
-returns c = showing_end _ _ _ _ _ _ _ _ c.loop-cur.invariant.2 c.loop-cur-test.false
+returns g c = showing_end _ _ _ _ _ _ _ _ c.loop-cur.invariant.2 c.loop-cur-test.false

@@ -2,7 +2,6 @@ use lib.ListN.{get_or}
 use Rattle.frames.proofs.Spelling.{no_tab, no_feed, long_sheet, head_room}
 use Rattle.frames.proofs.is_head.Goals as goal
 
-
 pub returns-then-head-ne9 : goal.returns-then-head-ne9
 returns-then-head-ne9 c = let a = c.args in
     no_tab (get_or a.head.now 8 0) (get_or a.head.now 17 0) a.sheet a.answer c.if-head-ne9.true

@@ -1,4 +1,3 @@
-use Prim.Native.Nat.{◌-◌}
 use native.Mathlib.Omega.{arith}
 use Rattle.frames.proofs.Spelling.{spelling_start, spelling_small, spelling_next, spelling_none, spelling_done}
 use Rattle.frames.proofs.number.Goals as goal

@@ -1,7 +1,6 @@
 use Rattle.frames.proofs.Texts.{differs_none, differs_text}
 use Rattle.frames.proofs.put_differs.Goals as goal
 
-
 pub returns-then-same : goal.returns-then-same
 returns-then-same c = differs_none _ _ _ c.if-same.true
 

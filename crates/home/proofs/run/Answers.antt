@@ -29,14 +29,14 @@ loop-turns-smaller c = omega (arith, c.loop-turns-test.true)
 
 pub loop-turns-preserved : goal.loop-turns-preserved
 loop-turns-preserved c = let r = c.read_frame-f in (
-      r.ensures.bound,
-      omega (
-        arith,
-        c.count-t.ensures,
-        c.loop-turns.invariant.1,
-        c.loop-turns-test.true,
-      ),
-    )
+  r.ensures.bound,
+  omega (
+    arith,
+    c.count-t.ensures,
+    c.loop-turns.invariant.1,
+    c.loop-turns-test.true,
+  ),
+)
 
 pub end-requires-2 : goal.end-requires-2
 end-requires-2 c = omega (arith, c.loop-turns.invariant.1)

@@ -1,7 +1,6 @@
 use Prim.Native.Nat.{◌+◌, ◌^◌, ◌≤◌, ◌<◌}
 use Rattle.home.proofs.run.Given as goal
 
-
 abbrev pub invariant-loop-turns : goal.invariant-loop-turns
 invariant-loop-turns l = (l.at.at ≤ 1) × (l.t.home + l.t.refused + l.t.differ + l.turns < 2 ^ 64)
 

@@ -1,4 +1,3 @@
-use Prim.Native.Nat.{◌-◌}
 use Rattle.lines.proofs.Puts.{copy_start, copy_next, copy_done}
 use Rattle.lines.proofs.put_bytes.Goals as goal
 

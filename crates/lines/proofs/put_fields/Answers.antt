@@ -1,4 +1,3 @@
-use Prim.Native.Nat.{◌-◌}
 use Rattle.definition.specs.Text.{decimal}
 use Rattle.lines.specs.Wrote.{fields_text}
 use Rattle.lines.proofs.Puts.{field_start, field_next, field_done}

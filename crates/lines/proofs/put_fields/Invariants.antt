@@ -4,7 +4,6 @@ use Rattle.definition.specs.Text.{decimal}
 use Rattle.lines.proofs.Puts.{Fielding}
 use Rattle.lines.proofs.put_fields.Given as goal
 
-
 abbrev pub invariant-loop-i : goal.invariant-loop-i
 invariant-loop-i l = Fielding decimal l.initial.out l.vals l.at l.i l.out l.a
 

@@ -1,4 +1,3 @@
-use Prim.Native.Nat.{◌-◌}
 use Rattle.lines.specs.Wrote.{index_text, index_fields}
 use Rattle.lines.proofs.Puts.{field_start, field_next, field_done}
 use borrow.Author.Rules.{rules}

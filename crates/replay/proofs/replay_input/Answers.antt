@@ -3,16 +3,15 @@ use native.Mathlib.Omega.{arith}
 use Rattle.streams.specs.declared.Stream.{Stream}
 use Rattle.replay.proofs.replay_input.Goals as goal
 
-
 pub replay-r-requires : goal.replay-r-requires
 replay-r-requires c = let p = c.requires in (
-      omega (arith, ap (λ (s : Stream). s.at) c.descriptor-input.ensures),
-      omega (arith, ap (λ (s : Stream). s.at) c.descriptor-output.ensures),
-      p.0,
-      p.1,
-      p.2,
-      p.3,
-      p.4,
-      p.5,
-      p.6,
-    )
+  omega (arith, ap (λ (s : Stream). s.at) c.descriptor-input.ensures),
+  omega (arith, ap (λ (s : Stream). s.at) c.descriptor-output.ensures),
+  p.0,
+  p.1,
+  p.2,
+  p.3,
+  p.4,
+  p.5,
+  p.6,
+)

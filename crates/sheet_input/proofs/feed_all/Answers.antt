@@ -5,33 +5,33 @@ use borrow.Author.Rules.{rules}
 use Rattle.sheet_input.proofs.feed_all.Goals as goal
 
 pub loop-turns-init : goal.loop-turns-init
-loop-turns-init c = (refl, refl, refl, taking_start _ _ _ _ _ (search rules) (search rules))
+loop-turns-init g c = (refl, refl, refl, taking_start _ _ _ _ _ (search rules) (search rules))
 
 pub read-r-requires : goal.read-r-requires
-read-r-requires c = c.loop-turns.invariant.3.bound
+read-r-requires g c = c.loop-turns.invariant.3.bound
 
 pub returns-then-r : goal.returns-then-r
-returns-then-r c = taken_from _ _ _ _ _ _ _ _ c.«open».ensures (taking_failed _ _ _ _ _ _ _ _ _ c.loop-turns.invariant.3 c.read-r.ensures c.if-r.true (c.read-r.ensures.once.nothing c.if-r.true))
+returns-then-r g c = taken_from _ _ _ _ _ _ _ _ c.open-cur.ensures (taking_failed _ _ _ _ _ _ _ _ _ c.loop-turns.invariant.3 c.read-r.ensures c.if-r.true (c.read-r.ensures.once.nothing c.if-r.true))
 
 pub returns-then-n-eq0 : goal.returns-then-n-eq0
-returns-then-n-eq0 c = taken_from _ _ _ _ _ _ _ _ c.«open».ensures
+returns-then-n-eq0 g c = taken_from _ _ _ _ _ _ _ _ c.open-cur.ensures
     (taking_end _ _ _ _ _ _ _ _ _ c.loop-turns.invariant.3 c.read-r.ensures c.if-r.false c.if-n-eq0.true
     (omega (arith, c.buf-1.given, c.loop-turns.invariant.0, c.requires.1)))
 
 pub slice_bounds-feed-end : goal.slice_bounds-feed-end
-slice_bounds-feed-end c = c.read-r.ensures.once.within
+slice_bounds-feed-end g c = c.read-r.ensures.once.within
 
 pub slice_bounds-feed-end-in-loop-turns : goal.slice_bounds-feed-end-in-loop-turns
-slice_bounds-feed-end-in-loop-turns c = c.read-r.ensures.counts
+slice_bounds-feed-end-in-loop-turns g c = c.read-r.ensures.counts
 
 pub loop-turns-preserved : goal.loop-turns-preserved
-loop-turns-preserved c = (
-      search rules,
-      search rules,
-      search rules,
-      taking_next _ _ _ _ _ _ _ _ _ c.loop-turns.invariant.3 c.read-r.ensures _ (search rules) c.if-r.false
-          (λ i. omega (arith, c.slice_known-in-loop-turns-1.given i)) c.feed-cur.ensures,
-    )
+loop-turns-preserved g c = (
+  search rules,
+  search rules,
+  search rules,
+  taking_next _ _ _ _ _ _ _ _ _ c.loop-turns.invariant.3 c.read-r.ensures _ (search rules) c.if-r.false
+      (λ i. omega (arith, c.slice_known-in-loop-turns-1.given i)) c.feed-cur.ensures,
+)
 
 pub returns : goal.returns
-returns c = taken_from _ _ _ _ _ _ _ _ c.«open».ensures (taking_out _ _ _ _ _ _ _ c.loop-turns.invariant.3 c.loop-turns-test.false)
+returns g c = taken_from _ _ _ _ _ _ _ _ c.open-cur.ensures (taking_out _ _ _ _ _ _ _ c.loop-turns.invariant.3 c.loop-turns-test.false)

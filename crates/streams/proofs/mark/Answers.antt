@@ -3,7 +3,6 @@ use borrow.Author.Rules.{rules}
 use Rattle.streams.proofs.Steps.{write_failed, write_again, write_some, beyond}
 use Rattle.streams.proofs.mark.Goals as goal
 
-
 pub returns-then-tape-call : goal.returns-then-tape-call
 returns-then-tape-call c = write_failed _ _ _ _ (search rules) (λ _ p. absurd (omega (arith, p, beyond c.args.tape.now c.args.s.call c.if-tape-call.true)))
 

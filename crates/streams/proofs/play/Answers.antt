@@ -4,7 +4,6 @@ use borrow.Author.Rules.{rules}
 use Rattle.streams.proofs.Steps.{read_failed, read_again, read_some, beyond}
 use Rattle.streams.proofs.play.Goals as goal
 
-
 pub returns-then-tape-call : goal.returns-then-tape-call
 returns-then-tape-call c = read_failed _ _ _ _ c.requires (λ _. beyond c.args.tape.now c.args.s.call c.if-tape-call.true)
 

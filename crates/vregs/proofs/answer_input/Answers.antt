@@ -3,14 +3,13 @@ use native.Mathlib.Omega.{arith}
 use Rattle.streams.specs.declared.Stream.{Stream}
 use Rattle.vregs.proofs.answer_input.Goals as goal
 
-
 pub answer-r-requires : goal.answer-r-requires
 answer-r-requires c = let p = c.requires in (
-      omega (arith, ap (λ (s : Stream). s.at) c.descriptor-input.ensures),
-      omega (arith, ap (λ (s : Stream). s.at) c.descriptor-output.ensures),
-      p.0,
-      p.1,
-      p.2,
-      p.3,
-      p.4,
-    )
+  omega (arith, ap (λ (s : Stream). s.at) c.descriptor-input.ensures),
+  omega (arith, ap (λ (s : Stream). s.at) c.descriptor-output.ensures),
+  p.0,
+  p.1,
+  p.2,
+  p.3,
+  p.4,
+)

@@ -6,31 +6,31 @@ use borrow.Author.Rules.{rules}
 use Rattle.vregs_run.proofs.print.Goals as goal
 
 pub loop-cur-init : goal.loop-cur-init
-loop-cur-init c = let p = c.requires in
+loop-cur-init g c = let p = c.requires in
     let e = c.vregs_tables-ol.ensures in
     let d = c.start-cur.ensures in
     (refl, refl, showing_start _ _ _ _ _ _ (begun _ _ _ _ p.0 e d) e d p.2)
 
 pub page-page-requires : goal.page-page-requires
-page-page-requires c = (c.loop-cur.invariant.2.prints, search rules)
+page-page-requires g c = (c.loop-cur.invariant.2.prints, search rules)
 
 pub slice_bounds-write_all-end : goal.slice_bounds-write_all-end
-slice_bounds-write_all-end c = c.page-page.ensures.within
+slice_bounds-write_all-end g c = c.page-page.ensures.within
 
 pub slice_bounds-write_all-end-in-loop-cur : goal.slice_bounds-write_all-end-in-loop-cur
-slice_bounds-write_all-end-in-loop-cur c = c.page-page.ensures.counts
+slice_bounds-write_all-end-in-loop-cur g c = c.page-page.ensures.counts
 
 pub write_all-w-requires : goal.write_all-w-requires
-write_all-w-requires c = c.loop-cur.invariant.2.bound
+write_all-w-requires g c = c.loop-cur.invariant.2.bound
 
 pub returns-then-w : goal.returns-then-w
-returns-then-w c = showing_failed _ _ _ _ _ _ _ _ _ _ _ _ _ c.loop-cur.invariant.2 c.page-page.ensures c.write_all-w.ensures c.if-w.true
+returns-then-w g c = showing_failed _ _ _ _ _ _ _ _ _ _ _ _ _ c.loop-cur.invariant.2 c.page-page.ensures c.write_all-w.ensures c.if-w.true
 
 pub loop-cur-smaller : goal.loop-cur-smaller
-loop-cur-smaller c = c.page-page.ensures.fewer (not-true _ c.loop-cur-test.true)
+loop-cur-smaller g c = c.page-page.ensures.fewer (not-true _ c.loop-cur-test.true)
 
 pub loop-cur-preserved : goal.loop-cur-preserved
-loop-cur-preserved c = (search rules, search rules, showing_next _ _ _ _ _ _ _ _ _ _ _ _ _ c.loop-cur.invariant.2 c.page-page.ensures c.write_all-w.ensures c.if-w.false)
+loop-cur-preserved g c = (search rules, search rules, showing_next _ _ _ _ _ _ _ _ _ _ _ _ _ c.loop-cur.invariant.2 c.page-page.ensures c.write_all-w.ensures c.if-w.false)
 
 pub returns : goal.returns
-returns c = showing_end _ _ _ _ _ _ _ _ _ c.loop-cur.invariant.2 (not-false _ c.loop-cur-test.false)
+returns g c = showing_end _ _ _ _ _ _ _ _ _ c.loop-cur.invariant.2 (not-false _ c.loop-cur-test.false)

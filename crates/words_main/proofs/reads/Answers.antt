@@ -2,7 +2,6 @@ use borrow.Author.Tests.{eq-eqb}
 use Rattle.words.specs.Words.{words_of}
 use Rattle.words_main.proofs.reads.Goals as goal
 
-
 pub expect-requires : goal.expect-requires
 unfolding words_of
 expect-requires c = eq-eqb c.word_at.result 0x12345678 c.word_at.ensures

@@ -7,7 +7,6 @@ use Rattle.words.specs.Words.{bytes_of}
 use Rattle.words.specs.Laws.{bytes_words}
 use Rattle.words_main.proofs.stores.Goals as goal
 
-
 pub returns : goal.returns
 unfolding bytes_of
 returns c = c.same.ensures.1

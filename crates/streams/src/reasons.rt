@@ -1,0 +1,81 @@
+// Why the last call failed. A `Step` has no room for the reason, so it is kept beside the reader or the writer.
+ghost use Rattle.std.specs.Prelude.{◌≡◌, IfErr, Some, None};
+ghost use Rattle.std.specs.Io.{ReadsAtMost, WritesAtMost};
+ghost use Rattle.std.specs.Io.KnownBytes.{Keeps, ReadConsumes, WriteAppends};
+
+use std::io::{Error, Read, Result, Write};
+
+// A reader or a writer, and the reason of its last call that failed.
+#[derive(Drop)]
+pub struct Noted<T> {
+    pub inner: T,
+    pub reason: Option<Error>,
+}
+
+impl<T> Noted<T> {
+    pub fn new(inner: T) -> Noted<T>
+        ensures inner { result.inner ≡ inner }
+        ensures reason { result.reason ≡ None }
+    {
+        Noted {
+            inner,
+            reason: None,
+        }
+    }
+}
+
+impl<R: Read> Read for Noted<R> {
+    ghost remaining = { λ s. R.remaining s.inner };
+
+    fn read(&mut self, buf: &mut [u8]) -> Result<usize>
+        ensures bound { ReadsAtMost result buf.new }
+        ensures bytes { ReadConsumes (R.remaining self.old.inner) (R.remaining self.new.inner) result buf.new }
+        ensures reason { IfErr result (λ e. self.new.reason ≡ Some e) }
+    {
+        match self.inner.read(buf) {
+            Ok(n) => Ok(n),
+            Err(e) => {
+                self.reason = Some(e);
+                Err(e)
+            }
+        }
+    }
+}
+
+impl<W: Write> Write for Noted<W> {
+    ghost contents = { λ s. W.contents s.inner };
+
+    fn write(&mut self, buf: &[u8]) -> Result<usize>
+        ensures bound { WritesAtMost result buf.now }
+        ensures bytes { WriteAppends (W.contents self.old.inner) (W.contents self.new.inner) result buf.now }
+        ensures reason { IfErr result (λ e. self.new.reason ≡ Some e) }
+    {
+        match self.inner.write(buf) {
+            Ok(n) => Ok(n),
+            Err(e) => {
+                self.reason = Some(e);
+                Err(e)
+            }
+        }
+    }
+
+    fn flush(&mut self) -> Result<()> {
+        self.inner.flush()
+    }
+}
+
+// Writes a line to standard error: what failed, as the caller names it, a colon and the reason in the system's words. Only a write that took nothing has failed with no reason of its own.
+pub fn fail<P: Eprint + Alloc>(rt: &P, what: &str, reason: Option<Error>) -> Result<()> {
+    match reason {
+        Some(e) => {
+            let text = format!(in rt.alloc(); "{e}")?;
+            let words = text.as_str();
+            // The number behind the system's words is not written.
+            match words.split_once(" (os error ") {
+                Some((words, _)) => eprintln!(rt; "{what}: {words}"),
+                None => eprintln!(rt; "{what}: {words}"),
+            }
+        }
+        None => eprintln!(rt; "{what}: nothing was taken"),
+    }
+}
