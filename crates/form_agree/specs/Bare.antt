@@ -1,13 +1,12 @@
 -- A record of the second form: the record of the first form that it has, and its written field. Assumes nothing.
-use Rattle.std.specs.Prelude.{◌≡◌, refl, List, [], ◌∷◌, ◌++◌, map, Bool, true, false, cond, ℕ, zero, suc, length, take, eqb}
+use Rattle.std.specs.Prelude.{◌≡◌, refl, List, [], ◌∷◌, ◌++◌, Bool, true, false, ℕ, suc, length, take}
 use Rattle.std.proofs.Common.{sym, ap, ◌∙◌}
 use Rattle.std.proofs.Math.Option.{Option, none, some}
 use Rattle.std.proofs.Math.Seq.{take-append_seam}
 use Rattle.definition.specs.Text.{◌>>=◌, read_number}
 use Rattle.definition.specs.JobSheet.{Word, opt, bank, class, reg, block, value, vgroup, operand, hint, seg, use', end}
-use Rattle.definition.specs.JobSheet.{Form, number, bits, use_flags, read_field, read_fields, Record, at, next, among}
-use Rattle.definition.specs.JobSheet.{ordered, only, options_of, bank_of, class_data_of, memory_of, block_data_of, value_data_of}
-use Rattle.definition.specs.JobSheet.{vgroup_of, operand_of, hint_of, segment_of, use_of, segments_of, job_of_records}
+use Rattle.definition.specs.JobSheet.{Form, number, read_field, read_fields, Record, at, next, among}
+use Rattle.definition.specs.JobSheet.{ordered}
 use Rattle.sheet_form.specs.Front.{Keeping, keep_of}
 use Rattle.agree.specs.Records.{rec}
 use Rattle.sheet_rows.specs.Sheets.{On}

@@ -12,8 +12,8 @@ use Rattle.definition.specs.declared.Use.{Use}
 use Rattle.definition.specs.Text.{◌>>=◌, given, lines_of, fields_of, read_number}
 use Rattle.definition.specs.JobSheet.{Word, opt, bank, class, reg, block, value, vgroup, operand, hint, seg, use', end}
 use Rattle.definition.specs.JobSheet.{word_number, all_words, word_among, Form, number, bits, use_flags, read_fields}
-use Rattle.definition.specs.JobSheet.{read_record, Record, at, ordered, only, float, options_of, bank_of, class_data_of}
-use Rattle.definition.specs.JobSheet.{memory_of, block_data_of, value_data_of, vgroup_of, operand_of, hint_of, flags_of}
+use Rattle.definition.specs.JobSheet.{read_record, Record, at, ordered, only, options_of, bank_of, class_data_of}
+use Rattle.definition.specs.JobSheet.{memory_of, block_data_of, value_data_of, vgroup_of, operand_of, hint_of}
 use Rattle.definition.specs.JobSheet.{segment_of, use_of, Segments, segments_of, job_of_records}
 use Rattle.definition.specs.SheetForms.{read_second, second_record, second_records, second_sheet}
 use Rattle.agree.specs.Words.{word_of, word_number_lem}
@@ -23,7 +23,7 @@ use Rattle.sheet_rows.specs.Stands.{SmallRecords}
 use Rattle.sheet_rows.specs.Sheets.{On, Sound}
 use Rattle.sheet_rows.specs.Choices.{Chosen, record_chosen, ChosenRecords}
 use Rattle.form_agree.specs.Lines.{Parted, last_of}
-use Rattle.form_agree.specs.Bare.{bare_fields, bare, fields_cut, fields_long, take_before, at_last, shrunk}
+use Rattle.form_agree.specs.Bare.{bare_fields, fields_cut, fields_long, take_before, at_last, shrunk}
 use Rattle.form_agree.specs.Bare.{shrunk_ordered}
 
 -- ---- the job

@@ -1,7 +1,7 @@
 -- The written fields that were kept are those of the records, in order. Assumes nothing.
-use Rattle.std.specs.Prelude.{◌≡◌, refl, List, [], ◌∷◌, ◌++◌, map, true, ℕ, zero, suc, ◌+◌, ◌-◌, ◌≤◌, ◌<◌, length, get_or, take, drop, set, replicate, ltb, eqb}
+use Rattle.std.specs.Prelude.{◌≡◌, refl, List, [], ◌∷◌, ◌++◌, true, ℕ, ◌+◌, ◌-◌, ◌≤◌, ◌<◌, length, take, drop, set, replicate, ltb}
 use Rattle.std.proofs.Common.{sym, ap, subst, ◌∙◌, append_assoc, append-nil, arith, length-append, drop_at, lt-ltb, le-ltb}
-use Rattle.std.proofs.lemmas.List.{length-replicate, replicate-append-replicate, set-append_left}
+use Rattle.std.proofs.lemmas.List.{replicate-append-replicate, set-append_left}
 use Rattle.std.proofs.Math.Seq.{take-append_seam}
 use Rattle.rows.specs.Parts.{set_past, pad, length_pad, pad_splice, pad_none}
 use Rattle.rows.specs.Moves.{store_1}
@@ -9,7 +9,7 @@ use Rattle.definition.specs.JobSheet.{Word, opt, bank, class, reg, block, value,
 use Rattle.definition.specs.JobSheet.{Record, at, only}
 use Rattle.definition.specs.SheetForms.{written_firsts, written_sets}
 use Rattle.sheet_rules.specs.Rules.{low_of}
-use Rattle.sheet_form.specs.Front.{Keeping, keeping, counts, keep_of}
+use Rattle.sheet_form.specs.Front.{Keeping, keep_of}
 use Rattle.agree.specs.Records.{rec}
 use Rattle.form_agree.specs.Bare.{keep_by, keep_all}
 use Rattle.form_agree.specs.Jobs.{WrittenSmall, AllBared}

@@ -13,7 +13,7 @@ use Rattle.agree.specs.Fields.{onward as took_on, take_all, closing, number_fiel
 use Rattle.agree.specs.Split.{Seen, gone, at, on, step_l, close_l, run_l as run_s, line_s, step_b, run_b, close_f, field_s}
 use Rattle.agree.specs.Split.{fields_s, close_r, close_lines}
 use Rattle.form_agree.specs.Views.{digits, Viewed, nought, seen, word, plain, before, written, with_p, on_v}
-use Rattle.form_agree.specs.Views.{place_after, after_p, took_p, in_line, line_end, run_l, line_v}
+use Rattle.form_agree.specs.Views.{after_p, took_p, in_line, line_end, run_l, line_v}
 
 nought_line : (l : List ℕ) → line_v nought l ≡ nought
 nought_line [] = refl

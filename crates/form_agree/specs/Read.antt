@@ -4,14 +4,12 @@ use Rattle.std.proofs.Math.Path.{refl, ap}
 use Rattle.std.proofs.Common.{sym, subst, ◌∙◌}
 use Rattle.std.proofs.Math.Bool.{true, false}
 use Rattle.std.proofs.Math.Option.{Option, none, some}
-use Rattle.definition.specs.Types.{Job}
 use Rattle.definition.specs.Text.{◌>>=◌}
 use Rattle.definition.specs.JobSheet.{block, seg, Record, only, sheet_of, job_of_records}
 use Rattle.definition.specs.SheetForms.{is_second, behind_form, second_sheet, records_in, job_in, written_firsts, written_sets}
-use Rattle.sheet_fields.specs.declared.Next.{Next}
 use Rattle.sheet_fields.specs.Fields.{Fed}
 use Rattle.sheet.specs.declared.Answer.{Answer}
-use Rattle.sheet.specs.Machine.{run_of, open_of, answer_of}
+use Rattle.sheet.specs.Machine.{open_of, answer_of}
 use Rattle.sheet_form.specs.Front.{Keeping, Formed, run_form, open_form, second_of, finish_of}
 use Rattle.agree.specs.Words.{Bytes, none_some}
 use Rattle.agree.specs.Table.{Filled, fill, blank}

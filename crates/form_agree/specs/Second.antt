@@ -1,7 +1,7 @@
 -- The lines of a sheet of the second form are its records. Assumes nothing.
 use Rattle.std.specs.Prelude.{◌≡◌, Bool, length, take}
 use Rattle.std.proofs.Math.Path.{refl, sym, ap}
-use Rattle.std.proofs.Common.{subst, ◌∙◌}
+use Rattle.std.proofs.Common.{◌∙◌}
 use mathlib.Core.List.{List, [], ◌∷◌, ◌++◌}
 use Rattle.std.proofs.Math.Bool.{true, false, cond}
 use Rattle.std.proofs.Math.Option.{Option, none, some}
@@ -17,7 +17,7 @@ use Rattle.sheet_fields.specs.declared.Next.TheVariants.{Go, Bad}
 use Rattle.sheet_fields.specs.Fields.{begin_of, start_of}
 use Rattle.sheet_form.specs.Front.{Keeping, keep_of}
 use Rattle.agree.specs.Words.{Bytes, spelled, word_of, record_word}
-use Rattle.agree.specs.Split.{Seen, gone, at as held, view_n, on, close_r, field_s, fields_s, line_s, done_s}
+use Rattle.agree.specs.Split.{Seen, gone, view_n, on, close_r, field_s, fields_s, line_s, done_s}
 use Rattle.agree.specs.Table.{Filled, keyed, put}
 use Rattle.agree.specs.Records.{rec, AllBytes, placed, line_p, started, Named?, named, no_follower, fields_bytes}
 use Rattle.agree.specs.Records.{first_field, fields_record, fields_record_lem, line_record, go_s}

@@ -1,5 +1,5 @@
 -- The machine, on the bytes of a sheet of either form, gives what the definition gives. Assumes nothing.
-use Rattle.std.specs.Prelude.{◌≡◌, refl, List, [], ◌∷◌, Bool, true, false, cond, ◌&&◌, ℕ, zero, suc, ◌+◌, ◌≤◌, ◌<◌, length, get_or, take, drop, set, replicate, ltb, eqb}
+use Rattle.std.specs.Prelude.{◌≡◌, refl, List, [], ◌∷◌, Bool, true, false, cond, ◌&&◌, ℕ, zero, suc, ◌+◌, ◌≤◌, length, get_or, take, drop, set, replicate, ltb, eqb}
 use Rattle.std.proofs.Common.{sym, ap, subst, ◌∙◌, arith, length-set, drop-drop, eqb-true, eq-eqb, ne_eqb, lt-ltb, le-ltb}
 use Rattle.std.proofs.lemmas.Bool.{false≢true, eqb-false}
 use Rattle.std.proofs.Math.Option.{Option, none, some}
@@ -17,15 +17,15 @@ use Rattle.sheet_fields.specs.Fields.{Fed, fed, begin_of, start_of, next_of, byt
 use Rattle.sheet.specs.Machine.{on_field, end_line, step_of, on_next, push_of, run_of, open_of, answer_of}
 use Rattle.sheet_form.specs.declared.Front.{Front}
 use Rattle.sheet_form.specs.declared.Front.TheVariants.{Opening, First, Word, Plain, Before, Written}
-use Rattle.sheet_form.specs.Front.{Stands, stands, opening_of, Keeping, keeping, counts, Formed, onward, by_front}
+use Rattle.sheet_form.specs.Front.{stands, opening_of, Keeping, keeping, counts, Formed, onward}
 use Rattle.sheet_form.specs.Front.{push_form, run_form, open_form, second_of, finish_of}
 use Rattle.agree.specs.Words.{Bytes}
-use Rattle.agree.specs.Split.{view, view_n}
-use Rattle.agree.specs.Table.{Filled, filled, fill, blank}
-use Rattle.agree.specs.Records.{AllBytes, placed, go_s}
-use Rattle.agree.specs.Order.{ordered_n, same_order, likes_start}
-use Rattle.agree.specs.Agree.{outcome, ans_s, ordered_answer, LinesBytes, lines_bytes}
-use Rattle.form_agree.specs.Views.{Viewed, nought, word, with_p, view_p, view_f, run_v, lines_v, Ended, with_kept, ans_v}
+use Rattle.agree.specs.Split.{view_n}
+use Rattle.agree.specs.Table.{fill, blank}
+use Rattle.agree.specs.Records.{placed, go_s}
+use Rattle.agree.specs.Order.{same_order, likes_start}
+use Rattle.agree.specs.Agree.{outcome, ordered_answer, LinesBytes, lines_bytes}
+use Rattle.form_agree.specs.Views.{word, with_p, view_p, run_v, Ended, with_kept, ans_v}
 use Rattle.form_agree.specs.Views.{ans_word, CutV, cut_lines, view_runs, second_stays}
 use Rattle.form_agree.specs.Bare.{shrunk, keep_all, shrunk_ordered}
 use Rattle.form_agree.specs.Second.{sheet_q, lines_second}

@@ -16,15 +16,14 @@ use Rattle.numeral.specs.declared.Took.TheVariants as T
 use Rattle.sheet_fields.specs.declared.St.{St}
 use Rattle.sheet_fields.specs.declared.Next.{Next}
 use Rattle.sheet_fields.specs.declared.Next.TheVariants.{Go, Bad}
-use Rattle.sheet_fields.specs.Fields.{Fed, fed, byte_of, end_field}
-use Rattle.sheet.specs.Machine.{end_line, step_of, push_of, ended_of, answer_of}
+use Rattle.sheet_fields.specs.Fields.{Fed, fed}
+use Rattle.sheet.specs.Machine.{step_of, push_of, answer_of}
 use Rattle.sheet_form.specs.declared.Front.{Front}
 use Rattle.sheet_form.specs.declared.Front.TheVariants.{Opening, First, Word, Plain, Before, Written}
-use Rattle.sheet_form.specs.declared.Stood.{Stood}
-use Rattle.sheet_form.specs.Front.{stands, stood, lost, standing, on_digit, after_word, front_after, in_word, in_plain}
+use Rattle.sheet_form.specs.Front.{stands, stood, lost, standing, on_digit, front_after, in_word, in_plain}
 use Rattle.sheet_form.specs.Front.{before_of, written_of, close_of, Keeping, keep_of, Formed, onward, by_front, push_form}
 use Rattle.sheet_form.specs.Front.{run_form, second_of, finish_of}
-use Rattle.agree.specs.Split.{Seen, gone, at, view_n, view, on, step_l, close_l, step_b, close_f, Mid, mid}
+use Rattle.agree.specs.Split.{Seen, gone, at, view_n, view, step_l, close_l, step_b, close_f, Mid, mid}
 use Rattle.agree.specs.Table.{Filled}
 use Rattle.agree.specs.Agree.{outcome, ans_s, mid_answer}
 

@@ -3,17 +3,15 @@ use mathlib.Core.Path.{◌≡◌, refl, sym, ap, subst, ◌∙◌}
 use mathlib.Core.List.{List}
 use mathlib.Core.Bool.{Bool, true, false, cond}
 use mathlib.Core.Option.{Option, none, some}
-use Prim.Native.Nat.{ℕ, ◌≤◌, ◌<◌}
+use Prim.Native.Nat.{ℕ}
 use native.Mathlib.Omega.{arith}
-use lib.ListN.{length, get_or}
 use Rattle.words.specs.Words.{word_count, words_of}
 use Rattle.definition.specs.declared.Refusal.{Refusal}
 use Rattle.definition.specs.declared.Refusal.TheVariants.{NotARecord, OverALimit}
 use Rattle.definition.specs.Entry.{entry}
 use Rattle.definition.specs.Text.{◌>>=◌}
 use Rattle.definition.specs.JobSheet.{Record, job_of_records}
-use Rattle.definition.specs.declared.SheetRefusal.{SheetRefusal}
-use Rattle.definition.specs.declared.SheetRefusal.TheVariants.{By, WrittenDiffers}
+use Rattle.definition.specs.declared.SheetRefusal.TheVariants.{By}
 use Rattle.definition.specs.SheetForms.{is_second, tenth_test, verdict, job_in}
 use Rattle.definition.proofs.Forms.{not_zero}
 use Rattle.layout.specs.declared.Layout.{Layout}

@@ -2,7 +2,6 @@ use borrow.Author.Tests.{eq-eqb, ne_eqb}
 use Rattle.sheet.specs.Machine.{ended_of}
 use Rattle.sheet.proofs.ended.Goals as goal
 
-
 pub returns-then-s-ne11 : goal.returns-then-s-ne11
 unfolding ended_of
 returns-then-s-ne11 c = simp (ne_eqb _ _ c.if-s-ne11.true)

@@ -1,6 +1,5 @@
 use Rattle.sheet.proofs.Ways.{run_more, run_done}
 use mathlib.Core.Path.{refl, sym, ◌∙◌}
-use Prim.Native.Nat.{◌-◌}
 use borrow.Author.Rules.{rules}
 use Rattle.sheet.proofs.feed.Goals as goal
 

@@ -1,7 +1,6 @@
 use Rattle.sheet.proofs.Ways.{judged_bad, judged_go}
 use Rattle.sheet.proofs.finish.Goals as goal
 
-
 pub returns-in-Bad : goal.returns-in-Bad
 returns-in-Bad c = judged_bad _ c.in-Bad.is
 

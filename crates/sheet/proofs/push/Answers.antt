@@ -1,7 +1,6 @@
 use Rattle.sheet.proofs.Ways.{push_go, push_bad}
 use Rattle.sheet.proofs.push.Goals as goal
 
-
 pub returns-in-Go : goal.returns-in-Go
 returns-in-Go c = push_go _ _ _ _ _ c.in-Go.is c.step.ensures
 

@@ -3,7 +3,6 @@ use borrow.Author.Tests.{eq-eqb, ne_eqb}
 use mathlib.Core.Path.{sym}
 use Rattle.sheet.proofs.step.Goals as goal
 
-
 pub returns-then-b-eq10 : goal.returns-then-b-eq10
 unfolding step_of
 returns-then-b-eq10 c = simp (eq-eqb _ _ c.if-b-eq10.true, sym c.end_line.ensures)

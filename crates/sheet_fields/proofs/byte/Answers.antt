@@ -1,7 +1,6 @@
 use Rattle.sheet_fields.proofs.Ways.{byte_go, byte_bad}
 use Rattle.sheet_fields.proofs.byte.Goals as goal
 
-
 pub returns-in-Num : goal.returns-in-Num
 returns-in-Num c = byte_go _ _ _ (cc)
 

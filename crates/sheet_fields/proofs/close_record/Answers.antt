@@ -2,7 +2,6 @@ use Rattle.words.specs.Words.{words_of}
 use Rattle.sheet_fields.proofs.Ways.{close_more, close_row, close_full}
 use Rattle.sheet_fields.proofs.close_record.Goals as goal
 
-
 pub returns-then-more_after-eq1 : goal.returns-then-more_after-eq1
 returns-then-more_after-eq1 c = close_more _ _ _ c.more_after.ensures c.if-more_after-eq1.true
 

@@ -3,7 +3,6 @@ use borrow.Author.Tests.{eq-eqb, ne_eqb}
 use mathlib.Core.Path.{sym}
 use Rattle.sheet_fields.proofs.start.Goals as goal
 
-
 pub returns-then-follows-eq0 : goal.returns-then-follows-eq0
 unfolding start_of
 returns-then-follows-eq0 c = simp (sym c.key_of-k.ensures, sym c.follows.ensures, eq-eqb _ _ c.if-follows-eq0.true)

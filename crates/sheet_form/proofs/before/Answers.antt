@@ -3,7 +3,6 @@ use borrow.Author.Tests.{eq-eqb, ne_eqb, lt-ltb, le-ltb}
 use mathlib.Core.Path.{sym}
 use Rattle.sheet_form.proofs.before.Goals as goal
 
-
 pub returns-then-b-eq10 : goal.returns-then-b-eq10
 unfolding before_of
 returns-then-b-eq10 c = simp (eq-eqb _ _ c.if-b-eq10.true)
@@ -19,8 +18,8 @@ returns-then-left-lt2 c = simp (ne_eqb _ _ c.if-b-eq10.false, eq-eqb _ _ c.if-b-
 pub returns : goal.returns
 unfolding before_of
 returns c = simp (
-      ne_eqb _ _ c.if-b-eq10.false,
-      eq-eqb _ _ c.if-b-ne9.false,
-      le-ltb _ _ c.if-left-lt2.false,
-      sym c.push-more-2.ensures,
-    )
+  ne_eqb _ _ c.if-b-eq10.false,
+  eq-eqb _ _ c.if-b-ne9.false,
+  le-ltb _ _ c.if-left-lt2.false,
+  sym c.push-more-2.ensures,
+)

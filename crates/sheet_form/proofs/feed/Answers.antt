@@ -1,6 +1,5 @@
 use Rattle.sheet_form.proofs.Ways.{run_rest, run_more, run_done}
 use mathlib.Core.Path.{refl, sym, ◌∙◌}
-use Prim.Native.Nat.{◌-◌}
 use borrow.Author.Rules.{rules}
 use Rattle.sheet_form.proofs.feed.Goals as goal
 
@@ -14,10 +13,10 @@ returns-then-is_first c = run_rest c.loop-i.at _ _ _ _ _ c.args.part.now c.loop-
 
 pub loop-i-preserved : goal.loop-i-preserved
 loop-i-preserved c = (
-      search rules,
-      search rules,
-      c.loop-i.invariant.2 ∙ run_more _ _ _ _ c.loop-i-test.true c.push-at.ensures,
-    )
+  search rules,
+  search rules,
+  c.loop-i.invariant.2 ∙ run_more _ _ _ _ c.loop-i-test.true c.push-at.ensures,
+)
 
 pub returns : goal.returns
 returns c = sym (c.loop-i.invariant.2 ∙ run_done _ _ _ c.loop-i-test.false)

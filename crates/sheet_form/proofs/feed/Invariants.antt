@@ -5,7 +5,6 @@ use Rattle.words.specs.Words.{words_of}
 use Rattle.sheet_form.specs.Front.{formed, run_form}
 use Rattle.sheet_form.proofs.feed.Given as goal
 
-
 abbrev pub invariant-loop-i : goal.invariant-loop-i
 invariant-loop-i l = (length l.table ≡ length l.initial.table) × (length l.written ≡ length l.initial.written)
     × (run_form (formed l.initial.at (words_of l.initial.table) (words_of l.initial.written)) (drop l.initial.i l.part)

@@ -1,7 +1,6 @@
 use Rattle.sheet_form.specs.Front.{finish_of}
 use Rattle.sheet_form.proofs.finish.Goals as goal
 
-
 pub returns-in-Opening : goal.returns-in-Opening
 unfolding finish_of
 returns-in-Opening c = rw c.in-Opening.is c.finish.ensures

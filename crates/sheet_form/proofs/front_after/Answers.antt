@@ -1,7 +1,6 @@
 use Rattle.sheet_form.proofs.Ways.{after_block, after_seg, after_plain, after_bad}
 use Rattle.sheet_form.proofs.front_after.Goals as goal
 
-
 pub returns-then-t-eq4 : goal.returns-then-t-eq4
 returns-then-t-eq4 c = after_block _ _ c.in-Go.is c.if-t-eq4.true
 

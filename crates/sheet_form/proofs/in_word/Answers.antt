@@ -4,7 +4,6 @@ use borrow.Author.Tests.{ne_eqb}
 use mathlib.Core.Path.{sym}
 use Rattle.sheet_form.proofs.in_word.Goals as goal
 
-
 pub returns-then-b-eq9 : goal.returns-then-b-eq9
 returns-then-b-eq9 c = word_tab _ _ _ _ c.push-more.ensures c.front_after.ensures c.if-b-eq9.true
 

@@ -4,7 +4,6 @@ use borrow.Author.Tests.{eq-eqb}
 use mathlib.Core.Path.{sym, ◌∙◌}
 use Rattle.sheet_form.proofs.in_written.Goals as goal
 
-
 pub returns-then-b-eq9 : goal.returns-then-b-eq9
 unfolding written_of
 returns-then-b-eq9 c = simp (eq-eqb _ _ c.if-b-eq9.true)

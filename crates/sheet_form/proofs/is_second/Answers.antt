@@ -1,7 +1,6 @@
 use Rattle.sheet_form.specs.Front.{second_of}
 use Rattle.sheet_form.proofs.is_second.Goals as goal
 
-
 pub returns-in-Opening : goal.returns-in-Opening
 unfolding second_of
 returns-in-Opening c = rw c.in-Opening.is

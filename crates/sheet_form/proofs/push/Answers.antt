@@ -5,7 +5,6 @@ use Rattle.sheet_form.specs.declared.Front.TheVariants.{First}
 use Rattle.sheet_form.specs.Front.{stands}
 use Rattle.sheet_form.proofs.push.Goals as goal
 
-
 pub returns-then-b-eq10 : goal.returns-then-b-eq10
 returns-then-b-eq10 c = push_by _ _ _ _ _ c.in-Written.is _ _ _ _ _ c.with_kept-then-b-eq10.ensures
     (line_ends _ _ _ _ _ _ _ c.if-b-eq10.true c.close_written.ensures c.keep-more.ensures)

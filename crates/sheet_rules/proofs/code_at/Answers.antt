@@ -5,7 +5,6 @@ use mathlib.Core.Path.{sym}
 use Rattle.sheet_rules.specs.Rules.{code_at, forms}
 use Rattle.sheet_rules.proofs.code_at.Goals as goal
 
-
 pub returns-then-n-gt10 : goal.returns-then-n-gt10
 unfolding code_at forms
 returns-then-n-gt10 c = simp (lt-ltb _ _ c.if-n-gt10.true)
@@ -19,3 +18,6 @@ overflow_add-i c = omega (arith, c.form_row.ensures, form_row_lt c.args.key c.ar
 pub returns : goal.returns
 unfolding code_at forms
 returns c = simp (le-ltb _ _ c.if-n-gt10.false, sym c.form_row.ensures)
+
+pub bounds-i : goal.bounds-i
+bounds-i c = omega (arith, c.form_row.ensures, form_row_lt c.args.key c.args.kind c.args.n, c.if-n-gt10.false)

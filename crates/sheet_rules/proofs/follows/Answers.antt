@@ -2,7 +2,6 @@ use borrow.Author.Tests.{le-ltb, lt-ltb}
 use Rattle.sheet_rules.specs.Rules.{follows_of, order}
 use Rattle.sheet_rules.proofs.follows.Goals as goal
 
-
 pub returns-then-prev-gt12 : goal.returns-then-prev-gt12
 unfolding follows_of order
 returns-then-prev-gt12 c = simp (lt-ltb _ _ c.if-prev-gt12.true)

@@ -2,7 +2,6 @@ use borrow.Author.Tests.{eq-eqb, ne_eqb}
 use Rattle.sheet_rules.specs.Rules.{form_of}
 use Rattle.sheet_rules.proofs.form_of.Goals as goal
 
-
 pub returns-then-code-eq1 : goal.returns-then-code-eq1
 unfolding form_of
 returns-then-code-eq1 c = simp (eq-eqb _ _ c.if-code-eq1.true)

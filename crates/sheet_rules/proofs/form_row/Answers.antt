@@ -2,7 +2,6 @@ use borrow.Author.Tests.{eq-eqb, le-ltb, lt-ltb, ne_eqb}
 use Rattle.sheet_rules.specs.Rules.{form_row}
 use Rattle.sheet_rules.proofs.form_row.Goals as goal
 
-
 pub returns-then-key-lt12 : goal.returns-then-key-lt12
 unfolding form_row
 returns-then-key-lt12 c = simp (ne_eqb _ _ c.if-key-ne10.true, lt-ltb _ _ c.if-key-lt12.true)

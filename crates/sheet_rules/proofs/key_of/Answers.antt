@@ -2,7 +2,6 @@ use borrow.Author.Tests.{eq-eqb, ne_eqb}
 use Rattle.sheet_rules.specs.Rules.{key_of}
 use Rattle.sheet_rules.proofs.key_of.Goals as goal
 
-
 pub returns-then-word-eq7303284 : goal.returns-then-word-eq7303284
 unfolding key_of
 returns-then-word-eq7303284 c = simp (eq-eqb _ _ c.if-word-eq7303284.true)

@@ -3,7 +3,6 @@ use mathlib.Core.Path.{sym}
 use Rattle.sheet_rules.specs.Rules.{kind_after}
 use Rattle.sheet_rules.proofs.kind_after.Goals as goal
 
-
 pub returns-then-n-eq1 : goal.returns-then-n-eq1
 unfolding kind_after
 returns-then-n-eq1 c = simp (eq-eqb _ _ c.if-n-eq1.true, sym c.low.ensures)

@@ -3,7 +3,6 @@ use mathlib.Core.Path.{sym}
 use Rattle.sheet_rules.specs.Rules.{more_after}
 use Rattle.sheet_rules.proofs.more_after.Goals as goal
 
-
 pub returns-then-key-eq6 : goal.returns-then-key-eq6
 unfolding more_after
 returns-then-key-eq6 c = simp (eq-eqb _ _ c.if-key-eq6.true)

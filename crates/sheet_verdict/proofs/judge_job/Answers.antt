@@ -2,7 +2,6 @@ use Rattle.sheet_verdict.proofs.Ways.{tested_refused, tested_ten, tested_second,
 use borrow.Author.Tests.{not-true, not-false}
 use Rattle.sheet_verdict.proofs.judge_job.Goals as goal
 
-
 pub returns-then-e-ne0 : goal.returns-then-e-ne0
 returns-then-e-ne0 c = let e = c.enter_prepared-e.ensures in
     tested_refused _ _ _ _ _ _ e.number_value.0 e.number_value.1 c.if-e-ne0.true
@@ -10,15 +9,15 @@ returns-then-e-ne0 c = let e = c.enter_prepared-e.ensures in
 pub as_implied-requires : goal.as_implied-requires
 as_implied-requires c = let p = c.enter_prepared-e in
     let e = p.ensures in (
-      implied_asked _ _ p.result _ e.0.1
-          (e.1 c.if-e-ne0.false),
+      implied_asked _ _ p.result _ e.number_value.1
+          (e.accepted c.if-e-ne0.false),
       c.requires.1,
     )
 
 pub returns-then-not-as_implied : goal.returns-then-not-as_implied
 returns-then-not-as_implied c = let p = c.enter_prepared-e in
     let e = p.ensures in
-    tested_ten _ _ _ _ _ p.result e.0.0 e.0.1 c.if-e-ne0.false
+    tested_ten _ _ _ _ _ p.result e.number_value.0 e.number_value.1 c.if-e-ne0.false
     c.if-second.true _ c.as_implied.ensures
     (not-true _ c.if-not-as_implied.true-raw) _ c.refuse.ensures
 

@@ -1,5 +1,4 @@
 use native.Mathlib.Omega.{arith}
-use Prim.Native.Nat.{◌-◌}
 use Rattle.sheet_written.proofs.Firsts.{firsts_start, firsts_stop, firsts_next}
 use Rattle.sheet_written.proofs.Firsts.{firsts_end, firsts_few}
 use Rattle.sheet_written.proofs.firsts_as_implied.Goals as goal

@@ -1,5 +1,4 @@
 use native.Mathlib.Omega.{arith}
-use Prim.Native.Nat.{◌-◌}
 use Rattle.sheet_written.proofs.Sets.{sets_start, sets_stop, sets_next, sets_end}
 use Rattle.sheet_written.proofs.sets_as_implied.Goals as goal
 
