@@ -2,7 +2,6 @@ use Rattle.answer_pages.specs.Laws.{fill_asked, fill_turned, refused_turned}
 use borrow.Author.Rules.{rules}
 use Rattle.answer_pages.proofs.page.Goals as goal
 
-
 pub fill-requires : goal.fill-requires
 fill-requires c = fill_asked _ _ _ _ c.requires.0 c.if-end-eq0.true
 

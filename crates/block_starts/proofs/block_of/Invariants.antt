@@ -3,7 +3,6 @@ use Rattle.words.specs.Words.{words_of}
 use Rattle.block_starts.proofs.Loops.{Between}
 use Rattle.block_starts.proofs.block_of.Given as goal
 
-
 abbrev pub invariant-loop-high : goal.invariant-loop-high
 invariant-loop-high l = Between (words_of l.starts) l.at l.n l.inst.0 l.low l.high
 

@@ -5,7 +5,6 @@ use lib.ListN.{replicate}
 use Rattle.build.proofs.Shaped.{answered_as, sets_ready, built_counts, answered_built, answered_ended}
 use Rattle.build.proofs.build_entered.Goals as goal
 
-
 pub build_sets-r-requires : goal.build_sets-r-requires
 build_sets-r-requires c = let p = c.requires in
     sets_ready _ _ _ _ _ _ p.0 p.1 _ _ p.2 p.3

@@ -5,7 +5,6 @@ use Rattle.build.proofs.Shaped.{answered_as}
 use Rattle.build.proofs.Whole.{part_long, part_cleared, answered_whole, shaped_found, answered_off}
 use Rattle.build.proofs.build_initial_vregs.Goals as goal
 
-
 pub returns-then-not-shape : goal.returns-then-not-shape
 returns-then-not-shape c = answered_as c.refuse.ensures (answered_off _ _ _ _ _ _ _ _ _ _ c.clear.ensures.zeroed c.out_layout-ol.ensures refl c.find_layout-shape.ensures c.if-not-shape.true)
 

@@ -2,7 +2,6 @@ use native.Mathlib.Omega.{arith}
 use Rattle.build.proofs.Shaped.{answered_as, refused_entry, answered_entry}
 use Rattle.build.proofs.build_shaped.Goals as goal
 
-
 pub returns-then-test-ne0 : goal.returns-then-test-ne0
 returns-then-test-ne0 c = let p = c.requires in
     answered_as c.refuse.ensures

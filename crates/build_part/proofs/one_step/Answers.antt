@@ -8,7 +8,6 @@ use Rattle.build_part.proofs.Turns.{turn_asked}
 use Rattle.build_part.proofs.Ways.{step_whole, step_turn, step_halt}
 use Rattle.build_part.proofs.one_step.Goals as goal
 
-
 pub next_move-m-requires : goal.next_move-m-requires
 next_move-m-requires c = let g = c.requires in
     let r = part_range _ _ _ g.laid.ok in
@@ -23,7 +22,7 @@ pub returns-in-Whole : goal.returns-in-Whole
 returns-in-Whole c = let g = c.requires in
     let both =
     step_whole g _ _ _ (λ st h. moves_whole _ _ _ _ _ g.laid.ok st _ _ (c.next_move-m.ensures st h) c.in-Whole.is) _ _ _ c.place_part-r.ensures _ c.over.ensures in
-    record { stepped = both.0;  step_to = both.1; }
+    record { stepped = both.0; step_to = both.1 }
 
 pub turn_one-requires : goal.turn_one-requires
 turn_one-requires c = let g = c.requires in
@@ -38,7 +37,7 @@ returns-in-Turn c = let g = c.requires in
     let both =
     step_turn g _ _ _ (λ st h. moves_turn _ _ _ _ _ g.laid.ok st _ _ (c.next_move-m.ensures st h) _ c.in-Turn.is ∙ ap turn (sym c.saturating_sub-i.ensures))
     (sym (length_words _)) _ c.turn_one.ensures _ c.go_on.ensures in
-    record { stepped = both.0;  step_to = both.1; }
+    record { stepped = both.0; step_to = both.1 }
 
 pub step_cut-requires : goal.step_cut-requires
 step_cut-requires c = let g = c.requires in
@@ -48,4 +47,4 @@ pub returns-in-Halt : goal.returns-in-Halt
 returns-in-Halt c = let g = c.requires in
     let both =
     step_halt g _ _ _ (λ st h. moves_halt _ _ _ _ _ g.laid.ok st _ _ (c.next_move-m.ensures st h) _ c.in-Halt.is) _ c.over-in-Halt.ensures in
-    record { stepped = both.0;  step_to = both.1; }
+    record { stepped = both.0; step_to = both.1 }

@@ -5,7 +5,6 @@ use Rattle.words.specs.Words.{words_of, word_count}
 use Rattle.build_sets.proofs.All.{Setting}
 use Rattle.build_sets.proofs.build_sets.Given as goal
 
-
 abbrev pub invariant-loop-a : goal.invariant-loop-a
 invariant-loop-a l = Setting (word_count l.job) (word_count l.initial.work) (word_count l.initial.out) (words_of l.job) l.lay l.wl l.ol (words_of l.work) (words_of l.out) l.a l.c × (length l.work ≡ length l.initial.work) × (length l.out ≡ length l.initial.out)
 

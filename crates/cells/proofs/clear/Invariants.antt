@@ -4,7 +4,6 @@ use Prim.Native.Nat.{◌≤◌, ◌-◌, ◌+◌}
 use lib.ListN.{length, drop, replicate}
 use Rattle.cells.proofs.clear.Given as goal
 
-
 abbrev pub invariant-loop-i : goal.invariant-loop-i
 invariant-loop-i l = (l.i ≤ length l.initial.out) × (length l.out ≡ length l.initial.out) × (l.out ≡ replicate l.i 0 ++ drop l.i l.initial.out)
 

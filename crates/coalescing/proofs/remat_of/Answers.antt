@@ -2,7 +2,6 @@ use borrow.Author.Tests.{ne_eqb}
 use Rattle.coalescing.specs.Rows.{remat_of}
 use Rattle.coalescing.proofs.remat_of.Goals as goal
 
-
 pub returns-in-1 : goal.returns-in-1
 unfolding remat_of
 returns-in-1 c = simp c.in-1.is

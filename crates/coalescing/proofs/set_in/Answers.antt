@@ -1,7 +1,6 @@
 use Rattle.coalescing.proofs.Values.{set_known, set_past}
 use Rattle.coalescing.proofs.set_in.Goals as goal
 
-
 pub returns-then-k-n : goal.returns-then-k-n
 returns-then-k-n c = set_known _ _ _ _ _ _ (cc) c.if-k-n.true c.word_at.ensures
 

@@ -31,10 +31,10 @@ overflow_add-i c = omega (arith, c.loop-i-test.true, c.ranges)
 
 pub loop-i-preserved : goal.loop-i-preserved
 loop-i-preserved c = let o = run_outside _ _ _ _ _ _ _ _ _ _ c.loop-i.invariant.0 in (
-      run_next _ _ _ _ _ _ _ _ _ _ c.loop-i.invariant.0 c.loop-i-test.true _ (c.turned_use-u.ensures ∙ row_kept _ _ _ _ o c.requires.1 _ _) _ _ c.map_use.ensures c.if-not-map_use.false-raw,
-      omega (arith, c.loop-i.invariant.1, c.map_use),
-      omega (arith, c.loop-i.invariant.2),
-    )
+  run_next _ _ _ _ _ _ _ _ _ _ c.loop-i.invariant.0 c.loop-i-test.true _ (c.turned_use-u.ensures ∙ row_kept _ _ _ _ o c.requires.1 _ _) _ _ c.map_use.ensures c.if-not-map_use.false-raw,
+  omega (arith, c.loop-i.invariant.1, c.map_use),
+  omega (arith, c.loop-i.invariant.2),
+)
 
 pub returns : goal.returns
 returns c = maps_conflict _ _ _ _ _ _ _ _ _ (run_end _ _ _ _ _ _ _ _ _ _ c.loop-i.invariant.0 c.loop-i-test.false)

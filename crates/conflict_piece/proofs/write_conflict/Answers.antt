@@ -3,7 +3,6 @@ use Rattle.words.specs.Laws.{length_words}
 use Rattle.conflict_piece.proofs.Rows.{conflict_written}
 use Rattle.conflict_piece.proofs.write_conflict.Goals as goal
 
-
 pub write_opening-k-requires : goal.write_opening-k-requires
 write_opening-k-requires c = (c.requires.fits.2, omega (arith, c.requires.room.1))
 

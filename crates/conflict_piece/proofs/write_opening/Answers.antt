@@ -3,7 +3,6 @@ use Rattle.words.specs.Laws.{length_words}
 use Rattle.conflict_piece.proofs.Rows.{open_none, open_some, open_room}
 use Rattle.conflict_piece.proofs.write_opening.Goals as goal
 
-
 pub returns-then-not-param : goal.returns-then-not-param
 returns-then-not-param c = open_none _ _ _ c.args.pos c.args.param c.if-not-param.true
 

@@ -1,7 +1,6 @@
 use Rattle.conflict_round.proofs.Trying.{admit_is}
 use Rattle.conflict_round.proofs.admit_row.Goals as goal
 
-
 pub turned_use-u-requires : goal.turned_use-u-requires
 turned_use-u-requires c = (c.requires.0.fits, c.requires.2, c.requires.3)
 

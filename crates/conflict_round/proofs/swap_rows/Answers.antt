@@ -1,6 +1,5 @@
 use Rattle.conflict_round.proofs.Swap.{swapped}
 use Rattle.conflict_round.proofs.swap_rows.Goals as goal
 
-
 pub returns : goal.returns
 returns c = swapped _ _ _ _ _ _ _ _ c.row_words-x.ensures c.row_words-y.ensures c.put_4.ensures c.put_4-2.ensures

@@ -21,10 +21,10 @@ loop-i-smaller-then-r c = omega (arith, c.loop-i-test.true)
 
 pub loop-i-preserved-then-r : goal.loop-i-preserved-then-r
 loop-i-preserved-then-r c = let v = c.loop-i.invariant in (
-      trying_yes _ _ _ _ _ _ _ _ _ _ _ _ _ _ v.0 c.loop-i-test.true _
-          (λ st hs. c.admit_row-r.ensures st (stands_kept _ _ _ _ _ _ v.0.elsewhere c.requires.2 _ _ _ st hs)) c.if-r.true,
-      v.1,
-    )
+  trying_yes _ _ _ _ _ _ _ _ _ _ _ _ _ _ v.0 c.loop-i-test.true _
+      (λ st hs. c.admit_row-r.ensures st (stands_kept _ _ _ _ _ _ v.0.elsewhere c.requires.2 _ _ _ st hs)) c.if-r.true,
+  v.1,
+)
 
 pub overflow_sub-j : goal.overflow_sub-j
 overflow_sub-j c = omega (arith, c.loop-i-test.true)
@@ -39,14 +39,14 @@ loop-i-smaller c = omega (arith, c.loop-i-test.true)
 
 pub loop-i-preserved : goal.loop-i-preserved
 loop-i-preserved c = let v = c.loop-i.invariant in (
-      trying_no _ _ _ _ _ _ _ _ _ _ _ _ _ _ v.0 c.loop-i-test.true _
-          (λ st hs. c.admit_row-r.ensures st (stands_kept _ _ _ _ _ _ v.0.elsewhere c.requires.2 _ _ _ st hs)) c.if-r.false _ refl _ c.swap_rows.ensures (count_is c.args.work.now c.loop-i.work v.1),
-      omega (arith, v.1, c.swap_rows.auto.work),
-    )
+  trying_no _ _ _ _ _ _ _ _ _ _ _ _ _ _ v.0 c.loop-i-test.true _
+      (λ st hs. c.admit_row-r.ensures st (stands_kept _ _ _ _ _ _ v.0.elsewhere c.requires.2 _ _ _ st hs)) c.if-r.false _ refl _ c.swap_rows.ensures (count_is c.args.work.now c.loop-i.work v.1),
+  omega (arith, v.1, c.swap_rows.auto.work),
+)
 
 pub shape_of-work : goal.shape_of-work
 shape_of-work c = omega (arith, c.loop-i.invariant.1)
 
 pub returns : goal.returns
 returns c = let v = c.loop-i.invariant in
-    record { parted = (v.0.low, omega (arith, v.0.mid, v.0.high), v.0.elsewhere, rows_now c.args.work.now c.loop-i.work _ _ _ _ _ v.1 v.0.rows);  tried = trying_end _ _ _ _ _ _ _ _ _ _ _ _ _ _ v.0 _ c.fresh_held-held.ensures c.loop-i-test.false; }
+    record { parted = (v.0.low, omega (arith, v.0.mid, v.0.high), v.0.elsewhere, rows_now c.args.work.now c.loop-i.work _ _ _ _ _ v.1 v.0.rows); tried = trying_end _ _ _ _ _ _ _ _ _ _ _ _ _ _ v.0 _ c.fresh_held-held.ensures c.loop-i-test.false }

@@ -32,7 +32,7 @@ shape_of-work-then-not-is_done c = omega (arith, c.loop-i.invariant.1, c.at_inst
 pub returns-then-not-is_done : goal.returns-then-not-is_done
 returns-then-not-is_done c = let v = c.loop-i.invariant.0 in
     let e = c.run_end-e.ensures in
-    let r = c.at_inst-r.ensures in record { between = between_then _ _ _ _ _ v.between r.rounded.between;  ends_as = going_stop _ _ _ _ _ _ _ _ _ _ _ _ _ _ _ _ _ v _ e.0 e.1 e.2 _ _ _ r.rounded r.ends_as (done_not _ _ c.is_done.ensures c.if-not-is_done.true-raw); }
+    let r = c.at_inst-r.ensures in record { between = between_then _ _ _ _ _ v.between r.rounded.between; ends_as = going_stop _ _ _ _ _ _ _ _ _ _ _ _ _ _ _ _ _ v _ e.0 e.1 e.2 _ _ _ r.rounded r.ends_as (done_not _ _ c.is_done.ensures c.if-not-is_done.true-raw) }
 
 pub loop-i-smaller : goal.loop-i-smaller
 loop-i-smaller c = omega (arith, c.loop-i-test.true, c.run_end-e.ensures.0)
@@ -53,4 +53,4 @@ pub shape_of-work : goal.shape_of-work
 shape_of-work c = omega (arith, c.loop-i.invariant.1)
 
 pub returns : goal.returns
-returns c = let v = c.loop-i.invariant.0 in record { between = v.between;  ends_as = going_end _ _ _ _ _ _ _ _ _ _ _ _ _ _ _ _ _ v c.loop-i-test.false _ refl refl; }
+returns c = let v = c.loop-i.invariant.0 in record { between = v.between; ends_as = going_end _ _ _ _ _ _ _ _ _ _ _ _ _ _ _ _ _ v c.loop-i-test.false _ refl refl }

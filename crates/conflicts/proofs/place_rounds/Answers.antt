@@ -25,7 +25,7 @@ shape_of-work-then-not-is_done c = omega (arith, c.loop-i.invariant.1, c.place_r
 
 pub returns-then-not-is_done : goal.returns-then-not-is_done
 returns-then-not-is_done c = let v = c.loop-i.invariant.0 in
-    let r = c.place_round-r in record { rounded = rounded_then _ _ _ _ _ _ v.rounded r.ensures.onto_next.2;  ends_as = rounding_stop _ _ _ _ _ _ _ _ _ _ _ _ _ _ _ _ _ _ _ v c.loop-i-test.true _ _ _ _ r.ensures.round_as (done_not _ _ c.is_done.ensures c.if-not-is_done.true-raw); }
+    let r = c.place_round-r in record { rounded = rounded_then _ _ _ _ _ _ v.rounded r.ensures.onto_next.2; ends_as = rounding_stop _ _ _ _ _ _ _ _ _ _ _ _ _ _ _ _ _ _ _ v c.loop-i-test.true _ _ _ _ r.ensures.round_as (done_not _ _ c.is_done.ensures c.if-not-is_done.true-raw) }
 
 pub loop-i-smaller : goal.loop-i-smaller
 loop-i-smaller c = let r = c.place_round-r in
@@ -50,4 +50,4 @@ pub shape_of-work : goal.shape_of-work
 shape_of-work c = omega (arith, c.loop-i.invariant.1)
 
 pub returns : goal.returns
-returns c = let v = c.loop-i.invariant.0 in record { rounded = v.rounded;  ends_as = rounding_end _ _ _ _ _ _ _ _ _ _ _ _ _ _ _ _ _ _ _ v c.loop-i-test.false _ refl refl; }
+returns c = let v = c.loop-i.invariant.0 in record { rounded = v.rounded; ends_as = rounding_end _ _ _ _ _ _ _ _ _ _ _ _ _ _ _ _ _ _ _ v c.loop-i-test.false _ refl refl }

@@ -5,7 +5,6 @@ use Rattle.words.specs.Words.{words_of, word_count}
 use Rattle.conflicts.proofs.Rounding.{Rounding}
 use Rattle.conflicts.proofs.place_rounds.Given as goal
 
-
 abbrev pub invariant-loop-i : goal.invariant-loop-i
 invariant-loop-i l = Rounding (word_count l.job) (word_count l.initial.work) (word_count l.initial.out) (words_of l.job) l.lay l.wl l.ol l.set l.top l.x l.a l.b l.initial.n (words_of l.initial.work) (words_of l.initial.out) (words_of l.work) (words_of l.out) l.i l.n
     × (length l.work ≡ length l.initial.work)

@@ -1,7 +1,6 @@
 use Rattle.constraints.proofs.Admitted.{by_any, by_class, by_group}
 use Rattle.constraints.proofs.admit.Goals as goal
 
-
 pub returns-in-Any : goal.returns-in-Any
 returns-in-Any c st hs b = by_any _ st _ _ _ c.ask_of.ensures c.in-Any.is
 

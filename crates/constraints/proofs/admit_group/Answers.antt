@@ -4,7 +4,6 @@ use Rattle.members.proofs.Narrowing.{job_classes}
 use Rattle.constraints.proofs.Admitted.{group_no, group_yes}
 use Rattle.constraints.proofs.admit_group.Goals as goal
 
-
 pub returns-in_default : goal.returns-in_default
 returns-in_default c st hs b = group_no _ st _ _ _ _ _ _ (c.common_subclass.ensures _ (job_classes _ _)) c.in_default.is
 

@@ -2,7 +2,6 @@ use mathlib.Core.Path.{sym, ap, ◌∙◌}
 use Rattle.constraints.specs.Asks.{ask_of}
 use Rattle.constraints.proofs.ask_of.Goals as goal
 
-
 pub returns-in-ClassUse : goal.returns-in-ClassUse
 returns-in-ClassUse c = sym (ap ask_of c.in-ClassUse.is)
 

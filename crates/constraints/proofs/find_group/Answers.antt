@@ -1,7 +1,6 @@
 use Rattle.constraints.proofs.Operand.{found_known, said_found, said_nothing, said_past}
 use Rattle.constraints.proofs.find_group.Goals as goal
 
-
 pub returns-then-insts-p : goal.returns-then-insts-p
 returns-then-insts-p c b = absurd (said_past _ c.args.lay c.args.p _ _ c.requires.under c.if-insts-p.true b)
 

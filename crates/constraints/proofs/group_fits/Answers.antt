@@ -1,7 +1,6 @@
 use Rattle.constraints.proofs.Admitted.{fits_first, fits_index, fits_mapping, fits_sets}
 use Rattle.constraints.proofs.group_fits.Goals as goal
 
-
 pub returns-then-held-index : goal.returns-then-held-index
 returns-then-held-index c = fits_index _ _ _ _ c.if-held.true c.if-held-index.true
 

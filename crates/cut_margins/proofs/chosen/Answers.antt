@@ -2,7 +2,6 @@ use native.Mathlib.Omega.{arith}
 use Rattle.cut_margins.proofs.Leaves.{chosen_early, chosen_late}
 use Rattle.cut_margins.proofs.chosen.Goals as goal
 
-
 pub returns-in-Early : goal.returns-in-Early
 returns-in-Early c = chosen_early _ _ _ _ _ (omega arith) c.in-Early.is c.first_least.ensures.0
 

@@ -1,7 +1,6 @@
 use Rattle.cut_margins.proofs.Leaves.{last_early, last_late}
 use Rattle.cut_margins.proofs.last_open.Goals as goal
 
-
 pub returns-in-Early : goal.returns-in-Early
 returns-in-Early c = let r = c.block_of.ensures in
     (r.0, last_early _ _ _ _ _ c.in-Early.is r.1)

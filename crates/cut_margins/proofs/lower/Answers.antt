@@ -1,7 +1,6 @@
 use Rattle.cut_margins.proofs.Leaves.{lower_own, lower_yes, lower_no}
 use Rattle.cut_margins.proofs.lower.Goals as goal
 
-
 pub returns-then-i-c : goal.returns-then-i-c
 returns-then-i-c c = lower_own _ _ _ _ c.if-i-c.true
 

@@ -3,7 +3,6 @@ use Rattle.cut_margins.specs.Table.{bits}
 use Rattle.cut_margins.proofs.Leaves.{steps_up, steps_endless, steps_below, steps_down}
 use Rattle.cut_margins.proofs.steps.Goals as goal
 
-
 pub returns-then-e-lt2139095040 : goal.returns-then-e-lt2139095040
 returns-then-e-lt2139095040 c = let a = c.args in
     steps_up a.side (bits (words_of a.starts.now)) _ a.e _ _ c.if-i-c.true c.bits_at-own.ensures

@@ -1,7 +1,6 @@
 use Rattle.cut_margins.proofs.Leaves.{tie_early, tie_not_early, tie_late, tie_not_late}
 use Rattle.cut_margins.proofs.tie_of.Goals as goal
 
-
 pub returns-then-i-c : goal.returns-then-i-c
 returns-then-i-c c = tie_early _ _ _ c.in-Early.is c.if-i-c.true
 

@@ -1,7 +1,6 @@
 use Rattle.cut_moves.proofs.Rows.{put_none, put_one}
 use Rattle.cut_moves.proofs.put_move.Goals as goal
 
-
 pub returns-then-steps-eq0 : goal.returns-then-steps-eq0
 returns-then-steps-eq0 c = put_none _ _ _ _ _ c.if-steps-eq0.true
 

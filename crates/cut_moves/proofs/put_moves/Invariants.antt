@@ -6,7 +6,6 @@ use Rattle.cut_margins.specs.Table.{bits}
 use Rattle.cut_moves.proofs.Rows.{Putting}
 use Rattle.cut_moves.proofs.put_moves.Given as goal
 
-
 abbrev pub invariant-loop-i : goal.invariant-loop-i
 invariant-loop-i l = (length l.list ≡ length l.initial.list)
     × Putting l.side (bits (words_of l.starts)) l.c.0 l.e l.initial.i l.end (word_count l.initial.list) l.k l.i (words_of l.list)

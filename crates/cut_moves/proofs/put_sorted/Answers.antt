@@ -11,11 +11,11 @@ chosen-c-requires c =
     let a = c.args in
     let p = c.requires in
     let found : Open (words_of c.put_starts.new.starts) (blocks_at (words_of a.blocks.now) 0 a.n) a.n a.after a.before
-            a.side c.first_open-from.result.0 c.last_open-to.result.0 =
-        opened (words_of a.blocks.now) _ _ a.n a.after a.before a.side _ _ c.put_starts.ensures
-        (omega (arith, length_words a.work.now))
-        (words_small a.blocks.now (λ i. omega (arith, c.shared_slice_known-1.given i))) p.8 p.5 p.6
-        c.first_open-from.ensures.1 c.last_open-to.ensures.1 in
+    a.side c.first_open-from.result.0 c.last_open-to.result.0 =
+    opened (words_of a.blocks.now) _ _ a.n a.after a.before a.side _ _ c.put_starts.ensures
+    (omega (arith, length_words a.work.now))
+    (words_small a.blocks.now (λ i. omega (arith, c.shared_slice_known-1.given i))) p.8 p.5 p.6
+    c.first_open-from.ensures.1 c.last_open-to.ensures.1 in
     (open_order found, omega (arith, open_there found))
 
 pub edge_of-e-requires : goal.edge_of-e-requires
@@ -23,11 +23,11 @@ edge_of-e-requires c =
     let a = c.args in
     let p = c.requires in
     let found : Open (words_of c.put_starts.new.starts) (blocks_at (words_of a.blocks.now) 0 a.n) a.n a.after a.before
-            a.side c.first_open-from.result.0 c.last_open-to.result.0 =
-        opened (words_of a.blocks.now) _ _ a.n a.after a.before a.side _ _ c.put_starts.ensures
-        (omega (arith, length_words a.work.now))
-        (words_small a.blocks.now (λ i. omega (arith, c.shared_slice_known-1.given i))) p.8 p.5 p.6
-        c.first_open-from.ensures.1 c.last_open-to.ensures.1 in
+    a.side c.first_open-from.result.0 c.last_open-to.result.0 =
+    opened (words_of a.blocks.now) _ _ a.n a.after a.before a.side _ _ c.put_starts.ensures
+    (omega (arith, length_words a.work.now))
+    (words_small a.blocks.now (λ i. omega (arith, c.shared_slice_known-1.given i))) p.8 p.5 p.6
+    c.first_open-from.ensures.1 c.last_open-to.ensures.1 in
     (omega (arith, open_there found), omega (arith, open_there found), open_finite found)
 
 pub put_moves-count-requires : goal.put_moves-count-requires
@@ -35,11 +35,11 @@ put_moves-count-requires c =
     let a = c.args in
     let p = c.requires in
     let found : Open (words_of c.put_starts.new.starts) (blocks_at (words_of a.blocks.now) 0 a.n) a.n a.after a.before
-            a.side c.first_open-from.result.0 c.last_open-to.result.0 =
-        opened (words_of a.blocks.now) _ _ a.n a.after a.before a.side _ _ c.put_starts.ensures
-        (omega (arith, length_words a.work.now))
-        (words_small a.blocks.now (λ i. omega (arith, c.shared_slice_known-1.given i))) p.8 p.5 p.6
-        c.first_open-from.ensures.1 c.last_open-to.ensures.1 in
+    a.side c.first_open-from.result.0 c.last_open-to.result.0 =
+    opened (words_of a.blocks.now) _ _ a.n a.after a.before a.side _ _ c.put_starts.ensures
+    (omega (arith, length_words a.work.now))
+    (words_small a.blocks.now (λ i. omega (arith, c.shared_slice_known-1.given i))) p.8 p.5 p.6
+    c.first_open-from.ensures.1 c.last_open-to.ensures.1 in
     let t = open_there found in
     let ec = c.chosen-c.ensures in (
       omega (arith, t),
@@ -56,11 +56,11 @@ sort-requires c =
     let a = c.args in
     let p = c.requires in
     let found : Open (words_of c.put_starts.new.starts) (blocks_at (words_of a.blocks.now) 0 a.n) a.n a.after a.before
-            a.side c.first_open-from.result.0 c.last_open-to.result.0 =
-        opened (words_of a.blocks.now) _ _ a.n a.after a.before a.side _ _ c.put_starts.ensures
-        (omega (arith, length_words a.work.now))
-        (words_small a.blocks.now (λ i. omega (arith, c.shared_slice_known-1.given i))) p.8 p.5 p.6
-        c.first_open-from.ensures.1 c.last_open-to.ensures.1 in
+    a.side c.first_open-from.result.0 c.last_open-to.result.0 =
+    opened (words_of a.blocks.now) _ _ a.n a.after a.before a.side _ _ c.put_starts.ensures
+    (omega (arith, length_words a.work.now))
+    (words_small a.blocks.now (λ i. omega (arith, c.shared_slice_known-1.given i))) p.8 p.5 p.6
+    c.first_open-from.ensures.1 c.last_open-to.ensures.1 in
     let k = no_more found _ _ _ c.put_moves-count.ensures.0 in
     (omega (arith, k, c.put_moves-count.auto.list), omega (arith, k, c.put_starts.auto.starts))
 
@@ -69,10 +69,10 @@ returns c =
     let a = c.args in
     let p = c.requires in
     let found : Open (words_of c.put_starts.new.starts) (blocks_at (words_of a.blocks.now) 0 a.n) a.n a.after a.before
-            a.side c.first_open-from.result.0 c.last_open-to.result.0 =
-        opened (words_of a.blocks.now) _ _ a.n a.after a.before a.side _ _ c.put_starts.ensures
-        (omega (arith, length_words a.work.now))
-        (words_small a.blocks.now (λ i. omega (arith, c.shared_slice_known-1.given i))) p.8 p.5 p.6
-        c.first_open-from.ensures.1 c.last_open-to.ensures.1 in
+    a.side c.first_open-from.result.0 c.last_open-to.result.0 =
+    opened (words_of a.blocks.now) _ _ a.n a.after a.before a.side _ _ c.put_starts.ensures
+    (omega (arith, length_words a.work.now))
+    (words_small a.blocks.now (λ i. omega (arith, c.shared_slice_known-1.given i))) p.8 p.5 p.6
+    c.first_open-from.ensures.1 c.last_open-to.ensures.1 in
     listed found _ _ c.chosen-c.ensures c.edge_of-e.ensures _ _ _ _ (omega arith)
     c.put_moves-count.ensures.0 c.put_moves-count.ensures.1 c.sort.ensures

@@ -2,7 +2,6 @@ use borrow.Author.Tests.{not-true, not-false}
 use Rattle.cuts.proofs.Sides.{left_without, left_with}
 use Rattle.cuts.proofs.left_flags.Goals as goal
 
-
 pub returns-then-not-flags : goal.returns-then-not-flags
 returns-then-not-flags c = left_without _ _ _ _ c.args.flags (not-true _ c.if-not-flags.true)
 

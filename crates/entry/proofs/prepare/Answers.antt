@@ -3,7 +3,6 @@ use Rattle.words.specs.Laws.{length_words}
 use Rattle.entry.proofs.Preparing.{prepared_is}
 use Rattle.entry.proofs.prepare.Goals as goal
 
-
 pub clear_words-requires : goal.clear_words-requires
 clear_words-requires c = let p = c.requires in
     let r = p.0.regions in
@@ -28,4 +27,4 @@ pub returns : goal.returns
 returns c =
     let both = prepared_is c.requires.0 (omega (arith, c.requires.1, length_words c.args.work.now)) c.clear_words.ensures c.put_starts.ensures c.clear_words-2.ensures
     (λ i. omega (arith, c.shared_slice_known-1.given i)) in
-    record { work_after = both.0;  accepted = both.1; }
+    record { work_after = both.0; accepted = both.1 }

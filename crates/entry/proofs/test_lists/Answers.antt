@@ -1,7 +1,6 @@
 use Rattle.entry.proofs.Numbers.{fails, passes, all_pass}
 use Rattle.entry.proofs.test_lists.Goals as goal
 
-
 pub returns-then-not-hints_ok : goal.returns-then-not-hints_ok
 returns-then-not-hints_ok c = fails _ _ c.if-not-hints_ok.true-raw c.hints_ok.ensures
 

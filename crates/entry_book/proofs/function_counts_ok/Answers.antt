@@ -3,7 +3,6 @@ use borrow.Author.Tests.{lt-leb, le-leb}
 use Rattle.job_shape.proofs.Tests.{pass, stop, end}
 use Rattle.entry_book.proofs.function_counts_ok.Goals as goal
 
-
 pub returns-then-lay-gt512 : goal.returns-then-lay-gt512
 returns-then-lay-gt512 c = stop _ _ (lt-leb _ _ c.if-lay-gt512.true)
 

@@ -3,7 +3,6 @@ use borrow.Author.Tests.{lt-leb, le-leb}
 use Rattle.job_shape.proofs.Tests.{pass, stop, end}
 use Rattle.entry_book.proofs.other_counts_ok.Goals as goal
 
-
 pub returns-then-lay-gt1024 : goal.returns-then-lay-gt1024
 returns-then-lay-gt1024 c = stop _ _ (lt-leb _ _ c.if-lay-gt1024.true)
 

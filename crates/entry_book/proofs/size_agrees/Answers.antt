@@ -4,7 +4,6 @@ use lib.Dec.{eqb}
 use borrow.Author.Tests.{eq-eqb, ne_eqb}
 use Rattle.entry_book.proofs.size_agrees.Goals as goal
 
-
 pub returns-then-mask-eq0 : goal.returns-then-mask-eq0
 returns-then-mask-eq0 c = simp (eq-eqb _ _ c.if-mask-eq0.true)
 

@@ -2,7 +2,6 @@ use native.Mathlib.Omega.{arith}
 use Rattle.entry_function.proofs.Tests.{operand_inst, operand_slot, operand_group, operand_class, operand_by}
 use Rattle.entry_function.proofs.operand_ok.Goals as goal
 
-
 pub returns-then-count-o : goal.returns-then-count-o
 returns-then-count-o c = operand_inst _ _ _ _ _ c.operand_at-o.ensures c.requires.1 c.if-count-o.true
 

@@ -6,7 +6,6 @@ use Rattle.operands.specs.Rows.{operand_row}
 use Rattle.words.specs.Words.{words_of}
 use Rattle.entry_function.proofs.operands_ok.Given as goal
 
-
 abbrev pub invariant-loop-i : goal.invariant-loop-i
 invariant-loop-i l = Each (operand_ok (raw_job (words_of l.job) l.lay)) (λ k. operand_row (words_of l.job) (l.lay.operands.at + k * 4)) l.lay.operands.n l.i
 

@@ -1,7 +1,6 @@
 use Rattle.entry_function.proofs.Tests.{group_few, group_many, group_by}
 use Rattle.entry_function.proofs.vgroup_ok.Goals as goal
 
-
 pub returns-then-n-lt2 : goal.returns-then-n-lt2
 returns-then-n-lt2 c = group_few _ _ _ _ c.group_len-n.ensures c.if-n-lt2.true
 

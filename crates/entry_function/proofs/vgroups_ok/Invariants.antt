@@ -6,7 +6,6 @@ use Rattle.coalescing.specs.Rows.{vgroup_row}
 use Rattle.words.specs.Words.{words_of}
 use Rattle.entry_function.proofs.vgroups_ok.Given as goal
 
-
 abbrev pub invariant-loop-i : goal.invariant-loop-i
 invariant-loop-i l = Each (vgroup_ok (raw_job (words_of l.job) l.lay)) (λ k. vgroup_row (words_of l.job) (l.lay.vgroups.at + k * 9)) l.lay.vgroups.n l.i
 

@@ -1,7 +1,6 @@
 use Rattle.entry_hints.proofs.Tests.{known_no, known_by}
 use Rattle.entry_hints.proofs.hint_known.Goals as goal
 
-
 pub returns-then-values-word_at : goal.returns-then-values-word_at
 returns-then-values-word_at c = known_no _ _ _ _ c.word_at.ensures c.if-values-word_at.true
 

@@ -1,7 +1,6 @@
 use Rattle.entry_hints.proofs.Tests.{after_less, after_more, after_same}
 use Rattle.entry_hints.proofs.not_after.Goals as goal
 
-
 pub returns-then-a-b : goal.returns-then-a-b
 returns-then-a-b c = let a = c.args in after_less a.a a.b c.if-a-b.true
 

@@ -1,7 +1,6 @@
 use Rattle.entry_kinds.proofs.Tests.{found_below, group_at, group_none}
 use Rattle.entry_kinds.proofs.group_use_ok.Goals as goal
 
-
 pub operand_fits-requires : goal.operand_fits-requires
 operand_fits-requires c = (c.requires.0, found_below _ _ _ _ _ _ c.requires.0 c.args.v _ _ c.args.class c.args.index _ c.find_operand.ensures _ c.in-At.is)
 

@@ -4,7 +4,6 @@ use Rattle.definition.specs.Types.{inst}
 use Rattle.entry_kinds.proofs.Tests.{kind_0, kind_1, kind_2, kind_4, kind_5, kind_6, kind_7, kind_8, kind_9, kind_none}
 use Rattle.entry_kinds.proofs.kind_ok.Goals as goal
 
-
 pub returns-in-0 : goal.returns-in-0
 returns-in-0 c = kind_0 _ _ _ _ _ _ _ _ _ _ c.word_at-2.ensures (ap inst c.word_at.ensures) c.word_at-a.ensures c.word_at-b.ensures c.word_at-x.ensures c.word_at-d.ensures c.in-0.is
 

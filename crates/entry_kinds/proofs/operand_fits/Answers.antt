@@ -2,7 +2,6 @@ use native.Mathlib.Omega.{arith}
 use Rattle.entry_kinds.proofs.Tests.{group_there, group_few, fits_class, fits_index, fits_by}
 use Rattle.entry_kinds.proofs.operand_fits.Goals as goal
 
-
 pub returns-then-o-class : goal.returns-then-o-class
 returns-then-o-class c = fits_class _ _ c.requires.0.passed _ c.requires.1 _ c.operand_at-o.ensures _ _ _ c.if-o-class.true
 

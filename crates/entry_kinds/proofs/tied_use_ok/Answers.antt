@@ -1,7 +1,6 @@
 use Rattle.entry_kinds.proofs.Tests.{tied_def, tied_index, tied_by}
 use Rattle.entry_kinds.proofs.tied_use_ok.Goals as goal
 
-
 pub returns-then-def-ge65536 : goal.returns-then-def-ge65536
 returns-then-def-ge65536 c = tied_def _ _ _ _ _ c.if-def-ge65536.true
 

@@ -7,7 +7,6 @@ use Rattle.layout.specs.Layout.{segment_of}
 use Rattle.words.specs.Words.{words_of}
 use Rattle.entry_segments.proofs.segments_within.Given as goal
 
-
 abbrev pub invariant-loop-i : goal.invariant-loop-i
 invariant-loop-i l = Each (segment_ok (raw_job (words_of l.job) l.lay)) (segment_of raw_row (words_of l.job) l.lay) l.lay.segments.n l.i
 

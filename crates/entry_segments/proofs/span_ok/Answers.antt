@@ -1,7 +1,6 @@
 use Rattle.entry_segments.proofs.Tests.{span_empty, span_from, span_to, span_by}
 use Rattle.entry_segments.proofs.span_ok.Goals as goal
 
-
 pub returns-then-q-p : goal.returns-then-q-p
 returns-then-q-p c = let a = c.args in span_empty a.p a.q _ c.if-q-p.true
 

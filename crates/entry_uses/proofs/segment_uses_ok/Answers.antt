@@ -2,7 +2,6 @@ use native.Mathlib.Omega.{arith}
 use Rattle.entry_uses.proofs.Tests.{uses_lie, uses_no, uses_by}
 use Rattle.entry_uses.proofs.segment_uses_ok.Goals as goal
 
-
 pub overflow_sub-n : goal.overflow_sub-n
 overflow_sub-n c = omega (arith, (uses_lie _ _ _ _ c.seg_at-s.ensures _ c.next_use-next.ensures c.requires.1 c.requires.3).0)
 

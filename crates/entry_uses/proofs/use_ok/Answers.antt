@@ -2,7 +2,6 @@ use native.Mathlib.Omega.{arith}
 use Rattle.entry_uses.proofs.Tests.{use_pos, end_raw, use_far, use_kind, use_from, use_by}
 use Rattle.entry_uses.proofs.use_ok.Goals as goal
 
-
 pub returns-then-count-pos : goal.returns-then-count-pos
 returns-then-count-pos c = use_far _ _ _ _ _ _ c.word_at-pos.ensures c.requires.0.index.insts c.if-count-pos.true
 

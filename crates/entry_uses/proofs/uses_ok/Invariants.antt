@@ -7,7 +7,6 @@ use Rattle.layout.specs.Layout.{segment_of}
 use Rattle.words.specs.Words.{words_of}
 use Rattle.entry_uses.proofs.uses_ok.Given as goal
 
-
 abbrev pub invariant-loop-k : goal.invariant-loop-k
 invariant-loop-k l = Each (uses_ok (raw_job (words_of l.job) l.lay)) (segment_of raw_row (words_of l.job) l.lay) l.lay.segments.n l.k
 

@@ -3,7 +3,6 @@ use Rattle.words.specs.Laws.{length_words, words_small}
 use Rattle.find_cut.proofs.Answers.{early_by, late_by}
 use Rattle.find_cut.proofs.cut_by.Goals as goal
 
-
 pub returns-in-Early : goal.returns-in-Early
 returns-in-Early c = let a = c.args in
     let q = c.requires in

@@ -1,7 +1,6 @@
 use Rattle.find_cut.proofs.Answers.{named_early, named_late}
 use Rattle.find_cut.proofs.side_of.Goals as goal
 
-
 pub returns-then-side-eq0 : goal.returns-then-side-eq0
 returns-then-side-eq0 c = named_early _ c.if-side-eq0.true
 

@@ -3,7 +3,6 @@ use borrow.Author.Tests.{not-true, not-false}
 use Rattle.find_cut.proofs.Tests.{many, long, bad, unordered, past, passing}
 use Rattle.find_cut.proofs.tested.Goals as goal
 
-
 pub returns-then-blocks-gt512 : goal.returns-then-blocks-gt512
 returns-then-blocks-gt512 c = many _ _ _ c.if-blocks-gt512.true
 

@@ -1,7 +1,6 @@
 use Rattle.hints.proofs.Steps.{found_none, found_other, found_same}
 use Rattle.hints.proofs.hint_between.Goals as goal
 
-
 pub returns-then-n-i : goal.returns-then-n-i
 returns-then-n-i c = found_none _ _ _ _ _ _ _ _ c.requires.1 c.outgoing.ensures.0 c.first_hint-i.ensures.0 c.if-n-i.true
 

@@ -1,7 +1,6 @@
 use Rattle.hints.proofs.Steps.{below_value, above_value, same_value}
 use Rattle.hints.proofs.key_below.Goals as goal
 
-
 pub returns-then-h-v : goal.returns-then-h-v
 returns-then-h-v c = let a = c.args in below_value a.v a.k a.h c.if-h-v.true
 

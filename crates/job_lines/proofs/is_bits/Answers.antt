@@ -2,7 +2,6 @@ use borrow.Author.Tests.{eq-eqb, ne_eqb}
 use Rattle.job_lines.specs.Rows.{bits_at}
 use Rattle.job_lines.proofs.is_bits.Goals as goal
 
-
 pub returns-then-key-eq0 : goal.returns-then-key-eq0
 unfolding bits_at
 returns-then-key-eq0 c = simp (eq-eqb _ _ c.if-key-eq0.true)

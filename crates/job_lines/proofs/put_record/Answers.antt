@@ -4,7 +4,6 @@ use Rattle.lines.specs.Laws.{then, as_text}
 use Rattle.job_lines.specs.Rows.{line_text}
 use Rattle.job_lines.proofs.put_record.Goals as goal
 
-
 pub returns : goal.returns
 unfolding line_text
 returns c = as_text 248 _

@@ -3,7 +3,6 @@ use Rattle.lines.specs.Laws.{then, as_text}
 use Rattle.job_lines.proofs.Rowing.{more_field, more_none}
 use Rattle.job_lines.proofs.put_tail.Goals as goal
 
-
 pub returns-then-more : goal.returns-then-more
 returns-then-more c = as_text 22 _
     (then c.put_field-a.ensures

@@ -3,7 +3,6 @@ use Rattle.lines.specs.Laws.{as_text}
 use Rattle.job_lines.proofs.Rowing.{value_bits, value_number}
 use Rattle.job_lines.proofs.put_value.Goals as goal
 
-
 pub returns-then-bits : goal.returns-then-bits
 returns-then-bits c = as_text 21 _ c.put_bits_field.ensures (omega arith)
     (value_bits _ _ c.if-bits.true)

@@ -5,7 +5,6 @@ use Rattle.job_lines.specs.Rows.{word_text}
 use Rattle.job_lines.proofs.Rowing.{past, no_kind}
 use Rattle.job_lines.proofs.put_word.Goals as goal
 
-
 pub returns-in-0 : goal.returns-in-0
 unfolding word_text
 returns-in-0 c = as_text 7 _ c.put_bytes.ensures (omega arith)

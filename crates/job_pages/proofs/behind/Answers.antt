@@ -4,7 +4,6 @@ use Rattle.job_pages.specs.Cursors.{behind_row}
 use borrow.Author.Tests.{eq-eqb, ne_eqb}
 use Rattle.job_pages.proofs.behind.Goals as goal
 
-
 pub returns-then-cur-eq9 : goal.returns-then-cur-eq9
 unfolding behind_row
 returns-then-cur-eq9 c = simp c.if-cur-eq9.true
@@ -35,9 +34,9 @@ returns-then-cur-eq11 c = simp c.if-cur-eq11.true
 pub returns : goal.returns
 unfolding behind_row
 returns c = simp (
-      ne_eqb _ _ c.if-cur-eq9.false,
-      ne_eqb _ _ c.if-cur-eq10.false,
-      ne_eqb _ _ c.if-cur-eq4.false,
-      ne_eqb _ _ c.if-cur-eq0.false,
-      ne_eqb _ _ c.if-cur-eq11.false,
-    )
+  ne_eqb _ _ c.if-cur-eq9.false,
+  ne_eqb _ _ c.if-cur-eq10.false,
+  ne_eqb _ _ c.if-cur-eq4.false,
+  ne_eqb _ _ c.if-cur-eq0.false,
+  ne_eqb _ _ c.if-cur-eq11.false,
+)

@@ -5,7 +5,6 @@ use borrow.Author.Tests.{eq-eqb, ne_eqb}
 use mathlib.Core.Path.{sym}
 use Rattle.job_pages.proofs.fields.Goals as goal
 
-
 pub word_at-requires : goal.word_at-requires
 word_at-requires c = c.requires.0 (eq-eqb _ _ c.if-key-eq6.true)
 

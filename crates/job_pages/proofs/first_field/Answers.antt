@@ -2,7 +2,6 @@ use Rattle.job_pages.specs.Cursors.{first_field}
 use borrow.Author.Tests.{eq-eqb, ne_eqb}
 use Rattle.job_pages.proofs.first_field.Goals as goal
 
-
 pub returns-then-key-eq6 : goal.returns-then-key-eq6
 unfolding first_field
 returns-then-key-eq6 c = simp (eq-eqb _ _ c.if-key-eq6.true)

@@ -2,7 +2,6 @@ use borrow.Author.Tests.{not-true, not-false}
 use Rattle.job_pages.proofs.Ways.{more_first, more_block, more_other}
 use Rattle.job_pages.proofs.has_more.Goals as goal
 
-
 pub returns-then-not-second : goal.returns-then-not-second
 returns-then-not-second c = more_first _ _ (not-true _ c.if-not-second.true-raw)
 

@@ -3,7 +3,6 @@ use borrow.Author.Tests.{eq-eqb}
 use Rattle.job_pages.proofs.Ways.{implied_block, implied_seg, implied_none}
 use Rattle.job_pages.proofs.implied.Goals as goal
 
-
 pub returns-then-cur-eq4 : goal.returns-then-cur-eq4
 returns-then-cur-eq4 c = λ job j. implied_block _ _ _ job c.if-cur-eq4.true
 

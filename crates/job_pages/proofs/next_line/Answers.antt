@@ -3,7 +3,6 @@ use Rattle.job_pages.specs.Lines.{line_step}
 use Rattle.job_pages.proofs.Asked.{shown_few, row_word, ready_at, fields_in, fields_few}
 use Rattle.job_pages.proofs.next_line.Goals as goal
 
-
 pub overflow_cast-shown : goal.overflow_cast-shown
 overflow_cast-shown c = let p = c.requires in
     omega (arith, shown_few p.0 p.1 p.2, c.shown.ensures)

@@ -1,7 +1,6 @@
 use Rattle.job_pages.proofs.Ways.{open_form, open_later, open_first}
 use Rattle.job_pages.proofs.open.Goals as goal
 
-
 pub returns-then-key-eq0 : goal.returns-then-key-eq0
 returns-then-key-eq0 c = open_form _ _ _ _ c.if-second.true c.if-key-eq0.true _ _ c.put_form.ensures
 

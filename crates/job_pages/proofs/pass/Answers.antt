@@ -2,7 +2,6 @@ use Rattle.job_pages.specs.Cursors.{passed_on}
 use borrow.Author.Tests.{ne_eqb}
 use Rattle.job_pages.proofs.pass.Goals as goal
 
-
 pub returns-then-cur-eq10 : goal.returns-then-cur-eq10
 unfolding passed_on
 returns-then-cur-eq10 c = simp c.if-cur-eq10.true

@@ -3,7 +3,6 @@ use Rattle.job_pages.specs.Lines.{pass_step}
 use Rattle.job_pages.proofs.Asked.{segs_few, key_low}
 use Rattle.job_pages.proofs.put_next.Goals as goal
 
-
 pub has_row-requires : goal.has_row-requires
 has_row-requires c = let p = c.requires in (p.0.long, segs_few p.0 p.1)
 

@@ -2,7 +2,6 @@ use Rattle.job_pages.specs.Cursors.{shown_row}
 use borrow.Author.Tests.{eq-eqb, ne_eqb}
 use Rattle.job_pages.proofs.shown.Goals as goal
 
-
 pub returns-then-cur-eq9 : goal.returns-then-cur-eq9
 unfolding shown_row
 returns-then-cur-eq9 c = simp (eq-eqb _ _ c.if-cur-eq9.true)

@@ -3,7 +3,6 @@ use borrow.Author.Tests.{le-ltb, lt-ltb}
 use mathlib.Core.Path.{sym}
 use Rattle.job_pages.proofs.uses_end.Goals as goal
 
-
 pub returns-then-s-count : goal.returns-then-s-count
 unfolding next_first
 returns-then-s-count c = simp (sym c.count.ensures, lt-ltb _ _ c.if-s-count.true, sym c.word_at.ensures)

@@ -5,7 +5,6 @@ use Rattle.job_shape.specs.Shape.{table, all_below}
 use Rattle.job_shape.proofs.Columns.{below_from}
 use Rattle.job_shape.proofs.all_below.Given as goal
 
-
 abbrev pub invariant-loop-i : goal.invariant-loop-i
 invariant-loop-i l = all_below (words_of l.job) (table l.at l.n) l.stride l.col l.bound ≡ below_from (words_of l.job) l.at l.n l.stride l.col l.bound l.i
 

@@ -4,7 +4,6 @@ use Rattle.job_shape.proofs.Tests.{passed, failed, first_not, then_second, stop,
 use Rattle.job_shape.proofs.Laws.{counts_are, tables_are}
 use Rattle.job_shape.proofs.tables_ok.Goals as goal
 
-
 pub returns-then-banks-lt1 : goal.returns-then-banks-lt1
 returns-then-banks-lt1 c = stop _ _ (lt-leb 1 _ c.if-banks-lt1.true) ∙ tables_are _ _
 

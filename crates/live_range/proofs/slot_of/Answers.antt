@@ -2,7 +2,6 @@ use mathlib.Core.Path.{sym, ap}
 use Rattle.live_range.specs.Points.{slot_at, slot_rest}
 use Rattle.live_range.proofs.slot_of.Goals as goal
 
-
 pub returns-in-0 : goal.returns-in-0
 returns-in-0 c = sym (ap slot_at c.in-0.is)
 

@@ -1,7 +1,6 @@
 use Rattle.members.proofs.Joining.{joined_yes, joined_no}
 use Rattle.members.proofs.join_with.Goals as goal
 
-
 pub returns-in-Class : goal.returns-in-Class
 returns-in-Class c o e = joined_yes c.args.f _ _ c.in-Class.is o e
 

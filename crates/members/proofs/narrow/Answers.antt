@@ -1,7 +1,6 @@
 use Rattle.members.proofs.Narrowing.{narrow_none, narrow_some}
 use Rattle.members.proofs.narrow.Goals as goal
 
-
 pub returns-then-w-eq0 : goal.returns-then-w-eq0
 returns-then-w-eq0 c st h l = narrow_none _ _ _ _ c.if-w-eq0.true
 

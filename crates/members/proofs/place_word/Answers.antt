@@ -2,7 +2,6 @@ use Rattle.members.proofs.Places.{place_word_lem, no_place, no_group}
 use native.Mathlib.Omega.{arith}
 use Rattle.members.proofs.place_word.Goals as goal
 
-
 pub returns-then-ol-k : goal.returns-then-ol-k
 returns-then-ol-k c st h = no_group _ _ st h _ _ (omega arith)
 

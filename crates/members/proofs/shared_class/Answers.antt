@@ -2,7 +2,6 @@ use Rattle.members.proofs.Narrowing.{job_classes, shared_is}
 use native.Mathlib.Omega.{arith}
 use Rattle.members.proofs.shared_class.Goals as goal
 
-
 pub returns-then-ol-n : goal.returns-then-ol-n
 returns-then-ol-n c st h l = absurd (omega (arith, h.fit_registers))
 

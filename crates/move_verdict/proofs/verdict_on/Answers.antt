@@ -1,7 +1,6 @@
 use Rattle.move_verdict.proofs.Verdict.{settled_one, settled_judged}
 use Rattle.move_verdict.proofs.verdict_on.Goals as goal
 
-
 pub returns-then-is_already : goal.returns-then-is_already
 returns-then-is_already c = settled_one _ _ _ c.is_already.ensures _ _ c.if-is_already.true
 

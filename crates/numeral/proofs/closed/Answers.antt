@@ -2,7 +2,6 @@ use Rattle.numeral.specs.Bytes.{closed_of}
 use borrow.Author.Rules.{rules}
 use Rattle.numeral.proofs.closed.Goals as goal
 
-
 pub returns-in-Nothing : goal.returns-in-Nothing
 unfolding closed_of
 returns-in-Nothing c = search rules

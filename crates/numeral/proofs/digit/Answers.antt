@@ -3,7 +3,6 @@ use borrow.Author.Tests.{le-ltb, lt-ltb}
 use mathlib.Core.Path.{sym}
 use Rattle.numeral.proofs.digit.Goals as goal
 
-
 pub returns-then-x-lt48 : goal.returns-then-x-lt48
 unfolding digit_of
 returns-then-x-lt48 c = simp (sym c.wide-x.ensures.0, lt-ltb _ _ c.if-x-lt48.true)

@@ -3,7 +3,6 @@ use borrow.Author.Tests.{le-ltb, lt-ltb}
 use mathlib.Core.Path.{sym}
 use Rattle.numeral.proofs.mask_byte.Goals as goal
 
-
 pub returns-then-d-gt15 : goal.returns-then-d-gt15
 unfolding mask_byte
 returns-then-d-gt15 c = simp (sym c.digit-d.ensures, lt-ltb _ _ c.if-d-gt15.true)

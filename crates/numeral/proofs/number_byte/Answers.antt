@@ -3,7 +3,6 @@ use borrow.Author.Tests.{le-ltb, lt-ltb}
 use mathlib.Core.Path.{sym}
 use Rattle.numeral.proofs.number_byte.Goals as goal
 
-
 pub returns-then-d-gt9 : goal.returns-then-d-gt9
 unfolding number_byte
 returns-then-d-gt9 c = simp (sym c.digit-d.ensures, lt-ltb _ _ c.if-d-gt9.true)

@@ -2,7 +2,6 @@ use Rattle.numeral.specs.Bytes.{take_byte}
 use borrow.Author.Rules.{rules}
 use Rattle.numeral.proofs.take_byte.Goals as goal
 
-
 pub returns-in-Nothing : goal.returns-in-Nothing
 unfolding take_byte
 returns-in-Nothing c = search rules

@@ -3,7 +3,6 @@ use borrow.Author.Tests.{le-ltb, lt-ltb}
 use mathlib.Core.Path.{sym}
 use Rattle.numeral.proofs.word_byte.Goals as goal
 
-
 pub returns-then-d-lt1 : goal.returns-then-d-lt1
 unfolding word_byte
 returns-then-d-lt1 c = simp (sym c.wide-d.ensures.0, lt-ltb _ _ c.if-d-lt1.true)

@@ -4,7 +4,6 @@ use Rattle.operands.specs.Rows.{is_found}
 use Rattle.operands.proofs.Search.{next_less, taken_is}
 use Rattle.operands.proofs.is_again.Goals as goal
 
-
 pub find_from-requires : goal.find_from-requires
 find_from-requires c = (c.requires.0, c.requires.1, omega (arith, next_less _ _ _ c.requires.1 _ _ c.requires.2 c.word_at-before.ensures))
 

@@ -17,4 +17,4 @@ loop-k-preserved c = let w = c.word_at-i.ensures in
 
 pub returns : goal.returns
 returns c = let b = link_done c.args.work.now c.loop-k.invariant (omega arith) c.requires.0.apart (omega arith) c.clear_words.ensures in
-    record { work_after = b.is;  chained = b.holds; }
+    record { work_after = b.is; chained = b.holds }

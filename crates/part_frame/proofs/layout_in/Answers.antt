@@ -2,7 +2,6 @@ use native.Mathlib.Omega.{arith}
 use Rattle.part_frame.proofs.Made.{layout_made}
 use Rattle.part_frame.proofs.layout_in.Goals as goal
 
-
 pub table_in-requires-10 : goal.table_in-requires-10
 table_in-requires-10 c = omega (arith, c.requires)
 

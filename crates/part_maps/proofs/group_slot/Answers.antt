@@ -1,7 +1,6 @@
 use Rattle.part_maps.proofs.Operand.{slot_read}
 use Rattle.part_maps.proofs.group_slot.Goals as goal
 
-
 pub returns-in-FixedDef : goal.returns-in-FixedDef
 returns-in-FixedDef c = slot_read _ _ _ c.in-FixedDef.is c.slot_of.ensures
 

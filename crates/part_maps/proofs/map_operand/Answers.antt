@@ -5,7 +5,6 @@ use Rattle.constraints.proofs.Operand.{found_known, said_nothing}
 use Rattle.part_maps.proofs.Operand.{place_under, maps_found}
 use Rattle.part_maps.proofs.map_operand.Goals as goal
 
-
 pub find_operand-requires : goal.find_operand-requires
 find_operand-requires c = (c.requires.0.index, c.requires.0.chained, place_under _ c.args.lay c.args.p _ _ c.requires.0.under c.requires.1)
 

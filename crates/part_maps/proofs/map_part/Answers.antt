@@ -28,9 +28,9 @@ overflow_add-i c = omega (arith, c.loop-i-test.true, c.requires.2.fits, c.requir
 
 pub loop-i-preserved : goal.loop-i-preserved
 loop-i-preserved c = let o = run_outside _ _ _ _ _ _ _ _ _ _ c.loop-i.invariant.0 in (
-      run_next _ _ _ _ _ _ _ _ _ _ c.loop-i.invariant.0 c.loop-i-test.true _ (c.marked_use-u.ensures ∙ marked_kept _ _ _ _ o c.requires.1 _ _) _ _ c.map_use.ensures c.if-not-map_use.false-raw,
-      omega (arith, c.loop-i.invariant.1, c.map_use),
-    )
+  run_next _ _ _ _ _ _ _ _ _ _ c.loop-i.invariant.0 c.loop-i-test.true _ (c.marked_use-u.ensures ∙ marked_kept _ _ _ _ o c.requires.1 _ _) _ _ c.map_use.ensures c.if-not-map_use.false-raw,
+  omega (arith, c.loop-i.invariant.1, c.map_use),
+)
 
 pub returns : goal.returns
 returns c = maps_part _ _ _ _ _ _ _ _ c.requires.2 (run_end _ _ _ _ _ _ _ _ _ _ c.loop-i.invariant.0 c.loop-i-test.false)

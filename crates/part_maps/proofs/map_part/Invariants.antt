@@ -7,7 +7,6 @@ use Rattle.set_part.specs.Part.{marked_use}
 use Rattle.part_maps.proofs.Going.{Run}
 use Rattle.part_maps.proofs.map_part.Given as goal
 
-
 abbrev pub invariant-loop-i : goal.invariant-loop-i
 invariant-loop-i l = Run (words_of l.job) (words_of l.initial.work) l.lay l.wl (vrgroup l.g) (marked_use (words_of l.initial.work) l.wl.marks (words_of l.job) l.lay) l.initial.i l.end l.i (words_of l.work) × (length l.work ≡ length l.initial.work)
 

@@ -1,7 +1,6 @@
 use Rattle.part_maps.proofs.Operand.{maps_other, maps_group, slot_is, backed_group}
 use Rattle.part_maps.proofs.map_use.Goals as goal
 
-
 pub returns-then-not-s : goal.returns-then-not-s
 returns-then-not-s c = maps_other _ _ _ _ _ _ _ c.group_slot-s.ensures c.if-not-s.true
 

@@ -1,7 +1,6 @@
 use Rattle.place.specs.Laws.{left_alone}
 use Rattle.place.proofs.finish_alone.Goals as goal
 
-
 pub returns : goal.returns
 returns c = let p = c.add_register.ensures in
     let w = c.weight_of_pieces-w.ensures in

@@ -4,7 +4,6 @@ use Rattle.place.specs.Laws.{spreadable_row, left_join}
 use borrow.Author.Rules.{rules}
 use Rattle.place.proofs.finish_join.Goals as goal
 
-
 pub spread-requires : goal.spread-requires
 spread-requires c = let p = c.add_register-n in
     (search rules, spreadable_row _ _ _ _ _ _ p.ensures.1 c.requires.2.regs (omega (arith, c.requires.1, length_words c.args.out.now)) c.requires.3)

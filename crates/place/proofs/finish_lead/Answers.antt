@@ -6,7 +6,6 @@ use Rattle.place.specs.Laws.{left_lead}
 use borrow.Author.Rules.{rules}
 use Rattle.place.proofs.finish_lead.Goals as goal
 
-
 pub add_group-requires : goal.add_group-requires
 add_group-requires c = (search rules, search rules, search rules, omega (arith, c.requires.2.small))
 

@@ -2,7 +2,6 @@ use mathlib.Core.Path.{refl}
 use Rattle.place.specs.Laws.{left_merge}
 use Rattle.place.proofs.finish_merge.Goals as goal
 
-
 pub returns : goal.returns
 returns c = let l = c.least_weight-weight.ensures in
     let w = c.weight_of_pieces-w.ensures in

@@ -4,7 +4,6 @@ use Rattle.place_laws.specs.Ways.{alone_full, alone_done}
 use Rattle.place_conflict.specs.Asks.{asks_fair, asks_inst, asks_full, asks_room, asks_fit, asks_space, asks_ready}
 use Rattle.place_conflict.proofs.conflict_alone.Goals as goal
 
-
 pub returns-then-not-has_room : goal.returns-then-not-has_room
 returns-then-not-has_room c = λ st h sd ec sane eh.
     alone_full _ _ _ _ _ _ _ st _ h _ _
@@ -15,7 +14,7 @@ write_conflict-requires c = let k = c.requires.1 in
     let e = c.use_count-nu.ensures in
     let f = asks_fit _ _ _ _ _ _ _ _ _ _ _ _ _ _ k c.args.value c.args.param _ _ _ _ c.has_room.ensures e c.if-not-has_room.false-raw in
     let i = asks_inst _ _ _ _ _ _ _ _ _ _ _ _ _ _ k c.args.value c.args.param in
-    record { fits = (k.ready.fits, k.rows, k.long);  room = (omega (arith, f.1), omega (arith, e, f.2), omega (arith, e, f.2, k.small.2), omega (arith, i)); }
+    record { fits = (k.ready.fits, k.rows, k.long); room = (omega (arith, f.1), omega (arith, e, f.2), omega (arith, e, f.2, k.small.2), omega (arith, i)) }
 
 pub finish_alone-n-requires : goal.finish_alone-n-requires
 finish_alone-n-requires c = let k = c.requires.1 in

@@ -6,7 +6,6 @@ use Rattle.place_laws.specs.Ways.{join_full, join_done}
 use Rattle.place_conflict.specs.Asks.{asks_fair, asks_inst, asks_full, asks_room, asks_fit, asks_space, asks_ready}
 use Rattle.place_conflict.proofs.conflict_join.Goals as goal
 
-
 pub returns-then-not-has_room : goal.returns-then-not-has_room
 returns-then-not-has_room c = λ st h hg sd ec sane eh ei ig.
     join_full _ _ _ _ _ _ _ st _ h _ _ hg _
@@ -17,17 +16,17 @@ write_conflict-requires c = let k = c.requires.1 in
     let e = c.use_count-nu.ensures in
     let f = asks_fit _ _ _ _ _ _ _ _ _ _ _ _ _ _ k c.args.value c.args.param _ _ _ _ c.has_room.ensures e c.if-not-has_room.false-raw in
     let i = asks_inst _ _ _ _ _ _ _ _ _ _ _ _ _ _ k c.args.value c.args.param in
-    record { fits = (k.ready.fits, k.rows, k.long);  room = (omega (arith, f.1), omega (arith, e, f.2), omega (arith, e, f.2, k.small.2), omega (arith, i)); }
+    record { fits = (k.ready.fits, k.rows, k.long); room = (omega (arith, f.1), omega (arith, e, f.2), omega (arith, e, f.2, k.small.2), omega (arith, i)) }
 
 pub finish_join-n-requires : goal.finish_join-n-requires
 finish_join-n-requires c = let k = c.requires.1 in (
-      c.requires.0,
-      omega (arith, c.write_conflict, k.long),
-      asks_space _ _ _ _ _ _ _ _ _ _ _ _ _ _ k c.args.value c.args.param _ _ _ c.has_room.ensures c.use_count-nu.ensures c.if-not-has_room.false-raw,
-      spreadable_written _ _ _ k.st c.args.g _ _ _ _ k.holds (c.write_conflict.ensures _ refl) k.more.0,
-      omega (arith, k.more.0, k.holds.fit_groups, k.small.3),
-      omega (arith, k.more.1, size_le _ _ k.st k.holds c.args.g k.more.0),
-    )
+  c.requires.0,
+  omega (arith, c.write_conflict, k.long),
+  asks_space _ _ _ _ _ _ _ _ _ _ _ _ _ _ k c.args.value c.args.param _ _ _ c.has_room.ensures c.use_count-nu.ensures c.if-not-has_room.false-raw,
+  spreadable_written _ _ _ k.st c.args.g _ _ _ _ k.holds (c.write_conflict.ensures _ refl) k.more.0,
+  omega (arith, k.more.0, k.holds.fit_groups, k.small.3),
+  omega (arith, k.more.1, size_le _ _ k.st k.holds c.args.g k.more.0),
+)
 
 pub returns : goal.returns
 returns c = let k = c.requires.1 in

@@ -9,7 +9,6 @@ use Rattle.place_laws.specs.Kept.{weighable_kept}
 use Rattle.place_conflict.specs.Asks.{asks_fair, asks_inst, asks_groups, asks_full, asks_room, asks_fit, asks_space, asks_ready, rows_kept, rows_ok}
 use Rattle.place_conflict.proofs.conflict_lead.Goals as goal
 
-
 pub overflow_cast-g : goal.overflow_cast-g
 overflow_cast-g c = omega (arith, asks_groups _ _ _ _ _ _ _ _ _ _ _ _ _ _ c.requires.1 c.args.value c.args.param)
 
@@ -32,7 +31,7 @@ write_conflict-requires c = let k = c.requires.1 in
     let f = asks_fit _ _ _ _ _ _ _ _ _ _ _ _ _ _ k c.args.value c.args.param _ _ _ _ c.has_room.ensures e c.if-not-has_room.false-raw in
     let i = asks_inst _ _ _ _ _ _ _ _ _ _ _ _ _ _ k c.args.value c.args.param in
     let o = (c.map_conflict.ensures c.args.value c.args.pos (param_by c.args.param)).outside in
-    record { fits = (k.ready.fits, rows_ok _ _ _ _ o k.apart _ _ _ _ (omega (arith, c.map_conflict)) k.rows, k.long);  room = (omega (arith, f.1), omega (arith, e, f.2), omega (arith, e, f.2, k.small.2), omega (arith, i)); }
+    record { fits = (k.ready.fits, rows_ok _ _ _ _ o k.apart _ _ _ _ (omega (arith, c.map_conflict)) k.rows, k.long); room = (omega (arith, f.1), omega (arith, e, f.2), omega (arith, e, f.2, k.small.2), omega (arith, i)) }
 
 pub finish_lead-n-requires : goal.finish_lead-n-requires
 finish_lead-n-requires c = let k = c.requires.1 in

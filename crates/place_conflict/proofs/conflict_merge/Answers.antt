@@ -6,7 +6,6 @@ use Rattle.place_laws.specs.Ways.{merge_stopped, merge_full, merge_done}
 use Rattle.place_conflict.specs.Asks.{asks_fair, asks_inst, asks_full, asks_room, asks_fit, asks_place, asks_before, asks_gaps, asks_open, asks_filled}
 use Rattle.place_conflict.proofs.conflict_merge.Goals as goal
 
-
 pub overflow_mul-at : goal.overflow_mul-at
 overflow_mul-at c = omega (arith, asks_inst _ _ _ _ _ _ _ _ _ _ _ _ _ _ c.requires.1 c.args.value c.args.param)
 
@@ -15,7 +14,7 @@ overflow_add-at c = omega (arith, asks_inst _ _ _ _ _ _ _ _ _ _ _ _ _ _ c.requir
 
 pub find_place-requires : goal.find_place-requires
 find_place-requires c = let k = c.requires.1 in
-    record { room = (k.long, omega (arith, k.more.1, k.holds.fit_registers));  pieces_room = span_in _ _ k.st k.holds c.args.v k.more.1; }
+    record { room = (k.long, omega (arith, k.more.1, k.holds.fit_registers)); pieces_room = span_in _ _ k.st k.holds c.args.v k.more.1 }
 
 pub returns-in_default : goal.returns-in_default
 returns-in_default c = λ st h hg sd ec sane eh ei lg lv.
@@ -40,7 +39,7 @@ write_conflict-requires c = let k = c.requires.1 in
     let le = asks_before _ _ _ _ _ _ _ _ _ _ _ _ _ _ k c.args.value c.args.param _ c.args.v _ _ c.in-At.is e (f.1, f.2) k.st (c.find_place.ensures k.st k.holds k.more.1) in
     let op = c.open_gaps-gaps.ensures k.st k.holds k.counts k.more.1 le in
     let o = asks_open _ _ _ _ _ _ _ _ _ _ _ _ _ _ k c.args.value c.args.param _ c.args.v _ _ c.in-At.is e (f.1, f.2) _ _ _ k.more.1 le op in
-    record { fits = (k.ready.fits, k.rows, omega (arith, c.open_gaps-gaps, k.long));  room = (o.0, omega (arith, e, o.1), omega (arith, e, o.1, k.small.2), omega (arith, i)); }
+    record { fits = (k.ready.fits, k.rows, omega (arith, c.open_gaps-gaps, k.long)); room = (o.0, omega (arith, e, o.1), omega (arith, e, o.1, k.small.2), omega (arith, i)) }
 
 pub finish_merge-n-requires : goal.finish_merge-n-requires
 finish_merge-n-requires c = let k = c.requires.1 in
@@ -51,7 +50,7 @@ finish_merge-n-requires c = let k = c.requires.1 in
     let op = c.open_gaps-gaps.ensures k.st k.holds k.counts k.more.1 (asks_before _ _ _ _ _ _ _ _ _ _ _ _ _ _ k c.args.value c.args.param _ c.args.v _ _ ei e (f.1, f.2) k.st ex) in
     let fl = asks_filled _ _ _ _ _ _ _ _ _ _ _ _ _ _ k c.args.value c.args.param _ c.args.v _ _ ei e (f.1, f.2) _ _ _ _ k.st k.holds k.counts k.more.1 k.more.2 ex op (c.write_conflict.ensures _ refl) in
     let q = filled_asks _ _ _ _ _ _ _ k.st _ c.args.g fl k.more.0 in
-    record { weighable = (c.requires.0, omega (arith, c.write_conflict, c.open_gaps-gaps, k.long), q.0, q.1, omega (arith, f.1, k.small.1), omega (arith, f.2, k.small.2));  pieces_room = q.2; }
+    record { weighable = (c.requires.0, omega (arith, c.write_conflict, c.open_gaps-gaps, k.long), q.0, q.1, omega (arith, f.1, k.small.1), omega (arith, f.2, k.small.2)); pieces_room = q.2 }
 
 pub returns : goal.returns
 returns c = let k = c.requires.1 in

@@ -6,7 +6,6 @@ use Rattle.place_end.specs.Ends.{ends_by}
 use Rattle.place_conflict.specs.Asks.{asks_more}
 use Rattle.place_conflict.proofs.place_conflict.Goals as goal
 
-
 pub conflict_alone-requires : goal.conflict_alone-requires
 conflict_alone-requires c = (c.requires.0, asks_more _ _ _ _ _ _ _ _ _ _ _ _ _ _ _ (λ st x. tt) c.requires.1)
 

@@ -4,7 +4,6 @@ use Rattle.place_part.proofs.Parts.{not-true, not-false}
 use Rattle.place_part.proofs.Groups.{asked_groups, asked_kept, pieces_kept, lead_stopped, lead_put}
 use Rattle.place_part.proofs.place_lead.Goals as goal
 
-
 pub overflow_cast-g : goal.overflow_cast-g
 overflow_cast-g c = omega (arith, asked_groups _ _ _ _ _ _ _ _ _ _ _ _ c.requires.0)
 

@@ -2,11 +2,10 @@ use mathlib.Core.Path.{refl, sym, ◌∙◌}
 use Rattle.place_part.proofs.Merges.{find_asks, merge_stopped, merge_put}
 use Rattle.place_part.proofs.place_merge.Goals as goal
 
-
 pub find_place-requires : goal.find_place-requires
 find_place-requires c = let p = c.requires in
     let k = find_asks _ _ _ _ _ _ _ _ _ _ _ _ p.0 _ p.1 p.3 in
-    record { room = (p.0.long, k.0);  pieces_room = k.1; }
+    record { room = (p.0.long, k.0); pieces_room = k.1 }
 
 pub put_merge-requires : goal.put_merge-requires
 put_merge-requires c = let p = c.requires in

@@ -3,7 +3,6 @@ use Rattle.place_laws.specs.Held.{group_some, reg_some, way_alone, way_lead, way
 use Rattle.place_end.specs.Ends.{ends_by}
 use Rattle.place_part.proofs.place_part.Goals as goal
 
-
 pub returns-then-not-held : goal.returns-then-not-held
 returns-then-not-held c = λ st q hf f. ends_by _ _ _ _ _ _ _ _ _ _ _ (way_alone _ _ _ _ _ st (not-true _ c.if-not-held.true)) (c.place_alone.ensures st q f)
 

@@ -5,7 +5,6 @@ use Rattle.reginfo.proofs.lowest_common.Reads as reads
 use Rattle.reginfo.proofs.lowest_common.Lts as lts
 use Rattle.reginfo.proofs.lowest_common.Goals as goal
 
-
 -- src/lib.rt:49:1
 pub returns-then-both-eq0 : goal.returns-then-both-eq0
 returns-then-both-eq0 c = ap found_of (sym (lowest_none _ c.if-both-eq0.true))

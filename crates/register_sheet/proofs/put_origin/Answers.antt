@@ -5,7 +5,6 @@ use native.Mathlib.Omega.{arith}
 use Rattle.lines.specs.Laws.{as_text}
 use Rattle.register_sheet.proofs.put_origin.Goals as goal
 
-
 pub returns-then-origin-eq1 : goal.returns-then-origin-eq1
 returns-then-origin-eq1 c = as_text 10 _ c.put_bytes.ensures (omega arith) (origin_text _ true (eq-eqb _ _ c.if-origin-eq1.true))
 

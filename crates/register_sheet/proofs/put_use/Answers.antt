@@ -9,7 +9,6 @@ use Rattle.register_sheet.specs.Texts.{use_text_lem}
 use borrow.Author.Rules.{rules}
 use Rattle.register_sheet.proofs.put_use.Goals as goal
 
-
 pub slice_bounds-use_line-end : goal.slice_bounds-use_line-end
 slice_bounds-use_line-end c = sym (length-take-le c.use_length-k.result c.args.row.now (omega (arith, c.use_length-k.ensures.1, c.requires.1)))
 

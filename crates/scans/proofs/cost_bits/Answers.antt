@@ -2,7 +2,6 @@ use native.Mathlib.Omega.{arith}
 use Rattle.scans.proofs.Costs.{cost_known, cost_past}
 use Rattle.scans.proofs.cost_bits.Goals as goal
 
-
 pub word_at-requires : goal.word_at-requires
 word_at-requires c = omega (arith, c.requires.0.classes, c.if-k-n.true)
 

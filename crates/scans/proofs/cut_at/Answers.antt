@@ -4,7 +4,6 @@ use Rattle.function.specs.Blocks.{block_row}
 use Rattle.scans.proofs.Steps.{by_side}
 use Rattle.scans.proofs.cut_at.Goals as goal
 
-
 pub cut_side-requires : goal.cut_side-requires
 cut_side-requires c = (c.requires.0.fits, c.requires.1)
 

@@ -2,7 +2,6 @@ use native.Mathlib.Omega.{arith}
 use Rattle.scans.proofs.Costs.{side_early, side_late}
 use Rattle.scans.proofs.cut_side.Goals as goal
 
-
 pub returns-then-e-f : goal.returns-then-e-f
 returns-then-e-f c = let f = c.cost_bits-f.ensures in
     let e = c.cost_bits-e.ensures in

@@ -2,7 +2,6 @@ use native.Mathlib.Omega.{arith}
 use Rattle.scans.proofs.Steps.{back_is, move_whole, move_halt, move_part}
 use Rattle.scans.proofs.next_move.Goals as goal
 
-
 pub returns-then-r : goal.returns-then-r
 returns-then-r c st hs = move_whole _ st _ _ _ c.fresh_held-first.ensures _ _ (c.scan_uses-r.ensures.ends st hs) c.if-r.true
 

@@ -4,7 +4,6 @@ use Rattle.scans.proofs.Uses.{pos_within}
 use Rattle.scans.proofs.Steps.{part_start, part_end, part_cut}
 use Rattle.scans.proofs.part_at.Goals as goal
 
-
 pub returns-then-is_def : goal.returns-then-is_def
 returns-then-is_def c h a b ls ms le me = part_start _ _ _ a b _ _ ls ms le me _ _ c.marked_use-x.ensures c.marked_use-y.ensures _ _
     c.if-p-q.true c.is_def.ensures c.if-is_def.true

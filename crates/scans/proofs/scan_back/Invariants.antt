@@ -6,7 +6,6 @@ use Rattle.set_part.specs.Part.{marked_use}
 use Rattle.scans.proofs.Scanning.{Backward}
 use Rattle.scans.proofs.scan_back.Given as goal
 
-
 abbrev pub invariant-loop-n : goal.invariant-loop-n
 invariant-loop-n l = Backward (λ st. Stands l.ol (words_of l.out) (words_of l.job) (words_of l.work) l.lay l.wl st) (job_of (words_of l.job) l.lay) (marked_use (words_of l.work) l.wl.marks (words_of l.job) l.lay) l.a l.e l.initial.held l.n l.held
 

@@ -2,7 +2,6 @@ use Rattle.set_cuts.proofs.Read.{across_read}
 use native.Mathlib.Omega.{arith}
 use Rattle.set_cuts.proofs.cut_across.Goals as goal
 
-
 pub overflow_mul-here : goal.overflow_mul-here
 overflow_mul-here c = omega (arith, c.well_formed.1.1.1.1.1.0, c.requires)
 

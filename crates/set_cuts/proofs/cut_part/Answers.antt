@@ -2,7 +2,6 @@ use Rattle.set_cuts.proofs.Read.{row_fits, row_past, row_behind, cut_across_read
 use native.Mathlib.Omega.{arith}
 use Rattle.set_cuts.proofs.cut_part.Goals as goal
 
-
 pub overflow_mul-q : goal.overflow_mul-q
 overflow_mul-q c = omega (arith, c.well_formed.1.1.0, c.requires.3)
 

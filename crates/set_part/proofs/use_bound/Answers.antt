@@ -3,7 +3,6 @@ use Rattle.layout.specs.Layout.{seg_at, seg_row}
 use Rattle.set_part.specs.Part.{use_bound}
 use Rattle.set_part.proofs.use_bound.Goals as goal
 
-
 pub returns-then-i-sp : goal.returns-then-i-sp
 unfolding use_bound
 returns-then-i-sp c = simp (eq-eqb _ _ c.if-i-sp.true)

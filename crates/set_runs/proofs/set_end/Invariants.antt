@@ -4,7 +4,6 @@ use Rattle.set_runs.specs.Runs.{Running}
 use Rattle.set_runs.proofs.Segments.{set_number}
 use Rattle.set_runs.proofs.set_end.Given as goal
 
-
 abbrev pub invariant-loop-e : goal.invariant-loop-e
 invariant-loop-e l = Running (set_number (words_of l.job) l.lay) l.a l.lay.segments.n l.first.0 l.e
 

@@ -4,7 +4,6 @@ use borrow.Author.Tests.{not-false}
 use Rattle.sheet_home.proofs.Ways.{part_counts}
 use Rattle.sheet_home.proofs.is_moved.Goals as goal
 
-
 pub returns-then-not-m : goal.returns-then-not-m
 returns-then-not-m c = λ e. absurd (false≢true e)
 

@@ -4,7 +4,6 @@ use lib.ListN.{get_or}
 use Rattle.sheet_home.proofs.Ways.{fed_once, streamed_once, led, answered_refused, shows_start, answered_moved}
 use Rattle.sheet_home.proofs.move_sheet.Goals as goal
 
-
 pub verdict_on-number-requires : goal.verdict_on-number-requires
 verdict_on-number-requires c = let p = c.requires in
     let b : (i : ℕ) → get_or c.args.sheet.now i 0 < 256

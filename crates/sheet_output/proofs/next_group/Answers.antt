@@ -6,7 +6,6 @@ use Rattle.register_sheet.specs.Typed.{group_line}
 use Rattle.sheet_output.specs.Rows.{group_text}
 use Rattle.sheet_output.proofs.next_group.Goals as goal
 
-
 pub returns : goal.returns
 unfolding group_text
 returns c = let n = c.word_at-n.ensures in

@@ -5,7 +5,6 @@ use Rattle.virt_regs.specs.declared.PieceRow.{PieceRow}
 use Rattle.sheet_output.specs.Rows.{seg_text, seg_row_text, behind_seg, behind_seg_row}
 use Rattle.sheet_output.proofs.next_seg.Goals as goal
 
-
 pub returns : goal.returns
 unfolding seg_text behind_seg
 returns c = let p = c.piece_at-row.ensures in

@@ -7,7 +7,6 @@ use Rattle.sheet_output.proofs.Texts.{row_kind}
 use borrow.Author.Rules.{rules}
 use Rattle.sheet_output.proofs.next_use.Goals as goal
 
-
 pub put_use-end-requires : goal.put_use-end-requires
 put_use-end-requires c = (search rules, search rules, row_kind _ _ _ _ c.use_row-row.ensures c.requires.2)
 

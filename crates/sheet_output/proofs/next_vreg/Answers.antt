@@ -5,7 +5,6 @@ use Rattle.virt_regs.specs.declared.RegisterRow.{RegisterRow}
 use Rattle.sheet_output.specs.Rows.{vreg_text, vreg_row_text, behind_vreg, behind_vreg_row}
 use Rattle.sheet_output.proofs.next_vreg.Goals as goal
 
-
 pub returns : goal.returns
 unfolding vreg_text behind_vreg
 returns c = let a = c.args in

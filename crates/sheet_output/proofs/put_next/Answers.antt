@@ -2,7 +2,6 @@ use Rattle.sheet_output.proofs.Steps.{use_asked, seg_asked, group_asked, use_ste
 use borrow.Author.Rules.{rules}
 use Rattle.sheet_output.proofs.put_next.Goals as goal
 
-
 pub next_use-requires : goal.next_use-requires
 next_use-requires c = let s = c.requires in
     let a = use_asked s.0 c.if-cur.true in

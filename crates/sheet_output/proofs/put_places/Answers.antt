@@ -4,7 +4,6 @@ use lib.Seq.{length-take-le}
 use borrow.Author.Rules.{rules}
 use Rattle.sheet_output.proofs.put_places.Goals as goal
 
-
 pub slice_bounds-put_group-end : goal.slice_bounds-put_group-end
 slice_bounds-put_group-end c = sym (length-take-le c.args.n c.args.places.now (omega (arith, c.requires.1, c.requires.2)))
 

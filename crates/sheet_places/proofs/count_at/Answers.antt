@@ -2,7 +2,6 @@ use Rattle.sheet_places.specs.Places.{count_at}
 use borrow.Author.Tests.{le-ltb, lt-ltb}
 use Rattle.sheet_places.proofs.count_at.Goals as goal
 
-
 pub returns-then-key-lt1 : goal.returns-then-key-lt1
 unfolding count_at
 returns-then-key-lt1 c = simp (lt-ltb _ _ c.if-key-lt1.true)

@@ -3,7 +3,6 @@ use borrow.Author.Tests.{eq-eqb, le-ltb, lt-ltb, ne_eqb}
 use mathlib.Core.Path.{sym}
 use Rattle.sheet_places.proofs.place.Goals as goal
 
-
 pub returns-then-stored-n : goal.returns-then-stored-n
 unfolding place_of
 returns-then-stored-n c = simp (lt-ltb _ _ c.if-row-lt4294967295.true, sym c.stored.ensures, lt-ltb _ _ c.if-stored-n.true)

@@ -6,7 +6,6 @@ use mathlib.Core.Path.{sym}
 use Rattle.sheet_places.specs.Places.{row_at}
 use Rattle.sheet_places.proofs.row_at.Goals as goal
 
-
 pub overflow_mul-result : goal.overflow_mul-result
 overflow_mul-result c = let a = c.args in
     let l : a.c < 5000 = omega (arith, limit_lt a.key, c.limit.ensures) in

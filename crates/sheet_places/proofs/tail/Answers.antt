@@ -2,7 +2,6 @@ use borrow.Author.Tests.{eq-eqb, le-ltb, lt-ltb, ne_eqb}
 use Rattle.sheet_places.specs.Places.{tail_of}
 use Rattle.sheet_places.proofs.tail.Goals as goal
 
-
 pub returns-then-key-eq9 : goal.returns-then-key-eq9
 unfolding tail_of
 returns-then-key-eq9 c = simp (eq-eqb _ _ c.if-key-eq9.true)

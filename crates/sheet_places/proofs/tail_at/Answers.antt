@@ -2,7 +2,6 @@ use Rattle.sheet_places.specs.Places.{tail_at}
 use borrow.Author.Tests.{eq-eqb, le-ltb, lt-ltb, ne_eqb}
 use Rattle.sheet_places.proofs.tail_at.Goals as goal
 
-
 pub returns-then-key-eq6 : goal.returns-then-key-eq6
 unfolding tail_at
 returns-then-key-eq6 c = simp (lt-ltb _ _ c.if-row-lt4294967295.true, eq-eqb _ _ c.if-key-eq6.true)

@@ -5,7 +5,6 @@ use Rattle.sheet_replay.proofs.Comparing.{fed_once, streamed_once, prints_fed, i
 use borrow.Author.Rules.{rules}
 use Rattle.sheet_replay.proofs.is_answer.Goals as goal
 
-
 pub answer_table-end-requires : goal.answer_table-end-requires
 answer_table-end-requires c = let p = c.requires in
     let b : (i : ℕ) → get_or c.args.sheet.now i 0 < 256 = λ i. omega

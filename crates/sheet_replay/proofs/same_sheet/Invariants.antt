@@ -4,7 +4,6 @@ use Rattle.sheet_output.specs.Left.{rows_left}
 use Rattle.sheet_replay.proofs.Comparing.{Agreed}
 use Rattle.sheet_replay.proofs.same_sheet.Given as goal
 
-
 abbrev pub invariant-loop-cur : goal.invariant-loop-cur
 invariant-loop-cur l = (length l.buf ≡ length l.initial.buf) × Agreed l.ol l.end l.tables l.answer l.cur l.at
 

@@ -1,7 +1,6 @@
 use Rattle.sheet_replay.proofs.Comparing.{too_short, part_same}
 use Rattle.sheet_replay.proofs.same_text.Goals as goal
 
-
 pub returns-then-answer-at : goal.returns-then-answer-at
 returns-then-answer-at c = let a = c.args in
     too_short a.answer.now a.at a.text.now c.if-answer-at.true

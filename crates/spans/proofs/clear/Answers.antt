@@ -22,4 +22,4 @@ pub returns : goal.returns
 returns c = let s = c.args.s.now in
     let e : c.loop-i.i ≡ length s = omega arith in
     let z = c.loop-i.invariant.2 ∙ ap (λ (k : ℕ). replicate k 0 ++ drop k s) e ∙ ap (λ r. replicate (length s) 0 ++ r) (drop_of_length-le s {i = length s} (omega arith)) ∙ append-nil (replicate (length s) 0) in
-    record { zeroed = z;  zero_words = ap words_of z ∙ words_replicate (length s); }
+    record { zeroed = z; zero_words = ap words_of z ∙ words_replicate (length s) }

@@ -2,7 +2,6 @@ use Prim.Native.Nat.{◌-◌}
 use Rattle.spans.proofs.Loops.{Copying}
 use Rattle.spans.proofs.copy_words.Given as goal
 
-
 abbrev pub invariant-loop-k : goal.invariant-loop-k
 invariant-loop-k l = Copying l.initial.dst l.at l.src l.from l.n l.k l.dst
 

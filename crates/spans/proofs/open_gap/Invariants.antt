@@ -2,7 +2,6 @@ use Prim.Native.Nat.{◌-◌}
 use Rattle.spans.proofs.Loops.{Opening}
 use Rattle.spans.proofs.open_gap.Given as goal
 
-
 abbrev pub invariant-loop-k : goal.invariant-loop-k
 invariant-loop-k l = Opening l.initial.t l.at l.end l.n l.k l.t
 

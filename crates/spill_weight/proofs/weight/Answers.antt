@@ -13,5 +13,5 @@ returns-then-not-spillslots c = let a = c.args in
 pub returns : goal.returns
 returns c = let a = c.args in
     let t : leb a.insts 1 && not a.spillslots ≡ false =
-        ⊎_elim (λ w. and_no (leb a.insts 1) (not a.spillslots) (ap not w.1)) (λ w. ap (λ (b : Bool). b && not a.spillslots) (lt-leb a.insts 1 w)) c.else-insts-le1.either in
+    ⊎_elim (λ w. and_no (leb a.insts 1) (not a.spillslots) (ap not w.1)) (λ w. ap (λ (b : Bool). b && not a.spillslots) (lt-leb a.insts 1 w)) c.else-insts-le1.either in
     is_finite a.sum a.insts a.k a.spillslots t c.normalize.ensures

@@ -1,7 +1,6 @@
 use Rattle.steps.proofs.Read.{number_fits, put_once, mark_fits}
 use Rattle.steps.proofs.turn_one.Goals as goal
 
-
 pub turned_at-row-requires : goal.turned_at-row-requires
 turned_at-row-requires c = (c.requires.0, c.requires.1, c.requires.3, mark_fits _ _ _ c.requires.2)
 

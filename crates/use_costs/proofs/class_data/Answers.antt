@@ -4,7 +4,6 @@ use Rattle.spill_weight.proofs.Costs.{zero_small}
 use Rattle.use_costs.proofs.Reading.{class_known, class_past}
 use Rattle.use_costs.proofs.class_data.Goals as goal
 
-
 pub class_at-requires : goal.class_at-requires
 class_at-requires c = (omega (arith, c.requires.0.classes), omega (arith, c.requires.1.costs _ c.if-k-n.true))
 

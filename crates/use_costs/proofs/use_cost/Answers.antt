@@ -7,7 +7,6 @@ use Rattle.words.specs.Words.{words_of}
 use Rattle.job.specs.Job.{job_of}
 use Rattle.use_costs.proofs.use_cost.Goals as goal
 
-
 pub returns-in-FixedDef : goal.returns-in-FixedDef
 unfolding cost_of
 returns-in-FixedDef c = is_fixed_cost (job_of (words_of c.args.job.now) c.args.lay) _ _ _ c.in-FixedDef.is refl c.in_memory.ensures c.fixed_cost.ensures

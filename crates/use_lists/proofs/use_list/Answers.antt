@@ -3,7 +3,6 @@ use Rattle.use_lists.specs.declared.Source.TheVariants.{Job, Added}
 use Rattle.use_lists.proofs.Parts.{within, part}
 use Rattle.use_lists.proofs.use_list.Goals as goal
 
-
 pub overflow_mul-result : goal.overflow_mul-result
 overflow_mul-result c = omega (arith, within _ _ c.args.list Job c.in-Job.is c.requires)
 

@@ -4,7 +4,6 @@ use Rattle.uses.proofs.within.Reads as reads
 use Rattle.uses.proofs.within.Lts as lts
 use Rattle.uses.proofs.within.Goals as goal
 
-
 -- src/lib.rt:63:9
 pub returns-then-a-ge65536 : goal.returns-then-a-ge65536
 unfolding fit

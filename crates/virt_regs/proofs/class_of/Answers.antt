@@ -1,5 +1,4 @@
 use Rattle.virt_regs.proofs.class_of.Goals as goal
 
-
 pub returns : goal.returns
 returns c = cc

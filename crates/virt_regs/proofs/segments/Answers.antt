@@ -1,7 +1,6 @@
 use Rattle.virt_regs.proofs.Bytes.{segments_part}
 use Rattle.virt_regs.proofs.segments.Goals as goal
 
-
 pub returns : goal.returns
 returns c = let p = c.pieces_of-s.ensures in
     let a = c.args in

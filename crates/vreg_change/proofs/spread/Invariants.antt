@@ -2,7 +2,6 @@ use Prim.Native.Nat.{◌-◌}
 use Rattle.vreg_change.proofs.Loops.{Spreading}
 use Rattle.vreg_change.proofs.spread.Given as goal
 
-
 abbrev pub invariant-loop-i : goal.invariant-loop-i
 invariant-loop-i l = Spreading l.ol l.g l.class.0 l.weight l.n l.initial.out l.i l.out
 

@@ -1,7 +1,6 @@
 use Rattle.vreg_insert.proofs.Turns.{use_last, use_read}
 use Rattle.vreg_insert.proofs.first_use_of.Goals as goal
 
-
 pub returns-then-i-c : goal.returns-then-i-c
 returns-then-i-c c = use_last _ _ _ _ c.if-i-c.true
 

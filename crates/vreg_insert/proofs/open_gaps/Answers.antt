@@ -5,7 +5,6 @@ use Rattle.vreg_insert.specs.Ask.{ask_first, ask_long, ask_row, ask_lift}
 use Rattle.vreg_insert.proofs.Turns.{use_le, opened_last}
 use Rattle.vreg_insert.proofs.open_gaps.Goals as goal
 
-
 pub pieces_of-s-requires : goal.pieces_of-s-requires
 pieces_of-s-requires c = omega (arith, ask_row _ _ _ _ _ _ _ c.requires, ask_long _ _ _ _ _ _ _ c.requires, length_words c.args.out.now)
 

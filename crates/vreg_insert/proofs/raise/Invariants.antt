@@ -2,7 +2,6 @@ use Prim.Native.Nat.{◌-◌}
 use Rattle.vreg_insert.proofs.Turns.{Raising}
 use Rattle.vreg_insert.proofs.raise.Given as goal
 
-
 abbrev pub invariant-loop-k : goal.invariant-loop-k
 invariant-loop-k l = Raising l.m l.s l.n l.initial.out l.at l.j l.k l.out
 

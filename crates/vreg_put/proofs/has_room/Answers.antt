@@ -1,7 +1,6 @@
 use Rattle.vreg_put.proofs.Puts.{room_1, room_2, room_3, room_4}
 use Rattle.vreg_put.proofs.has_room.Goals as goal
 
-
 pub returns-then-not-fits : goal.returns-then-not-fits
 returns-then-not-fits c = room_1 _ _ _ _ _ _ _ c.fits.ensures c.if-not-fits.true-raw
 

@@ -1,7 +1,6 @@
 use Rattle.vreg_put.proofs.Puts.{words_of}
 use Rattle.vreg_put.proofs.use_row.Goals as goal
 
-
 pub returns-in-FixedDef : goal.returns-in-FixedDef
 returns-in-FixedDef c = words_of _ _ _ c.in-FixedDef.is c.row.ensures
 

@@ -2,7 +2,6 @@ use Rattle.words.specs.Words.{words_of}
 use Rattle.vreg_weight.proofs.Least.{lesser_empty, lesser_past, lesser_over, lesser_found}
 use Rattle.vreg_weight.proofs.lesser_at.Goals as goal
 
-
 pub returns-then-m-eq0 : goal.returns-then-m-eq0
 returns-then-m-eq0 c = let a = c.args in lesser_empty a.ol (words_of a.out.now) _ _ c.requires.1 c.if-m-eq0.true
 

@@ -1,7 +1,6 @@
 use Rattle.vreg_weight.proofs.Least.{other_self, other_member}
 use Rattle.vreg_weight.proofs.lesser_other.Goals as goal
 
-
 pub returns-then-i-j : goal.returns-then-i-j
 returns-then-i-j c = other_self _ _ _ _ _ _ c.requires.3 c.if-i-j.true
 

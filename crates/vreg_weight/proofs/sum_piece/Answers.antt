@@ -2,7 +2,6 @@ use native.Mathlib.Omega.{arith}
 use Rattle.vreg_weight.proofs.Pieces.{piece_over, piece_sum}
 use Rattle.vreg_weight.proofs.sum_piece.Goals as goal
 
-
 pub returns-then-cap-first : goal.returns-then-cap-first
 returns-then-cap-first c = piece_over _ _ _ _ _ _ c.requires.4 c.piece_at-row.ensures c.if-cap-first.true
 

@@ -4,7 +4,6 @@ use Rattle.vreg_weight.proofs.Sums.{options_are, adjust_small}
 use Rattle.vreg_weight.proofs.Pieces.{weight_is}
 use Rattle.vreg_weight.proofs.weight_of_pieces.Goals as goal
 
-
 pub sum_pieces-sum-requires : goal.sum_pieces-sum-requires
 sum_pieces-sum-requires c = (c.requires.0, c.requires.1, omega (arith, c.requires.2), c.options_at-options.ensures ∙ options_are _ _)
 
