@@ -1,9 +1,10 @@
 //! Links the proved functions from `target/staticlib` at the top of the repository. An archive that is missing, or
 //! older than the code that it is made of, is refused with a word on how to make it.
 //!
-//! The code of an archive is `crates/NAME/src` of its own crate and of all that it depends on by crates.txt. What
-//! contracts cite (`specs`) and proofs are not looked at: they hold no code, and an archive made before they changed is
-//! the same, byte for byte. Nor is the time of crates.txt: a new line in it changes no code that is there.
+//! An archive is made of the static library `NAME_c`. Its code is `crates/NAME_c/src` and that of all crates that it
+//! depends on by crates.txt, which lists for each those that it names. What contracts cite (`specs`) and proofs are not
+//! looked at: they hold no code, and an archive made before they changed is the same, byte for byte. Nor is the time of
+//! crates.txt: a new line in it changes no code that is there.
 
 use std::collections::BTreeSet;
 use std::path::{Path, PathBuf};
@@ -34,9 +35,14 @@ fn archive(top: &Path, name: &str) -> PathBuf {
     top.join(format!("target/staticlib/lib{name}.a"))
 }
 
+/// The crate that an archive is made of.
+fn library(name: &str) -> String {
+    format!("{name}_c")
+}
+
 /// What an answer of `fit` depends on.
 fn watched(top: &Path, name: &str) -> io::Result<Vec<PathBuf>> {
-    let mut paths = sources(top, name)?;
+    let mut paths = sources(top, &library(name))?;
     paths.push(top.join("crates.txt"));
     paths.push(archive(top, name));
     Ok(paths)
@@ -45,12 +51,12 @@ fn watched(top: &Path, name: &str) -> io::Result<Vec<PathBuf>> {
 /// Whether the archive can be linked, or how to make it.
 pub fn fit(top: &Path, name: &str) -> io::Result<Result<(), String>> {
     let path = archive(top, name);
-    let make = format!("run `rt staticlib {name}` at the top of the repository");
+    let make = format!("run `tools/archives.sh {name}` at the top of the repository");
     if !path.exists() {
         return Ok(Err(format!("there is no {}: {make}", path.display())));
     }
     let made = path.metadata()?.modified()?;
-    for folder in sources(top, name)? {
+    for folder in sources(top, &library(name))? {
         if let Some(newer) = newer_in(&folder, made)? {
             let (path, newer) = (path.display(), newer.display());
             return Ok(Err(format!("{path} is older than {newer}: {make}")));
@@ -66,7 +72,7 @@ pub fn sources(top: &Path, name: &str) -> io::Result<Vec<PathBuf>> {
     while let Some(name) = left.pop() {
         let line = list.lines().find_map(|line| {
             let (first, rest) = line.split_once(':')?;
-            (first.trim() == name).then_some(rest)
+            (first.split_whitespace().next() == Some(&name)).then_some(rest)
         });
         if let Some(line) = line
             && found.insert(name)

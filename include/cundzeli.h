@@ -2,10 +2,10 @@
  * cundzeli.h: the register pass `build_initial_vregs`, the cut finder `find_optimal_split_point`, and what would move a
  * cut, `find_cut_moves`, proved in Rattle, for C99 and C++.
  *
- * `rt staticlib build`, `rt staticlib find_cut` and `rt staticlib cut_moves`, at the top of the repository, write
- * target/staticlib/libbuild.a, libfind_cut.a and libcut_moves.a, one for each function. They link into x86-64 Linux
- * programs and call nothing but memcpy and memset. docs/TABLES.md has every table with a worked example, docs/SHEETS.md
- * says what the fields mean, and include/example.c is a whole program.
+ * `tools/archives.sh`, at the top of the repository, writes target/staticlib/libbuild.a, libfind_cut.a and
+ * libcut_moves.a, one for each function. They link into x86-64 Linux programs and call nothing but memcpy and memset.
+ * docs/TABLES.md has every table with a worked example, docs/SHEETS.md says what the fields mean, and
+ * include/example.c is a whole program.
  *
  * This holds of all three:
  *

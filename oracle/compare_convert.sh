@@ -4,16 +4,16 @@
 # the first form and rewritten into the second (of limits, full-tables, many-merges and long-sheets a tenth), COUNT of the
 # mixture `second`, and four times as many of `damaged` and of `second-damaged`. Each sheet is given to both programs. What
 # a program converts is given to the other and has to come home. One process for each run.
-# `rt check to_form2 to_form1` has built the programs; TO_FORM2 and TO_FORM1 name others. Default: COUNT 150, which is
+# `tools/program.sh to_form2 to_form1` has built the programs; TO_FORM2 and TO_FORM1 name others. Default: COUNT 150, which is
 # 4,020 sheets in all, and seed 1. COUNT 3800 is 101,840 sheets. The exit status is 1 where something differs.
 set -eu
-built=$(dirname "$0")/../target/bin
-second=$(readlink -m "${TO_FORM2:-$built/to_form2}")
-first=$(readlink -m "${TO_FORM1:-$built/to_form1}")
+crates=$(dirname "$0")/../crates
+second=$(readlink -m "${TO_FORM2:-$crates/to_form2/out/to_form2}")
+first=$(readlink -m "${TO_FORM1:-$crates/to_form1/out/to_form1}")
 cd "$(dirname "$0")"
 for program in "$second" "$first"; do
     [ -x "$program" ] && continue
-    echo "compare_convert.sh: no program $program; 'rt check to_form2 to_form1' makes it" >&2
+    echo "compare_convert.sh: no program $program; 'tools/program.sh to_form2 to_form1' makes it" >&2
     exit 2
 done
 count=${1:-150} seed=${2:-1}

@@ -3,12 +3,12 @@
 # form: COUNT sheets of every profile rewritten into it (of limits, full-tables, many-merges and long-sheets a tenth), COUNT
 # of their mixture, and four times as many that are damaged in the second form. Each rewritten sheet that does not fall to
 # test 1 is given in the first form too, and the program's two outputs are held to each other. One process for each sheet.
-# `rt check vregs` has built the program; VREGS names another. Default: 500 sheets, seed 1. The exit status is 1 where
+# `tools/program.sh vregs` has built the program; VREGS names another. Default: 500 sheets, seed 1. The exit status is 1 where
 # something differs.
 set -eu
-program=$(readlink -f "${VREGS:-$(dirname "$0")/../target/bin/vregs}")
+program=$(readlink -f "${VREGS:-$(dirname "$0")/../crates/vregs/out/vregs}")
 cd "$(dirname "$0")"
-[ -x "$program" ] || { echo "compare_forms.sh: no program $program; 'rt check vregs' makes it" >&2; exit 2; }
+[ -x "$program" ] || { echo "compare_forms.sh: no program $program; 'tools/program.sh vregs' makes it" >&2; exit 2; }
 count=${1:-500} seed=${2:-1}
 cargo build --offline --release --quiet
 bin=${CARGO_TARGET_DIR:-target}/release

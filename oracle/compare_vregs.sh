@@ -1,13 +1,13 @@
 #!/usr/bin/env bash
 # compare_vregs.sh [COUNT [SEED]]: holds the program `vregs` to the oracle, byte for byte, on COUNT generated sheets of
 # every profile (of limits, full-tables, many-merges and long-sheets a tenth), valid and damaged, one process for each
-# sheet. `rt check vregs` has built it. Default: 500 sheets, seed 1.
+# sheet. `tools/program.sh vregs` has built it. Default: 500 sheets, seed 1.
 set -eu
 cd "$(dirname "$0")"
 count=${1:-500} seed=${2:-1}
 cargo build --offline --release --quiet
 bin=${CARGO_TARGET_DIR:-target}/release
-program=$(cd .. && pwd)/target/bin/vregs
+program=$(cd .. && pwd)/crates/vregs/out/vregs
 status=0
 for profile in small classes groups hints floats damaged rooms bad-uses leaning; do
     "$bin/compare" "$program" "$profile" "$seed" "$count" || status=1

@@ -26,18 +26,18 @@ import time
 HERE = os.path.dirname(os.path.abspath(__file__))
 
 HEAD = """-- Sheets and their expected answers. Assumes nothing.
-use mathlib.Core.Path.{_≡_, refl}
+use mathlib.Core.Path.{◌≡◌, refl}
 use Prim.Native.Nat.{ℕ}
 use Prim.Native.String.{String}
 use mathlib.Core.Option.{Option, none, some}
-use mathlib.Core.List.{List, [], _∷_, _++_, map}
-use Rattle·definition·specs.specs.Types.{Room, Stop, NoStart, TurnedDef, ValuesDiffer, MappedTwice, Overlap, NoneAdmitted, Refusal, NotARecord, OverALimit, BadBook, BadFunction, BadHint, BadSegment, BadUse, Stopped, Full}
-use Rattle·definition·specs.specs.Limits.{vregsRoom}
-use Rattle·definition·specs.specs.Build.{Result}
-use Rattle·definition·specs.specs.Text.{bytes}
-use Rattle·definition·specs.specs.JobSheet.{Record}
-use Rattle·definition·specs.specs.declared.SheetRefusal.the-variants.{By, WrittenDiffers}
-use Rattle·definition·specs.specs.SheetForms.{SheetOut, given′, refused′, recordsIn, answerToSheet, answerText}
+use mathlib.Core.List.{List, [], ◌∷◌, ◌++◌, map}
+use Rattle.definition.specs.Types.{Room, Stop, NoStart, TurnedDef, ValuesDiffer, MappedTwice, Overlap, NoneAdmitted, Refusal, NotARecord, OverALimit, BadBook, BadFunction, BadHint, BadSegment, BadUse, Stopped, Full}
+use Rattle.definition.specs.Limits.{vregs_room}
+use Rattle.definition.specs.Build.{Result}
+use Rattle.definition.specs.Text.{bytes}
+use Rattle.definition.specs.JobSheet.{Record}
+use Rattle.definition.specs.declared.SheetRefusal.TheVariants.{By, WrittenDiffers}
+use Rattle.definition.specs.SheetForms.{SheetOut, given', refused', records_in, answer_to_sheet, answer_text}
 
 text : List String → List ℕ
 text [] = []
@@ -46,56 +46,56 @@ text (l ∷ ls) = bytes l ++ text ls
 room : ℕ → ℕ → ℕ → ℕ → Room
 room r s u g = record { registers = r; segments = s; uses = u; groups = g }
 
-stopName : Stop → String
-stopName NoStart = "no-start"
-stopName TurnedDef = "turned-def"
-stopName ValuesDiffer = "values-differ"
-stopName MappedTwice = "mapped-twice"
-stopName Overlap = "overlap"
-stopName NoneAdmitted = "none-admitted"
+stop_name : Stop → String
+stop_name NoStart = "no-start"
+stop_name TurnedDef = "turned-def"
+stop_name ValuesDiffer = "values-differ"
+stop_name MappedTwice = "mapped-twice"
+stop_name Overlap = "overlap"
+stop_name NoneAdmitted = "none-admitted"
 
-stopOf : Refusal → String
-unfolding stopName
-stopOf NotARecord = "-"
-stopOf OverALimit = "-"
-stopOf BadBook = "-"
-stopOf BadFunction = "-"
-stopOf BadHint = "-"
-stopOf BadSegment = "-"
-stopOf BadUse = "-"
-stopOf (Stopped s) = stopName s
-stopOf Full = "-"
+stop_of : Refusal → String
+unfolding stop_name
+stop_of NotARecord = "-"
+stop_of OverALimit = "-"
+stop_of BadBook = "-"
+stop_of BadFunction = "-"
+stop_of BadHint = "-"
+stop_of BadSegment = "-"
+stop_of BadUse = "-"
+stop_of (Stopped s) = stop_name s
+stop_of Full = "-"
 
-stopText : SheetOut Result → List ℕ
-unfolding stopOf
-stopText (given′ r) = bytes "-"
-stopText (refused′ (By r)) = bytes (stopOf r)
-stopText (refused′ WrittenDiffers) = bytes "-"
+stop_text : SheetOut Result → List ℕ
+unfolding stop_of
+stop_text (given' r) = bytes "-"
+stop_text (refused' (By r)) = bytes (stop_of r)
+stop_text (refused' WrittenDiffers) = bytes "-"
 
-abbrev isSheet : Option (List Record) → String
-isSheet none = "no-sheet"
-isSheet (some rs) = "sheet"
+abbrev is_sheet : Option (List Record) → String
+is_sheet none = "no-sheet"
+is_sheet (some rs) = "sheet"
 
 -- what is compared: whether it is a sheet; the register sheet; the stop's name behind it
 data Ask : Type 0 where
   whether answered stopped : Ask
 
 told : Ask → List ℕ → Room → List ℕ
-unfolding stopText answerText answerToSheet recordsIn
-told whether bs r = bytes (isSheet (recordsIn bs))
-told answered bs r = answerText (answerToSheet bs r)
-told stopped bs r = let a = answerToSheet bs r in answerText a ++ stopText a
+unfolding stop_text answer_text answer_to_sheet records_in
+told whether bs r = bytes (is_sheet (records_in bs))
+told answered bs r = answer_text (answer_to_sheet bs r)
+told stopped bs r = let a = answer_to_sheet bs r in answer_text a ++ stop_text a
 
 abbrev Case : Type 0
 Case = List String × Room × Ask × List String
 
 got : Case → List ℕ
 unfolding told text
-got c = told (c .2) (text (c .0)) (c .1)
+got c = told c.2 (text c.0) c.1
 
 want : Case → List ℕ
 unfolding text
-want c = text (c .3)
+want c = text c.3
 """
 
 ESCAPES = {9: '\\t', 10: '\\n', 13: '\\r', 34: '\\"', 92: '\\\\'}
@@ -134,7 +134,7 @@ class Case:
         return len(self.sheet) + len(self.expected)
 
     def term(self):
-        room = 'vregsRoom' if self.room == '-' else 'room ' + self.room.replace(',', ' ')
+        room = 'vregs_room' if self.room == '-' else 'room ' + self.room.replace(',', ' ')
         sheet, expected = (' ∷ '.join([literal(l) for l in lines(t)] + ['[]']) for t in (self.sheet, self.expected))
         return f'({sheet}, {room}, {self.ask}, {expected})'
 
@@ -181,8 +181,8 @@ class Checker:
         with open(os.path.join(self.proofs, 'Eval.antt'), 'w') as f:
             f.write(module)
         start = time.time()
-        run = subprocess.run(['rt', 'dev', self.crate], cwd=self.folder, capture_output=True, text=True,
-                             env=dict(os.environ, RT_CUT='400'))
+        run = subprocess.run(['rt', 'check'], cwd=os.path.join(self.folder, 'crates', self.crate), capture_output=True,
+                             text=True)
         self.seconds += time.time() - start
         self.log = run.stdout + run.stderr
         if run.returncode == 0 and 'logic=proved' in self.log:

@@ -4,7 +4,7 @@
     gen PROFILE SEED COUNT | eval_convert.py CONVERT [--most BYTES]
 
 CONVERT is the program `convert`, which says of each sheet what `to_form2` and what `to_form1` have to write. The checker
-computes `toForm2` and `toForm1` of crates/definition (Conversion) on the same bytes, in a temporary copy of it, and both
+computes `to_form2` and `to_form1` of crates/definition (Conversion) on the same bytes, in a temporary copy of it, and both
 outputs are compared byte for byte. Sheets of more than BYTES bytes (3,000 if not said) are left out. Exit status 0 if all
 agree.
 """
@@ -20,12 +20,12 @@ sys.path.insert(0, os.path.join(sheets.HERE, 'eval'))
 from frames import frame, frames
 
 HEAD = """-- Sheets, and what the two conversions write. Assumes nothing.
-use mathlib.Core.Path.{_≡_, refl}
+use mathlib.Core.Path.{◌≡◌, refl}
 use Prim.Native.Nat.{ℕ}
 use Prim.Native.String.{String}
-use mathlib.Core.List.{List, [], _∷_, _++_, map}
-use Rattle·definition·specs.specs.Text.{bytes}
-use Rattle·definition·specs.specs.Conversion.{toForm2, toForm1}
+use mathlib.Core.List.{List, [], ◌∷◌, ◌++◌, map}
+use Rattle.definition.specs.Text.{bytes}
+use Rattle.definition.specs.Conversion.{to_form2, to_form1}
 
 text : List String → List ℕ
 text [] = []
@@ -33,25 +33,25 @@ text (l ∷ ls) = bytes l ++ text ls
 
 -- which program
 data Ask : Type 0 where
-  toSecond toFirst : Ask
+  to_second to_first : Ask
 
 told : Ask → List ℕ → List ℕ
-unfolding toForm2 toForm1
-told toSecond bs = toForm2 bs
-told toFirst bs = toForm1 bs
+unfolding to_form2 to_form1
+told to_second bs = to_form2 bs
+told to_first bs = to_form1 bs
 
 abbrev Case : Type 0
 Case = List String × Ask × List String
 
 got : Case → List ℕ
 unfolding told text
-got c = told (c .1) (text (c .0))
+got c = told c.1 (text c.0)
 
 want : Case → List ℕ
 unfolding text
-want c = text (c .2)
+want c = text c.2
 """
-ASKS = {'to_form2': 'toSecond', 'to_form1': 'toFirst'}
+ASKS = {'to_form2': 'to_second', 'to_form1': 'to_first'}
 
 
 class Case:

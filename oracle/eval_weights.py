@@ -5,7 +5,7 @@
 
 EXACT is the program `exact`. It says of each register that the theorem speaks of: its number, n, whether the conditions
 hold, whether the bound does, and the exact sum. The checker computes the same from the sheet, by the definition's
-answer to it and by `nonzeros`, `fineSegs`, `fineQuotient`, `distance` and `exactSum`, in a temporary copy of the crates.
+answer to it and by `nonzeros`, `fine_segs`, `fine_quotient`, `distance` and `exact_sum`, in a temporary copy of the crates.
 Sheets of more than BYTES bytes (6,000 if not said) are left out. Exit status 0 if all agree.
 """
 import argparse
@@ -23,77 +23,78 @@ from frames import frame, frames
 CRATES = ('definition', 'floats', 'spill_weight', 'weight_truth')
 
 HEAD = """-- Sheets, and what is said of their registers. Assumes nothing.
-use mathlib.Core.Path.{_≡_, refl}
-use Prim.Native.Nat.{ℕ, suc, _+_, _*_, _^_}
+use mathlib.Core.Path.{◌≡◌, refl}
+use Prim.Native.Nat.{ℕ, suc, ◌+◌, ◌*◌, ◌^◌}
 use Prim.Native.String.{String}
-use mathlib.Core.Bool.{Bool, true, false, cond, not, _&&_}
+use mathlib.Core.Bool.{Bool, true, false, cond, not, ◌&&◌}
 use mathlib.Core.Option.{Option, none, some}
-use mathlib.Core.List.{List, [], _∷_, _++_, map}
+use mathlib.Core.List.{List, [], ◌∷◌, ◌++◌, map}
 use lib.Dec.{leb}
-use lib.Ieee.{Float, nan, inf, fin}
-use lib.Ieee.Positive.{num, den}
-use Rattle·definition.specs.Types.{Job, Out, Register, done, refused}
-use Rattle·definition.specs.Limits.{vregsRoom}
-use Rattle·definition.specs.RegInfo.{zeroF}
-use Rattle·definition.specs.LiveRange.{liveInsts}
-use Rattle·definition.specs.Weights.{sumSegs}
-use Rattle·definition.specs.Place.{isNone, segsOf}
-use Rattle·definition.specs.Build.{Result}
-use Rattle·definition.specs.Entry.{answer}
-use Rattle·definition.specs.Text.{bytes}
-use Rattle·definition.specs.JobSheet.{jobOfSheet}
-use Rattle·weight_truth·specs.specs.Truth.{distance, exactSum, fineQuotient, fineSegs, nonzeros}
+use Rattle.std.specs.Prelude.{Float}
+use Rattle.std.specs.Float.{nan, inf, fin}
+use Rattle.std.specs.Float.Ieee.Positive.{num, den}
+use Rattle.definition.specs.Types.{Job, Out, Register, done, refused}
+use Rattle.definition.specs.Limits.{vregs_room}
+use Rattle.definition.specs.RegInfo.{zero_f}
+use Rattle.definition.specs.LiveRange.{live_insts}
+use Rattle.definition.specs.Weights.{sum_segs}
+use Rattle.definition.specs.Place.{is_none, segs_of}
+use Rattle.definition.specs.Build.{Result}
+use Rattle.definition.specs.Entry.{answer}
+use Rattle.definition.specs.Text.{bytes}
+use Rattle.definition.specs.JobSheet.{job_of_sheet}
+use Rattle.weight_truth.specs.Truth.{distance, exact_sum, fine_quotient, fine_segs, nonzeros}
 
 text : List String → List ℕ
 text [] = []
 text (l ∷ ls) = bytes l ++ text ls
 
-isInf : Float → Bool
-isInf nan = false
-isInf (inf s) = true
-isInf (fin s m e) = false
+is_inf : Float → Bool
+is_inf nan = false
+is_inf (inf s) = true
+is_inf (fin s m e) = false
 
 bit : Bool → ℕ
 bit b = cond b 1 0
 
 -- register i: n, whether the conditions hold, whether the bound does, the exact sum
 row : Job → ℕ → Register → List ℕ
-unfolding bit nonzeros fineSegs fineQuotient sumSegs liveInsts exactSum
+unfolding bit nonzeros fine_segs fine_quotient sum_segs live_insts exact_sum
 row job i r =
-    let ss = segsOf (r .pieces) in
-    let w = r .weight in
+    let ss = segs_of r.pieces in
+    let w = r.weight in
     let n = nonzeros job ss in
-    let s = exactSum job ss in
-    let d = liveInsts ss + job .options .adjust in
+    let s = exact_sum job ss in
+    let d = live_insts ss + job.options.adjust in
     let near = leb (distance (num w * (2 ^ 447 * d)) (s * den w) * 2 ^ 23) ((n + 3) * (s * den w)) in
-    i ∷ n ∷ bit (fineSegs job zeroF ss && fineQuotient (sumSegs job zeroF ss) d) ∷ bit near ∷ s ∷ []
+    i ∷ n ∷ bit (fine_segs job zero_f ss && fine_quotient (sum_segs job zero_f ss) d) ∷ bit near ∷ s ∷ []
 
 rows : Job → ℕ → List Register → List (List ℕ)
-unfolding row isInf
+unfolding row is_inf
 rows job i [] = []
 rows job i (r ∷ rs) =
     let q = rows job (suc i) rs in
-    cond (isNone (r .group) && not (isInf (r .weight))) (row job i r ∷ q) q
+    cond (is_none r.group && not (is_inf r.weight)) (row job i r ∷ q) q
 
 answered : Job → Out Result → List (List ℕ)
 unfolding rows
 answered job (refused f) = []
-answered job (done res) = rows job 0 (res .registers)
+answered job (done res) = rows job 0 res.registers
 
 asked : Option Job → List (List ℕ)
 unfolding answered answer
 asked none = []
-asked (some job) = answered job (answer job vregsRoom)
+asked (some job) = answered job (answer job vregs_room)
 
 abbrev Case : Type 0
 Case = List String × List (List ℕ)
 
 got : Case → List (List ℕ)
-unfolding asked jobOfSheet text
-got c = asked (jobOfSheet (text (c .0)))
+unfolding asked job_of_sheet text
+got c = asked (job_of_sheet (text c.0))
 
 want : Case → List (List ℕ)
-want c = c .1
+want c = c.1
 """
 
 
@@ -121,7 +122,8 @@ class Checker(sheets.Checker):
         self.folder = tempfile.mkdtemp(prefix='eval-')
         self.seconds = 0.0
         for name in CRATES:
-            shutil.copytree(os.path.join(root, 'crates', name), os.path.join(self.folder, 'crates', name))
+            shutil.copytree(os.path.join(root, 'crates', name), os.path.join(self.folder, 'crates', name),
+                            ignore=shutil.ignore_patterns('out'))
         with open(os.path.join(root, 'crates.txt')) as f, open(os.path.join(self.folder, 'crates.txt'), 'w') as to:
             to.writelines(line for line in f if line.split(':')[0] in CRATES)
         self.proofs = os.path.join(self.folder, 'crates', 'weight_truth', 'proofs')

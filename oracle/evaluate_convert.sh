@@ -1,5 +1,5 @@
 #!/usr/bin/env bash
-# evaluate_convert.sh [JOBS [DAMAGED [SEED]]]: holds `toForm2` and `toForm1` of the definition to the second reading of the
+# evaluate_convert.sh [JOBS [DAMAGED [SEED]]]: holds `to_form2` and `to_form1` of the definition to the second reading of the
 # conversions by computation (eval_convert.py), on JOBS sheets of each of the profiles small to leaning in both forms and of
 # the mixture `second`, and on DAMAGED sheets of `damaged`, of its second form and of `second-damaged`; those up to 3,000
 # bytes. Default 20, 100, 1. Needs the Rattle kit and python3.

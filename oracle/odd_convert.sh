@@ -1,15 +1,15 @@
 #!/usr/bin/env bash
-# odd_convert.sh: the programs `to_form2` and `to_form1` (built by `rt check to_form2 to_form1`; TO_FORM2 and TO_FORM1 name
+# odd_convert.sh: the programs `to_form2` and `to_form1` (built by `tools/program.sh to_form2 to_form1`; TO_FORM2 and TO_FORM1 name
 # others) under inputs that no generator makes and under faults of their standard streams, as odd_input.sh does for `vregs`:
 # a line for each, DIFFERS in front of what is not as expected, and then the exit status 1.
 # The faults need gcc; a tmpfs of 64 KB needs the right to mount one, and the line says so where it was not tried.
 # ODD_TIMES=10 makes the longest inputs ten times as long, some 300 MB each.
 cd "$(dirname "$0")/.."
-second_program=$(readlink -m "${TO_FORM2:-target/bin/to_form2}")
-first_program=$(readlink -m "${TO_FORM1:-target/bin/to_form1}")
+second_program=$(readlink -m "${TO_FORM2:-crates/to_form2/out/to_form2}")
+first_program=$(readlink -m "${TO_FORM1:-crates/to_form1/out/to_form1}")
 for program in "$second_program" "$first_program"; do
     [ -x "$program" ] && continue
-    echo "odd_convert.sh: no program $program; 'rt check to_form2 to_form1' makes it" >&2
+    echo "odd_convert.sh: no program $program; 'tools/program.sh to_form2 to_form1' makes it" >&2
     exit 2
 done
 sheet="the job sheet" label=""

@@ -1,12 +1,12 @@
 #!/usr/bin/env bash
-# odd_input.sh [PROGRAM]: the program `vregs` (built by `rt check vregs`) under inputs that no generator makes and under faults of its
+# odd_input.sh [PROGRAM]: the program `vregs` (built by `tools/program.sh vregs`) under inputs that no generator makes and under faults of its
 # standard streams. A line for each: what was tried; what stood on standard output (the whole answer, its first bytes, or none) and how
 # many bytes; the status; standard error. A line that is not as expected begins with DIFFERS, and the exit status is then 1.
 # The faults need gcc; a tmpfs of 64 KB needs the right to mount one, and the line says so where it was not tried.
 # ODD_TIMES=10 makes the longest inputs of the second form ten times as long, some 300 MB each.
 cd "$(dirname "$0")/.."
-program=$(readlink -f "${1:-target/bin/vregs}")
-[ -x "$program" ] || { echo "odd_input.sh: no program $program; 'rt check vregs' makes it" >&2; exit 2; }
+program=$(readlink -f "${1:-crates/vregs/out/vregs}")
+[ -x "$program" ] || { echo "odd_input.sh: no program $program; 'tools/program.sh vregs' makes it" >&2; exit 2; }
 sample=docs/samples/A.job
 name=vregs label="" sheet="the register sheet"
 job=crates/vregs/stdin answer=crates/vregs/stdout

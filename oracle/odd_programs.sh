@@ -1,5 +1,5 @@
 #!/usr/bin/env bash
-# odd_programs.sh: the gate's own programs replay, home, sheet_samples, find_cut_main and cut_moves_main (built by `rt check`) under odd input
+# odd_programs.sh: the gate's own programs replay, home, sheet_samples, find_cut_main and cut_moves_main (built by `tools/program.sh`) under odd input
 # and faults of their streams, as odd_input.sh does for `vregs`. A line for each: what was tried, the last line on standard output or none, the status,
 # standard error. A line that is not as expected begins with DIFFERS, and the exit status is then 1.
 # The faults need gcc; a tmpfs of 64 KB needs the right to mount one, and the line says so where it was not tried.
@@ -7,9 +7,10 @@ set -u
 ulimit -Ss 8192 # the usual stack
 cd "$(dirname "$0")/.."
 top=$(pwd)
-replay=$top/target/bin/replay home=$top/target/bin/home samples=$top/target/bin/sheet_samples vectors=(find_cut_main cut_moves_main)
-for program in "$replay" "$home" "$samples" "${vectors[@]/#/$top/target/bin/}"; do
-    [ -x "$program" ] || { echo "odd_programs.sh: no program $program; 'rt check' makes it" >&2; exit 2; }
+built() { echo "$top/crates/$1/out/$1"; }
+replay=$(built replay) home=$(built home) samples=$(built sheet_samples) vectors=(find_cut_main cut_moves_main)
+for name in replay home sheet_samples "${vectors[@]}"; do
+    [ -x "$(built $name)" ] || { echo "odd_programs.sh: no program $(built $name); 'tools/program.sh $name' makes it" >&2; exit 2; }
 done
 stored=$top/crates/replay/stdin document=$top/crates/sheet_samples/data/SHEETS.md
 all=$(cat crates/replay/stdout) moved=$(cat crates/home/stdout) agree=$(cat crates/sheet_samples/stdout)
@@ -121,8 +122,8 @@ whole() { # PROGRAM NAME: all lines, what was tried
     cmp -s "$d/out" "crates/$1/stdout" || { echo "DIFFERS: not all lines"; bad=1; }
 }
 for program in "${vectors[@]}"; do
-    fresh; "target/bin/$program" >"$d/out" 2>"$d/err"; st=$?; whole "$program" "as usual"
-    fresh; "target/bin/$program" >/dev/full 2>"$d/err"; st=$?
+    fresh; "$(built $program)" >"$d/out" 2>"$d/err"; st=$?; whole "$program" "as usual"
+    fresh; "$(built $program)" >/dev/full 2>"$d/err"; st=$?
     tell "$program: /dev/full" "" "^$program: the answers could not be written, and are cut: No space left on device"
 done
 
@@ -133,7 +134,7 @@ if gcc -O1 -o "$d/faults" oracle/faults.c && gcc -O1 -shared -fPIC -DPRELOADED -
     fresh; LD_PRELOAD=$d/faults.so "$home" <"$stored" >"$d/out" 2>"$d/err"; st=$?; tell "home: $half" "$moved" ""
     fresh; (cd "$d/whole" && LD_PRELOAD=$d/faults.so "$samples" >"$d/out" 2>"$d/err"); st=$?; tell "sheet_samples: $half" "$agree" ""
     for program in "${vectors[@]}"; do
-        fresh; LD_PRELOAD=$d/faults.so "target/bin/$program" >"$d/out" 2>"$d/err"; st=$?; whole "$program" "$half"
+        fresh; LD_PRELOAD=$d/faults.so "$(built $program)" >"$d/out" 2>"$d/err"; st=$?; whole "$program" "$half"
     done
     fresh; "$d/faults" in "$replay" >"$d/out" 2>"$d/err"; st=$?
     tell "replay: a non-blocking standard input, its writer late" "" "${unread}Resource temporarily unavailable"

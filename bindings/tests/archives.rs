@@ -19,13 +19,14 @@ fn put(top: &Path, path: &str, text: &str, seconds: u64) {
     file.set_modified(time).expect("a time");
 }
 
-const LIST: &str = "# NAME: DEPENDENCIES\nlow:\nmiddle: low\ntop: middle libc\nother: low\n";
+const LIST: &str =
+    "# NAME: DEPENDENCIES\nlow:\nmiddle: low\ntop: middle json\ntop_c staticlib: top\nother: low\n";
 
 fn repository(name: &str) -> PathBuf {
     let top = Path::new(env!("CARGO_TARGET_TMPDIR")).join(name);
     let _ = fs::remove_dir_all(&top);
     put(&top, "crates.txt", LIST, 90);
-    for name in ["low", "middle", "top", "other"] {
+    for name in ["low", "middle", "top", "top_c", "other"] {
         put(&top, &format!("crates/{name}/src/lib"), "", 10);
         put(&top, &format!("crates/{name}/specs/Lib"), "", 90);
     }
@@ -40,8 +41,9 @@ fn refusal(top: &Path) -> Option<String> {
 #[test]
 fn dependencies_are_followed() {
     let top = repository("followed");
-    let folders = sources(&top, "top").expect("a list");
-    let names = ["low", "middle", "top"].map(|name| top.join("crates").join(name).join("src"));
+    let folders = sources(&top, "top_c").expect("a list");
+    let names =
+        ["low", "middle", "top", "top_c"].map(|name| top.join("crates").join(name).join("src"));
     assert_eq!(folders, names);
 }
 
@@ -58,7 +60,7 @@ fn a_change_of_code_below_is_noticed() {
     put(&top, "crates/low/src/deep/new", "", 30);
     let why = refusal(&top).expect("a refusal");
     assert!(why.contains("libtop.a is older than ") && why.contains("crates/low/src/deep/new"));
-    assert!(why.ends_with("run `rt staticlib top` at the top of the repository"));
+    assert!(why.ends_with("run `tools/archives.sh top` at the top of the repository"));
     put(&top, "target/staticlib/libtop.a", "", 30);
     assert_eq!(refusal(&top), None);
 }
@@ -68,5 +70,5 @@ fn a_missing_archive_is_noticed() {
     let top = repository("missing");
     fs::remove_file(top.join("target/staticlib/libtop.a")).expect("a file");
     let why = refusal(&top).expect("a refusal");
-    assert!(why.starts_with("there is no ") && why.contains("rt staticlib top"));
+    assert!(why.starts_with("there is no ") && why.contains("tools/archives.sh top"));
 }

@@ -102,8 +102,7 @@ pub fn build_shaped(
 
 // job: a binary job. out: the result tables, with as many rows as are named and fit. work: what it holds does not matter.
 // The contract rules out, for one, number 9 with the rows placed so far left behind, and number 0 with a turned use that stands in no conflict register.
-#[unsafe(no_mangle)]
-pub extern "C" fn build_initial_vregs(
+pub fn build_initial_vregs(
     job: &[u8],
     out: &mut [u8],
     regs: u32,

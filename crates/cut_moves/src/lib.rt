@@ -133,8 +133,7 @@ fn put_sorted(
 // three words, block, way (0 up, 1 down) and steps, from the fewest steps on, equal ones by block; zeros behind them.
 // work: what it holds does not matter. The contract rules out, for one, a row for a block that only an infinite
 // frequency would let move the cut, and a list left as it was lent on 9.
-#[unsafe(no_mangle)]
-pub extern "C" fn find_cut_moves(
+pub fn find_cut_moves(
     blocks: &[u8],
     after: u32,
     before: u32,

@@ -61,8 +61,7 @@ fn cut_by(blocks: &[u8], n: u32, after: u32, before: u32, side: Side, work: &mut
 }
 
 // blocks: rows of two little-endian words, instruction count and frequency bits. side: 0 early, 1 late. work: what it holds does not matter.
-#[unsafe(no_mangle)]
-pub extern "C" fn find_optimal_split_point(
+pub fn find_optimal_split_point(
     blocks: &[u8],
     after: u32,
     before: u32,
