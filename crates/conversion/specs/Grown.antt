@@ -23,7 +23,8 @@ use Rattle.printed.specs.Round.{round_number}
 use Rattle.agree.specs.Words.{same_true, same_self, none_some}
 use Rattle.agree.specs.Values.{Small, AllSmall, record_small}
 use Rattle.sheet_rows.specs.Sheets.{On}
-use Rattle.form_agree.specs.Bare.{fields_long, take_before, at_last, shrunk_ordered}
+use Rattle.form_agree.specs.Bare as Bare
+use Rattle.form_agree.specs.Bare.{fields_long, take_before, at_last}
 use Rattle.form_agree.specs.Jobs.{bare_job}
 use Rattle.conversion.specs.Texts.{cons_some, Reads₁, Reads}
 
@@ -148,6 +149,18 @@ shrunk_reads (r ∷ rs) h = (bare_reads r.word r.fields h.0, shrunk_reads rs h.1
 
 -- ---- the fields left out again
 
+-- the reader's laws speak of the records without them too
+same_shrunk : (rs : List Record) → Bare.shrunk rs ≡ shrunk rs
+unfolding shrunk Bare.shrunk
+same_shrunk [] = refl
+same_shrunk (r ∷ rs) = ap (λ (l : List Record). rec r.word (bare_fields r.word r.fields) ∷ l) (same_shrunk rs)
+
+shrunk_ordered : (rs : List Record) (ws : List Word) → ordered ws (shrunk rs) ≡ ordered ws rs
+shrunk_ordered rs ws = ap (ordered ws) (sym (same_shrunk rs)) ∙ Bare.shrunk_ordered rs ws
+
+shrunk_job : (rs : List Record) → job_of_records (shrunk rs) ≡ job_of_records rs
+shrunk_job rs = ap job_of_records (sym (same_shrunk rs)) ∙ bare_job rs
+
 bare_longer : (w : Word) (k : ℕ) (ns : List ℕ) → Reads₁ false (rec w ns) → bare_fields w (longer w k ns) ≡ ns
 bare_longer opt k ns e = refl
 bare_longer bank k ns e = refl
@@ -177,7 +190,7 @@ grown_ordered n job rs ws h = sym (shrunk_ordered (grown n job rs) ws) ∙ ap (o
 
 pub grown_job : (n : ℕ) (job : Job) (rs : List Record) → Reads false rs
     → job_of_records (grown n job rs) ≡ job_of_records rs
-grown_job n job rs h = sym (bare_job (grown n job rs)) ∙ ap job_of_records (shrunk_grown n job rs h)
+grown_job n job rs h = sym (shrunk_job (grown n job rs)) ∙ ap job_of_records (shrunk_grown n job rs h)
 
 -- ---- the implied fields by the records
 
@@ -461,10 +474,10 @@ other false rs h o t =
     record {
       reads = shrunk_reads rs h;
       order = shrunk_ordered rs (opt ∷ []) ∙ o;
-      job = bare_job rs;
-      tests = ap (λ (j : Job). tenth_test (entry j) true) (bare_job rs)
+      job = shrunk_job rs;
+      tests = ap (λ (j : Job). tenth_test (entry j) true) (shrunk_job rs)
           ∙ ap (λ (q : Option Refusal). tenth_test q true) p.0;
       back =
-          ap (λ (j : Job). grown 0 j (shrunk rs)) (bare_job rs)
+          ap (λ (j : Job). grown 0 j (shrunk rs)) (shrunk_job rs)
           ∙ grown_shrunk 0 job rs h (same_true _ _ w.0 ∙ firsts_are rs) (same_true _ _ w.1 ∙ sets_are rs);
     }

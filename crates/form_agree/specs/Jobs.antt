@@ -33,7 +33,7 @@ the d none = d
 the d (some w) = w
 
 -- a word by its number
-same_word : (v w : Word) → eqb (word_number v) (word_number w) ≡ true → v ≡ w
+pub same_word : (v w : Word) → eqb (word_number v) (word_number w) ≡ true → v ≡ w
 unfolding the
 same_word v w e = ap (the v) (sym (word_number_lem v) ∙ ap word_of (eqb-true (word_number v) (word_number w) e)
     ∙ word_number_lem w)

@@ -81,7 +81,7 @@ second_read [] h = tt
 second_read (r ∷ rs) h = (read r.word h.0.texts _ h.0.reads, second_read rs h.1)
 
 bare_read : (bs : List ℕ) → On (Each Read) (bare_in bs)
-unfolding bare_in
+unfolding bare_in shrunk
 bare_read bs = go (is_second bs) refl
   where
     by : (m : Option (List Record)) → On SoundSecond m → On (Each Read) (bare_of true m)

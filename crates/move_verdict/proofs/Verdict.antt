@@ -5,7 +5,7 @@ use mathlib.Core.Option.{Option, none, some}
 use mathlib.Core.List.{List}
 use Prim.Native.Nat.{ℕ}
 use native.Mathlib.Omega.{arith}
-use Rattle.words.specs.Words.{words_of}
+use Rattle.words.specs.Words.{word_count, words_of}
 use Rattle.definition.specs.declared.SheetRefusal.{SheetRefusal}
 use Rattle.definition.specs.declared.SheetRefusal.TheVariants.{By, WrittenDiffers}
 use Rattle.definition.specs.declared.Refusal.TheVariants.{NotARecord}
@@ -18,6 +18,7 @@ use Rattle.sheet_places.specs.Places.{table_words}
 use Rattle.sheet_form.specs.declared.Reading.{Reading}
 use Rattle.sheet_form.specs.Front.{Formed, second_of}
 use Rattle.form_agree.specs.Read.{forms_front}
+use Rattle.sheet_verdict.specs.Leads.{table_read}
 use Rattle.sheet_verdict.specs.Judged.{verdict_number, LeadsTo, Judged}
 use Rattle.job_pages.specs.Starts.{moves}
 use Rattle.move_verdict.specs.Settled.{moved_number, Settles}
@@ -86,12 +87,13 @@ module _ (second : Bool) (cur : Reading) (b : Bool) (i : b ≡ already second (s
   }
 
   -- they have the other one
-  pub settled_judged : (T Y K : List ℕ) (e : Entered) → Judged cur T Y K e → b ≡ false
-      → Settles second cur (words_of T) Y e.number
-  settled_judged T Y K e j f = λ sheet s.
-      let a : already second (is_second sheet) ≡ false = sym (front sheet (words_of T) Y s) ∙ f in
+  pub settled_judged : (T U K : List ℕ) (e : Entered) → word_count T ≡ table_words → word_count U ≡ 1536
+      → Judged cur T (words_of U) K e → b ≡ false → Settles second cur (words_of T) (words_of U) e.number
+  settled_judged T U K e l k j f = λ sheet s.
+      let a : already second (is_second sheet) ≡ false = sym (front sheet (words_of T) (words_of U) s) ∙ f in
       record {
         number = j.number sheet s ∙ other_number second sheet a;
-        moves = λ z. moves second sheet (words_of T) (j.table z sheet s)
-            (none_by (verdict sheet) (sym (j.number sheet s) ∙ z)) a;
+        moves = λ z.
+            let p : verdict sheet ≡ none = none_by (verdict sheet) (sym (j.number sheet s) ∙ z) in
+            moves second sheet (words_of T) (table_read sheet cur T U l k s p) p a;
       }

@@ -38,6 +38,7 @@ use Rattle.sheet_read.specs.Read.{JobRead, ReadAs}
 use Rattle.sheet_read.specs.Laws.{said_of, Went, agreed, read_sheet}
 use Rattle.sheet_read.specs.Answers.{table_job, no_job, job_refused}
 use Rattle.sheet_read.specs.Verdict.{tenth_ok, verdict_read}
+use Rattle.sheet_verdict.specs.Leads.{front, none_read, crowd_read, read_as}
 use Rattle.sheet_verdict.specs.Judged.{verdict_number, implied_in, Ready, Tested, LeadsTo, Judged}
 
 -- ---- numbers
@@ -114,44 +115,6 @@ module _ (second : Bool) (T : List ℕ) (lay : Layout) (Y K : List ℕ) (e : Ent
   tested_first z y s = tested_passed z y (ap (λ (t : Bool). cond t (implied_in Y lay (raw_job (words_of T) lay)) true) s)
 
 -- ---- the sheets that lead here
-
-module _ (sheet : List ℕ) (cur : Reading) (T U : List ℕ) (l : word_count T ≡ table_words) (k : word_count U ≡ 1536)
-    (s : LeadsTo sheet cur (words_of T) (words_of U)) where
-  went_over : Went table_words sheet cur T U
-  went_over = record { bytes = s.bytes; is = s.is; long = l; all = refl; room = k }
-
-  front : second_of cur.front ≡ is_second sheet
-  front = ap (λ (f : Formed). second_of f.at.front) s.is ∙ forms_front table_words 1536 sheet s.bytes
-
-  -- by what the reader says
-  none_read : said_of cur ≡ Malformed → verdict sheet ≡ some (By NotARecord)
-  none_read i = no_job sheet (go (bare_in sheet) (bare_in_job sheet) (agreed table_words sheet cur T U went_over))
-    where
-      go : (m : Option (List Record)) → (m >>= λ rs. some (job_of_records rs)) ≡ job_in sheet
-          → outcome (said_of cur) (words_of T) ≡ (m >>= λ rs. some (fill (blank table_words) rs)) → job_in sheet ≡ none
-      go none j q = sym j
-      go (some rs) j q = absurd (none_some (sym (ap (λ (a : Answer). outcome a (words_of T)) i) ∙ q))
-
-  crowd_read : said_of cur ≡ TooMany → verdict sheet ≡ some (By OverALimit)
-  crowd_read i =
-      go (bare_in sheet) (bare_in_job sheet) (bare_in_sound sheet) (agreed table_words sheet cur T U went_over)
-    where
-      over : Option Filled → Bool
-      over none = true
-      over (some f) = f.over
-
-      go : (m : Option (List Record)) → (m >>= λ rs. some (job_of_records rs)) ≡ job_in sheet → On Sound m
-          → outcome (said_of cur) (words_of T) ≡ (m >>= λ rs. some (fill (blank table_words) rs))
-          → verdict sheet ≡ some (By OverALimit)
-      go none j h q = absurd (none_some (sym (sym (ap (λ (a : Answer). outcome a (words_of T)) i) ∙ q)))
-      go (some rs) j h q =
-          let v : (fill (blank table_words) rs).over ≡ true =
-          ap over (sym (sym (ap (λ (a : Answer). outcome a (words_of T)) i) ∙ q)) in
-          job_refused sheet (job_of_records rs) OverALimit (sym j)
-          (over_entry (job_of_records rs) (full table_words refl rs h v))
-
-  read_as : (a : Answer) → a ≡ said_of cur → a ≡ Read → ReadAs sheet 0 T U
-  read_as a i r = read_sheet table_words sheet cur T U went_over a i r
 
 pub shaped_read : (cur : Reading) (T U : List ℕ)
     → Streamed (open_form table_words 1536) (formed cur (words_of T) (words_of U))

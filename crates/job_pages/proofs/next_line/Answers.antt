@@ -35,7 +35,7 @@ implied-field-requires c = let p = c.requires in
 pub put_record-end-requires : goal.put_record-end-requires
 put_record-end-requires c = let p = c.requires in
     let r = ready_at p.0 p.1 p.2 c.shown.ensures c.row_at-w.ensures in (
-      omega (arith, p.3, c.«open».ensures.most, c.«open».auto),
+      omega (arith, p.3, c.open-front.ensures.most, c.open-front.auto),
       fields_in p.0 p.1 p.2 r c.fields-n.ensures c.first_field-a.ensures,
       fields_few p.0 p.1 p.2 r c.fields-n.ensures,
     )
@@ -44,6 +44,6 @@ pub returns : goal.returns
 returns c = let p = c.requires in
     line_step _ _ p.1 p.0.long _ _ _ _ _ _ _ _ _ _ _ _ _ p.0 p.2
     (row_word p.0 p.1 p.2 c.shown.ensures c.row_at-w.ensures)
-    c.fields-n.ensures c.implied-field.ensures c.«open».ensures
+    c.fields-n.ensures c.implied-field.ensures c.open-front.ensures
     c.has_more-more.ensures c.first_field-a.ensures
     c.put_record-end.ensures c.behind-c.ensures

@@ -8,7 +8,7 @@ returns-then-cur-eq10 c = simp c.if-cur-eq10.true
 
 pub returns-then-cur-eq9 : goal.returns-then-cur-eq9
 unfolding passed_on
-returns-then-cur-eq9 c = simp (ne_eqb _ _ c.if-cur-eq10.false, c.if-cur-eq9.true)
+returns-then-cur-eq9 c = simp c.if-cur-eq9.true
 
 pub returns : goal.returns
 unfolding passed_on

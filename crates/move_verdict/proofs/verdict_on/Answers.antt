@@ -5,4 +5,4 @@ pub returns-then-is_already : goal.returns-then-is_already
 returns-then-is_already c = settled_one _ _ _ c.is_already.ensures _ _ c.if-is_already.true
 
 pub returns : goal.returns
-returns c = settled_judged _ _ _ c.is_already.ensures _ _ _ _ c.judge-e.ensures c.if-is_already.false
+returns c = settled_judged _ _ _ c.is_already.ensures _ _ _ _ c.requires.1 c.requires.2 c.judge-e.ensures c.if-is_already.false
