@@ -1,5 +1,5 @@
 -- The register sheet from its start to its end, and each page. Assumes nothing.
-use Rattle.std.specs.Prelude.{◌≡◌, refl, Bool, true, false, cond, List, [], ◌++◌, ℕ, ◌+◌, ◌-◌, ◌^◌, ◌≤◌, ◌<◌, length, take}
+use Rattle.std.specs.Prelude.{◌≡◌, refl, Bool, true, false, cond, List, [], ◌++◌, ℕ, ◌≤◌, ◌<◌, length, take}
 use Rattle.std.proofs.Common.{sym, ap, subst, ◌∙◌, append_assoc, append-nil, arith, length-take-le}
 use Rattle.words.specs.Words.{word_count, words_of}
 use Rattle.words.specs.Laws.{length_words}
@@ -17,7 +17,7 @@ use Rattle.register_sheet.specs.Typed.{refused_line}
 use Rattle.lines.specs.Wrote.{Wrote}
 use Rattle.sheet_output.specs.declared.Cursor.{Cursor}
 use Rattle.sheet_output.specs.declared.Page.{Page}
-use Rattle.sheet_output.specs.Left.{at_start, text_left, Stands, rows_left}
+use Rattle.sheet_output.specs.Left.{at_start, rows_left}
 use Rattle.sheet_output.specs.Rows.{behind_end}
 use Rattle.sheet_output.specs.Pages.{Shows, Filled}
 use Rattle.sheet_output.specs.Sheets.{sheet_start, sheet_end_lem, start_stands}

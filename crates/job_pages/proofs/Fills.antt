@@ -12,7 +12,7 @@ use Rattle.words.specs.Words.{words_of}
 use Rattle.job_pages.specs.declared.Cursor.{Cursor}
 use Rattle.job_pages.specs.declared.Put.{Put}
 use Rattle.job_pages.specs.Cursors.{steps_left}
-use Rattle.job_pages.specs.Pages.{Shows, Went, Goes, Stepped, Filled}
+use Rattle.job_pages.specs.Pages.{Shows, Goes, Stepped, Filled}
 
 -- nothing was done, or a step was
 abbrev Nearer : Cursor → Cursor → ℕ → Type 0

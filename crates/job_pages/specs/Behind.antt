@@ -1,5 +1,5 @@
 -- What is left behind a line, and behind a kind of which no record is left. Assumes nothing.
-use Rattle.std.specs.Prelude.{◌≡◌, ◌⊎◌, Bool, ◌||◌, ℕ, zero, suc, ◌+◌, ◌≤◌, ◌<◌, eqb}
+use Rattle.std.specs.Prelude.{◌≡◌, Bool, ℕ, zero, suc, ◌+◌, ◌≤◌, ◌<◌, eqb}
 use Rattle.std.proofs.Math.Path.{refl, ap}
 use Rattle.std.proofs.Common.{sym, subst, ◌∙◌, inl, arith}
 use Rattle.std.proofs.Math.Logic.{inr}
@@ -17,7 +17,7 @@ use Rattle.sheet_rows.specs.Stands.{Row, bump}
 use Rattle.sheet_rows.specs.Sheets.{ordered_first}
 use Rattle.job_pages.specs.declared.Cursor.{Cursor}
 use Rattle.job_pages.specs.Cursors.{cursor, shown_row, rows_in, passed_on, behind_row}
-use Rattle.job_pages.specs.Left.{insts_in, later, Going, Over, Left}
+use Rattle.job_pages.specs.Left.{insts_in, later, Going, Left}
 use Rattle.job_pages.specs.Order.{inside, ordered_more}
 use Rattle.job_pages.specs.Steps.{some_left}
 

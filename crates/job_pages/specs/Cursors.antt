@@ -1,5 +1,5 @@
 -- The cursor in a table of job records: what it stands at, and where it goes. Assumes nothing.
-use Rattle.std.specs.Prelude.{Bool, true, false, cond, ◌&&◌, ◌||◌, List, [], ℕ, ◌+◌, ◌-◌, ◌*◌, ltb, eqb, get_or}
+use Rattle.std.specs.Prelude.{Bool, true, cond, ◌&&◌, ◌||◌, List, [], ℕ, ◌+◌, ◌-◌, ◌*◌, ltb, eqb, get_or}
 use Rattle.definition.specs.Types.{Job, val}
 use Rattle.definition.specs.RegInfo.{set_of}
 use Rattle.definition.specs.SheetForms.{form_line}

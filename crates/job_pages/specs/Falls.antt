@@ -1,18 +1,16 @@
 -- Every step brings the end nearer. Assumes nothing.
-use Rattle.std.specs.Prelude.{◌≡◌, true, List, ◌∷◌, ℕ, ◌+◌, ◌*◌, ◌≤◌, ◌<◌}
+use Rattle.std.specs.Prelude.{◌≡◌, List, ◌∷◌, ℕ, ◌≤◌, ◌<◌}
 use Rattle.std.proofs.Common.{sym, subst, ◌∙◌}
 use Rattle.std.proofs.Math.Path.{ap}
 use native.Mathlib.Omega.{arith}
 use Rattle.definition.specs.Types.{Job}
 use Rattle.definition.specs.JobSheet.{Word, opt, bank, class, reg, block, value, vgroup, operand, hint, seg, use', end}
-use Rattle.definition.specs.JobSheet.{word_number, Record, ordered}
+use Rattle.definition.specs.JobSheet.{word_number, Record}
 use Rattle.definition.specs.Conversion.{rec}
 use Rattle.sheet_places.specs.Places.{limits, limit_of}
-use Rattle.sheet_rows.specs.Stands.{Row}
 use Rattle.job_pages.specs.declared.Cursor.{Cursor}
-use Rattle.job_pages.specs.Cursors.{cursor, shown_row, rows_in, passed_on, behind_row, phase, steps_left}
-use Rattle.job_pages.specs.Left.{later, Going}
-use Rattle.job_pages.specs.Behind.{row_here}
+use Rattle.job_pages.specs.Cursors.{cursor, shown_row, passed_on, behind_row, phase, steps_left}
+use Rattle.job_pages.specs.Left.{Going}
 
 module _ (T : List ℕ) (c : Cursor) (x : ℕ) where
   -- by the cursor's key

@@ -1,5 +1,5 @@
 -- The line of a record from its row, and a step of either kind. Assumes nothing.
-use Rattle.std.specs.Prelude.{◌≡◌, ◌⊎◌, Bool, ℕ, ◌+◌, ◌≤◌, ◌<◌, ltb, drop}
+use Rattle.std.specs.Prelude.{◌≡◌, Bool, ℕ, ◌+◌, ◌≤◌, ◌<◌, ltb, drop}
 use Rattle.std.proofs.Math.Path.{refl, sym, ap, subst}
 use Rattle.std.proofs.Common.{◌∙◌, inl, inr}
 use Rattle.std.proofs.Math.Bool.{true, false, cond}
@@ -8,13 +8,13 @@ use mathlib.Core.List.{List, [], ◌∷◌, ◌++◌, append_assoc}
 use native.Mathlib.Omega.{arith}
 use Rattle.std.proofs.Math.Dec.{eqb}
 use Rattle.std.proofs.Math.ListN.{length, get_or, take}
-use borrow.Author.Tests.{eqb-true, eqb-false, eq-eqb, ne_eqb, ltb-false}
+use borrow.Author.Tests.{eqb-true, eq-eqb, ne_eqb, ltb-false}
 use Rattle.words.specs.Words.{word_count, words_of}
 use Rattle.words.specs.Laws.{length_words}
 use Rattle.definition.specs.Types.{Job, val}
 use Rattle.definition.specs.RegInfo.{set_of}
 use Rattle.definition.specs.JobSheet.{Word, opt, bank, class, reg, block, value, vgroup, operand, hint, seg, use', end}
-use Rattle.definition.specs.JobSheet.{word_number, Record, at, only, ordered}
+use Rattle.definition.specs.JobSheet.{word_number, Record, at, only}
 use Rattle.definition.specs.Conversion.{rec, record_line, lines_text, grown, implied_field, insts_behind}
 use Rattle.form_agree.specs.Jobs.{same_word}
 use Rattle.coalescing.specs.Rows.{values_at}
@@ -29,7 +29,7 @@ use Rattle.lines.specs.Laws.{then}
 use Rattle.job_lines.specs.Rows.{line_text}
 use Rattle.job_lines.specs.Records.{has_more, fields_in, line_record}
 use Rattle.job_pages.specs.declared.Cursor.{Cursor}
-use Rattle.job_pages.specs.Cursors.{cursor, shown_row, rows_in, has_row, passed_on, field_count, first_field, has_more_by}
+use Rattle.job_pages.specs.Cursors.{shown_row, rows_in, has_row, passed_on, field_count, first_field, has_more_by}
 use Rattle.job_pages.specs.Cursors.{implied_by, front_text, behind_row, steps_left}
 use Rattle.job_pages.specs.Left.{insts_in, Going, Over, Left, in_form, text_left}
 use Rattle.job_pages.specs.Pages.{Shows, Went, Stepped}

@@ -1,18 +1,16 @@
 -- The words of a row are the fields of its record. Assumes nothing.
 use Rattle.std.specs.Prelude.{◌≡◌, List, ℕ, zero, suc, ◌+◌, ◌-◌, ◌*◌, ◌≤◌, ◌<◌, take, drop}
 use Rattle.std.proofs.Math.Path.{refl, sym, ap}
-use Rattle.std.proofs.Common.{subst, ◌∙◌, arith, length-drop, length-take-le, get_or-take, get_or-drop, ext_get_or}
+use Rattle.std.proofs.Common.{◌∙◌, arith, length-drop, length-take-le, get_or-take, get_or-drop, ext_get_or}
 use Rattle.std.proofs.Math.ListN.{length, get_or}
 use Rattle.definition.specs.JobSheet.{Word, opt, bank, class, reg, block, value, vgroup, operand, hint, seg, use', end}
 use Rattle.definition.specs.JobSheet.{word_number, kind_fields}
-use Rattle.sheet_places.specs.Places.{bases, base_of, widths, width_of, limits, limit_of, stored_fields, stored_of, row_at}
+use Rattle.sheet_places.specs.Places.{base_of, width_of, limit_of, stored_fields, stored_of, row_at}
 use Rattle.sheet_places.specs.Places.{table_words}
-use Rattle.agree.specs.Table.{ups}
 use Rattle.sheet_rows.specs.Regions.{first_of, sizes, row_is, row_end}
 use Rattle.sheet_rows.specs.Stands.{Row}
 use Rattle.sheet_job.specs.Groups.{ups_few}
 use Rattle.register_sheet.specs.Typed.{use_length}
-use Rattle.job_lines.specs.Records.{Long}
 use Rattle.job_pages.specs.Cursors.{field_count, first_field}
 use Rattle.job_pages.specs.Left.{Fair}
 

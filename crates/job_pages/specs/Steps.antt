@@ -1,25 +1,22 @@
 -- One step of the cursor: whether a record of its kind comes next, and what is left behind. Assumes nothing.
-use Rattle.std.specs.Prelude.{◌≡◌, refl, ◌⊎◌, Bool, true, false, cond, ◌||◌, List, [], ◌∷◌, ℕ, zero, suc, ◌+◌, ◌-◌, ◌*◌, ◌≤◌, ◌<◌, ltb, eqb, length, get_or}
-use Rattle.std.proofs.Common.{sym, ap, subst, ◌∙◌, inl, inr, lt-ltb, le-ltb, eqb-true, eq-eqb, ne_eqb}
+use Rattle.std.specs.Prelude.{◌≡◌, refl, Bool, true, false, cond, List, [], ◌∷◌, ℕ, suc, ◌+◌, ◌-◌, ◌*◌, ◌≤◌, ◌<◌, ltb, eqb, length}
+use Rattle.std.proofs.Common.{sym, ap, ◌∙◌, lt-ltb, le-ltb, eq-eqb}
 use Rattle.std.proofs.lemmas.Bool.{false≢true}
 use native.Mathlib.Omega.{arith}
-use Rattle.rows.specs.RowsAt.{rows_at, length_rows_at}
-use Rattle.definition.specs.declared.Use.{Use}
+use Rattle.rows.specs.RowsAt.{length_rows_at}
 use Rattle.definition.specs.Types.{Job}
 use Rattle.definition.specs.JobSheet.{Word, opt, bank, class, reg, block, value, vgroup, operand, hint, seg, use', end}
-use Rattle.definition.specs.JobSheet.{word_number, Record, at, next, among, only, ordered, use_of, segments_of}
+use Rattle.definition.specs.JobSheet.{word_number, Record, next, among, only, ordered, segments_of}
 use Rattle.definition.specs.Conversion.{rec}
 use Rattle.uses.specs.Rows.{raw_row}
-use Rattle.sheet_places.specs.Places.{limits, limit_of}
-use Rattle.sheet_rows.specs.Stands.{Row, Stands, bump}
 use Rattle.sheet_rows.specs.Sheets.{ordered_first}
 use Rattle.sheet_job.specs.Segments.{next_first, Claim, claim}
 use Rattle.sheet_job.specs.Answers.{none_waits}
 use Rattle.form_agree.specs.Jobs.{same_word}
 use Rattle.job_pages.specs.declared.Cursor.{Cursor}
-use Rattle.job_pages.specs.Cursors.{shown_row, rows_in, has_row, passed_on, behind_row}
-use Rattle.job_pages.specs.Left.{Fair, Each, insts_in, OptStands, later, Going, Over, Left}
-use Rattle.job_pages.specs.Order.{none_later, inside, ordered_more, ordered_later}
+use Rattle.job_pages.specs.Cursors.{shown_row, rows_in, has_row}
+use Rattle.job_pages.specs.Left.{later, Going}
+use Rattle.job_pages.specs.Order.{none_later, ordered_later}
 
 -- ---- whether a record of the cursor's kind comes next
 

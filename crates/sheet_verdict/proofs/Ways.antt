@@ -7,12 +7,8 @@ use Prim.Native.Nat.{ℕ}
 use native.Mathlib.Omega.{arith}
 use Rattle.words.specs.Words.{word_count, words_of}
 use Rattle.definition.specs.declared.Refusal.{Refusal}
-use Rattle.definition.specs.declared.Refusal.TheVariants.{NotARecord, OverALimit}
 use Rattle.definition.specs.Entry.{entry}
-use Rattle.definition.specs.Text.{◌>>=◌}
-use Rattle.definition.specs.JobSheet.{Record, job_of_records}
-use Rattle.definition.specs.declared.SheetRefusal.TheVariants.{By}
-use Rattle.definition.specs.SheetForms.{is_second, tenth_test, verdict, job_in}
+use Rattle.definition.specs.SheetForms.{is_second, tenth_test, verdict}
 use Rattle.definition.proofs.Forms.{not_zero}
 use Rattle.layout.specs.declared.Layout.{Layout}
 use Rattle.job.specs.Job.{raw_job}
@@ -25,18 +21,13 @@ use Rattle.sheet.specs.declared.Answer.{Answer}
 use Rattle.sheet.specs.declared.Answer.TheVariants.{Read, Malformed, TooMany}
 use Rattle.sheet_written.specs.Passed.{Passed, accepted_passed}
 use Rattle.sheet_form.specs.declared.Reading.{Reading}
-use Rattle.sheet_form.specs.Front.{Formed, formed, open_form, second_of, finish_of}
+use Rattle.sheet_form.specs.Front.{formed, open_form, second_of, finish_of}
 use Rattle.sheet_form.specs.Stream.{Streamed}
-use Rattle.agree.specs.Words.{none_some}
-use Rattle.agree.specs.Table.{Filled, fill, blank}
-use Rattle.agree.specs.Agree.{outcome, all_bytes}
+use Rattle.agree.specs.Agree.{all_bytes}
 use Rattle.sheet_job.specs.Fixed.{fixed_layout}
-use Rattle.sheet_rows.specs.Sheets.{On, Sound}
-use Rattle.sheet_job.specs.Answers.{full, alike_entry, accepted_same, over_entry}
-use Rattle.form_agree.specs.Read.{bare_in, bare_in_sound, bare_in_job, forms_front}
+use Rattle.sheet_job.specs.Answers.{alike_entry, accepted_same}
 use Rattle.sheet_read.specs.Read.{JobRead, ReadAs}
-use Rattle.sheet_read.specs.Laws.{said_of, Went, agreed, read_sheet}
-use Rattle.sheet_read.specs.Answers.{table_job, no_job, job_refused}
+use Rattle.sheet_read.specs.Answers.{table_job}
 use Rattle.sheet_read.specs.Verdict.{tenth_ok, verdict_read}
 use Rattle.sheet_verdict.specs.Leads.{front, none_read, crowd_read, read_as}
 use Rattle.sheet_verdict.specs.Judged.{verdict_number, implied_in, Ready, Tested, LeadsTo, Judged}

@@ -1,6 +1,6 @@
 -- What the state that a sheet leads the reader to says of the sheet. Assumes nothing.
 use Rattle.std.specs.Prelude.{◌≡◌, refl, List, Bool, true, ℕ}
-use Rattle.std.proofs.Common.{sym, ap, ◌∙◌, arith}
+use Rattle.std.proofs.Common.{sym, ap, ◌∙◌}
 use Rattle.std.proofs.Math.Option.{Option, none, some}
 use Rattle.words.specs.Words.{word_count, words_of}
 use Rattle.definition.specs.declared.Refusal.TheVariants.{NotARecord, OverALimit}

@@ -1,4 +1,3 @@
-use Prim.Native.Nat.{◌-◌}
 use native.Mathlib.Omega.{arith}
 use Rattle.words.specs.Laws.{length_words}
 use Rattle.job_lines.proofs.Rowing.{row_start, row_next, row_done}
