@@ -140,7 +140,8 @@ fn group_fits(held: Held, index: u32, mapped: u32, sets: [ValueSet; 8]) -> bool
     ensures { result ≡ group_fits (held_of held).group index (group_of mapped) sets }
 {
     if held.grouped {
-        if held.index != index {
+        let other = held.index != index;
+        if other {
             return false;
         }
         if mapping_fits(held.mapped, mapped) {

@@ -33,13 +33,15 @@ pub fn tested(blocks: &[u8], after: u32, before: u32) -> u32
     }
     let n = (blocks.len() / 8) as u32;
     let total = function::count_insts(blocks, 0, n);
-    if 4096 < total {
+    let long = 4096 < total;
+    if long {
         return 2; // too many instructions
     }
     if !function::blocks_ok(blocks, 0, n) {
         return 4; // a block empty or of bad frequency
     }
-    if before <= after {
+    let crossed = before <= after;
+    if crossed {
         return 4; // ends not in order
     }
     if total <= before as u64 {

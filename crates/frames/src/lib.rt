@@ -118,7 +118,8 @@ pub fn read_frame<R: Read>(
     }
     let n = f.sheet;
     let a = streams::fill(f.next, tape, given, &mut sheet[..n], source);
-    if a.n < n {
+    let short = a.n < n;
+    if short {
         return no_frame(a.failed, false, a.next);
     }
     let m = f.answer;

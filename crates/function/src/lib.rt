@@ -59,7 +59,8 @@ pub fn block_ok(rows: &[u8], at: usize, b: Block) -> bool
     requires { at + b.0 * 2 + 2 ≤ word_count rows.now }
     ensures { result ≡ block_ok (block_row (words_of rows.now) (at + b.0 * 2)) }
 {
-    if count_at(rows, at, b) < 1 {
+    let empty = count_at(rows, at, b) < 1;
+    if empty {
         return false;
     }
     floats::is_plain(bits_at(rows, at, b))

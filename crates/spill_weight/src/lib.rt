@@ -82,7 +82,8 @@ pub fn weight(sum: f32, insts: u32, k: u32, spillslots: bool) -> f32
     requires { T (nonneg sum) × (1 ≤ insts) × (insts ≤ 4096) × (k ≤ 65535) }
     ensures { (result ≡ weight_from sum insts k spillslots) × T (nonneg result) }
 {
-    if insts <= 1 && !spillslots {
+    let few = insts <= 1;
+    if few && !spillslots {
         return floats::float_of(0x7f800000);
     }
     normalize(sum, insts, k)

@@ -33,7 +33,10 @@ impl<R: Read> Read for Noted<R> {
         ensures reason { IfErr result (λ e. self.new.reason ≡ Some e) }
     {
         match self.inner.read(buf) {
-            Ok(n) => Ok(n),
+            Ok(n) => {
+                self.reason = None;
+                Ok(n)
+            }
             Err(e) => {
                 self.reason = Some(e);
                 Err(e)
@@ -51,7 +54,10 @@ impl<W: Write> Write for Noted<W> {
         ensures reason { IfErr result (λ e. self.new.reason ≡ Some e) }
     {
         match self.inner.write(buf) {
-            Ok(n) => Ok(n),
+            Ok(n) => {
+                self.reason = None;
+                Ok(n)
+            }
             Err(e) => {
                 self.reason = Some(e);
                 Err(e)
@@ -68,12 +74,14 @@ impl<W: Write> Write for Noted<W> {
 pub fn fail<P: Eprint + Alloc>(rt: &P, what: &str, reason: Option<Error>) -> Result<()> {
     match reason {
         Some(e) => {
+            // What failed is said before the words are put together, which takes memory.
+            eprint!(rt; "{what}: ")?;
             let text = format!(in rt.alloc(); "{e}")?;
             let words = text.as_str();
             // The number behind the system's words is not written.
             match words.split_once(" (os error ") {
-                Some((words, _)) => eprintln!(rt; "{what}: {words}"),
-                None => eprintln!(rt; "{what}: {words}"),
+                Some((words, _)) => eprintln!(rt; "{words}"),
+                None => eprintln!(rt; "{words}"),
             }
         }
         None => eprintln!(rt; "{what}: nothing was taken"),

@@ -179,7 +179,8 @@ pub fn lesser_other(out: &[u8], ol: OutLayout, g: VirtRegGroup, i: usize, j: usi
     requires { (tables_end ol ≤ word_count out.now) × (g.0 < ol.groups) × (j < 8) × (w ≤ 0x7f80_0000) }
     ensures { (result ≤ 0x7f80_0000) × ((st : State) → Members ol (words_of out.now) st g → of_bits binary32 result ≡ lesser_at st i j (get_or (members_at st g) j none) (of_bits binary32 w)) }
 {
-    if i == j {
+    let own = i == j;
+    if own {
         return w;
     }
     lesser_at(out, ol, virt_regs::member_at(out, ol, g, j), w)

@@ -17,8 +17,8 @@ slice_bounds-fill-end-2 g c = sym (length-take-le _ c.args.sheet.now (omega (ari
 pub fill-a-requires : goal.fill-a-requires
 fill-a-requires g c = c.read_head-f.ensures.bound
 
-pub returns-then-a-n : goal.returns-then-a-n
-returns-then-a-n g c = sheet_short _ _ _ _ c.read_head-f.ensures (not-false _ c.if-not-f.false) _ _ (c.fill-a.auto.buf ∙ length-take-le _ c.args.sheet.now (omega (arith, (c.read_head-f.ensures.room (not-false _ c.if-not-f.false)).0, c.requires))) c.fill-a.ensures _ _ _ c.if-a-n.true c.no_frame.ensures
+pub returns-then-short : goal.returns-then-short
+returns-then-short g c = sheet_short _ _ _ _ c.read_head-f.ensures (not-false _ c.if-not-f.false) _ _ (c.fill-a.auto.buf ∙ length-take-le _ c.args.sheet.now (omega (arith, (c.read_head-f.ensures.room (not-false _ c.if-not-f.false)).0, c.requires))) c.fill-a.ensures _ _ _ c.if-short.true c.no_frame.ensures
 
 pub slice_bounds-fill-end-3 : goal.slice_bounds-fill-end-3
 slice_bounds-fill-end-3 g c = omega (arith, (c.read_head-f.ensures.room (not-false _ c.if-not-f.false)).1, c.requires)
@@ -30,7 +30,7 @@ pub fill-b-requires : goal.fill-b-requires
 fill-b-requires g c = c.fill-a.ensures.bound
 
 pub returns-then-b-m : goal.returns-then-b-m
-returns-then-b-m g c = answer_short _ _ _ _ c.read_head-f.ensures (not-false _ c.if-not-f.false) _ _ (c.fill-a.auto.buf ∙ length-take-le _ c.args.sheet.now (omega (arith, (c.read_head-f.ensures.room (not-false _ c.if-not-f.false)).0, c.requires))) c.fill-a.ensures c.if-a-n.false _ _ (c.fill-b.auto.buf ∙ length-take-le _ c.args.answer.now (omega (arith, (c.read_head-f.ensures.room (not-false _ c.if-not-f.false)).1, c.requires))) c.fill-b.ensures _ _ _ c.if-b-m.true c.no_frame-then-b-m.ensures
+returns-then-b-m g c = answer_short _ _ _ _ c.read_head-f.ensures (not-false _ c.if-not-f.false) _ _ (c.fill-a.auto.buf ∙ length-take-le _ c.args.sheet.now (omega (arith, (c.read_head-f.ensures.room (not-false _ c.if-not-f.false)).0, c.requires))) c.fill-a.ensures c.if-short.false _ _ (c.fill-b.auto.buf ∙ length-take-le _ c.args.answer.now (omega (arith, (c.read_head-f.ensures.room (not-false _ c.if-not-f.false)).1, c.requires))) c.fill-b.ensures _ _ _ c.if-b-m.true c.no_frame-then-b-m.ensures
 
 pub returns : goal.returns
-returns g c = frame_whole _ _ _ _ c.read_head-f.ensures (not-false _ c.if-not-f.false) _ _ (c.fill-a.auto.buf ∙ length-take-le _ c.args.sheet.now (omega (arith, (c.read_head-f.ensures.room (not-false _ c.if-not-f.false)).0, c.requires))) c.fill-a.ensures c.if-a-n.false _ _ (c.fill-b.auto.buf ∙ length-take-le _ c.args.answer.now (omega (arith, (c.read_head-f.ensures.room (not-false _ c.if-not-f.false)).1, c.requires))) c.fill-b.ensures _ _ c.if-b-m.false
+returns g c = frame_whole _ _ _ _ c.read_head-f.ensures (not-false _ c.if-not-f.false) _ _ (c.fill-a.auto.buf ∙ length-take-le _ c.args.sheet.now (omega (arith, (c.read_head-f.ensures.room (not-false _ c.if-not-f.false)).0, c.requires))) c.fill-a.ensures c.if-short.false _ _ (c.fill-b.auto.buf ∙ length-take-le _ c.args.answer.now (omega (arith, (c.read_head-f.ensures.room (not-false _ c.if-not-f.false)).1, c.requires))) c.fill-b.ensures _ _ c.if-b-m.false

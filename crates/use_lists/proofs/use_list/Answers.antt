@@ -21,6 +21,12 @@ overflow_add-result-in-Added c = omega (arith, within _ _ c.args.list Added c.in
 pub overflow_mul-result-in-Added-2 : goal.overflow_mul-result-in-Added-2
 overflow_mul-result-in-Added-2 c = omega (arith, within _ _ c.args.list Added c.in-Added.is c.requires)
 
+pub slice_bounds-result-end : goal.slice_bounds-result-end
+slice_bounds-result-end c = omega (arith, within _ _ c.args.list Job c.in-Job.is c.requires)
+
+pub slice_bounds-result-end-in-Added : goal.slice_bounds-result-end-in-Added
+slice_bounds-result-end-in-Added c = omega (arith, within _ _ c.args.list Added c.in-Added.is c.requires)
+
 pub returns-in-Job : goal.returns-in-Job
 returns-in-Job c = part _ _ c.args.list Job c.in-Job.is
 
