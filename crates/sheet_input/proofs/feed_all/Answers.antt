@@ -13,9 +13,9 @@ read-r-requires g c = c.loop-turns.invariant.3.bound
 pub returns-then-r : goal.returns-then-r
 returns-then-r g c = taken_from _ _ _ _ _ _ _ _ c.open-cur.ensures (taking_failed _ _ _ _ _ _ _ _ _ c.loop-turns.invariant.3 c.read-r.ensures c.if-r.true (c.read-r.ensures.once.nothing c.if-r.true))
 
-pub returns-then-n-eq0 : goal.returns-then-n-eq0
-returns-then-n-eq0 g c = taken_from _ _ _ _ _ _ _ _ c.open-cur.ensures
-    (taking_end _ _ _ _ _ _ _ _ _ c.loop-turns.invariant.3 c.read-r.ensures c.if-r.false c.if-n-eq0.true
+pub returns-then-ended : goal.returns-then-ended
+returns-then-ended g c = taken_from _ _ _ _ _ _ _ _ c.open-cur.ensures
+    (taking_end _ _ _ _ _ _ _ _ _ c.loop-turns.invariant.3 c.read-r.ensures c.if-r.false c.if-ended.true
     (omega (arith, c.buf-1.given, c.loop-turns.invariant.0, c.requires.1)))
 
 pub slice_bounds-feed-end : goal.slice_bounds-feed-end
