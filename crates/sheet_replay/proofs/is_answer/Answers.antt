@@ -9,9 +9,9 @@ pub answer_table-end-requires : goal.answer_table-end-requires
 answer_table-end-requires c = let p = c.requires in
     let b : (i : ℕ) → get_or c.args.sheet.now i 0 < 256 = λ i. omega
     (arith, c.shared_slice_known-1.given i) in (
-      streamed_once _ _ b (fed_once _ _ _ _ _ p.1 p.2 c.«open».ensures c.feed-cur.ensures),
-      omega (arith, p.1, c.«open».auto, c.feed-cur.auto),
-      omega (arith, p.2, c.«open».auto, c.feed-cur.auto),
+      streamed_once _ _ b (fed_once _ _ _ _ _ p.1 p.2 c.open-first.ensures c.feed-cur.ensures),
+      omega (arith, p.1, c.open-first.auto, c.feed-cur.auto),
+      omega (arith, p.2, c.open-first.auto, c.feed-cur.auto),
       search rules,
       search rules,
     )
@@ -20,7 +20,7 @@ pub same_sheet-requires : goal.same_sheet-requires
 same_sheet-requires c = let p = c.requires in
     let b : (i : ℕ) → get_or c.args.sheet.now i 0 < 256 = λ i. omega
     (arith, c.shared_slice_known-1.given i) in (
-      prints_fed _ _ _ _ _ _ _ b (fed_once _ _ _ _ _ p.1 p.2 c.«open».ensures c.feed-cur.ensures)
+      prints_fed _ _ _ _ _ _ _ b (fed_once _ _ _ _ _ p.1 p.2 c.open-first.ensures c.feed-cur.ensures)
           c.answer_table-end.ensures,
       search rules,
     )
@@ -29,5 +29,5 @@ pub returns : goal.returns
 returns c = let p = c.requires in
     let b : (i : ℕ) → get_or c.args.sheet.now i 0 < 256 = λ i. omega
     (arith, c.shared_slice_known-1.given i) in
-    is_vregs _ _ _ _ _ _ _ b (fed_once _ _ _ _ _ p.1 p.2 c.«open».ensures c.feed-cur.ensures)
+    is_vregs _ _ _ _ _ _ _ b (fed_once _ _ _ _ _ p.1 p.2 c.open-first.ensures c.feed-cur.ensures)
     c.answer_table-end.ensures c.args.answer.now _ c.same_sheet.ensures
