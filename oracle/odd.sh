@@ -83,9 +83,9 @@ writes_that_fail() { # the answer is cut, and it is said
     fresh; "$program" <"$job" >/dev/full 2>&-; st=$?; tell "/dev/full, and standard error closed" none ""
 }
 
-ended_by_the_system() { # the answer is cut, and the status says so
+ended_by_the_system() { # the answer is cut: by a signal, which the status says, or by a pipe that closed, a write that fails
     fresh; (ulimit -f 64; exec "$program" <"$job" >"$d/out" 2>"$d/err"); st=$?; tell "a file-size limit of 64 KB" first ""
-    fresh; "$program" <"$job" 2>"$d/err" | head -c 4 >"$d/out"; st=${PIPESTATUS[0]}; tell "an output that closes" first ""
+    fresh; "$program" <"$job" 2>"$d/err" | head -c 4 >"$d/out"; st=${PIPESTATUS[0]}; tell "an output that closes" first "${cut}Broken pipe"
 }
 
 odd_calls() { # pipes that would block, interrupted calls and short counts
