@@ -1,5 +1,5 @@
 // Why the last call failed. A `Step` has no room for the reason, so it is kept beside the reader or the writer.
-ghost use Rattle.std.specs.Prelude.{◌≡◌, IfErr, Some, None};
+ghost use Rattle.std.specs.Prelude.{◌≡◌, IfErr, OnOk, Some, None};
 ghost use Rattle.std.specs.Io.{ReadsAtMost, WritesAtMost};
 ghost use Rattle.std.specs.Io.KnownBytes.{Keeps, ReadConsumes, WriteAppends};
 
@@ -31,6 +31,7 @@ impl<R: Read> Read for Noted<R> {
         ensures bound { ReadsAtMost result buf.new }
         ensures bytes { ReadConsumes (R.remaining self.old.inner) (R.remaining self.new.inner) result buf.new }
         ensures reason { IfErr result (λ e. self.new.reason ≡ Some e) }
+        ensures cleared { OnOk result (self.new.reason ≡ None) }
     {
         match self.inner.read(buf) {
             Ok(n) => {
@@ -52,6 +53,7 @@ impl<W: Write> Write for Noted<W> {
         ensures bound { WritesAtMost result buf.now }
         ensures bytes { WriteAppends (W.contents self.old.inner) (W.contents self.new.inner) result buf.now }
         ensures reason { IfErr result (λ e. self.new.reason ≡ Some e) }
+        ensures cleared { OnOk result (self.new.reason ≡ None) }
     {
         match self.inner.write(buf) {
             Ok(n) => {
