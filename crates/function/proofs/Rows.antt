@@ -1,18 +1,16 @@
 -- A block row read, and one turn of each loop over block rows. Assumes nothing.
-use Prim.Native.Nat.{ℕ, ◌+◌, ◌-◌, ◌*◌, ◌≤◌, ◌<◌}
+use Prim.Native.Nat.{ℕ, ◌+◌, ◌*◌, ◌≤◌, ◌<◌}
 use native.Mathlib.Omega.{arith}
-use native.Mathlib.Nat.{sub-zero}
 use native.Mathlib.Numerals.{add-one}
 use mathlib.Core.Path.{◌≡◌, refl, sym, ap, ◌∙◌}
-use mathlib.Core.Bool.{Bool, true, false}
+use mathlib.Core.Bool.{Bool, false}
 use mathlib.Core.List.{List}
 use lib.ListN.{get_or}
 use lib.Ieee.{binary32, of_bits}
 use borrow.Author.Tests.{le-leb, lt-leb}
 use Rattle.definition.specs.declared.BlockData.{BlockData}
-use Rattle.definition.specs.Entry.{insts_of, block_ok, every, plain}
-use Rattle.rows.specs.Tab.{tab, tab_more, tab_done}
-use Rattle.rows.specs.RowsAt.{rows_at, length_rows_at, get_or_rows_at}
+use Rattle.definition.specs.Entry.{insts_of, block_ok, plain}
+use Rattle.rows.specs.RowsAt.{length_rows_at, get_or_rows_at}
 use Rattle.function.specs.Blocks.{block_row, blocks_at, start_of, block_at, no_block}
 use Rattle.function.specs.BlockLaws.{start_next, start_last}
 
@@ -25,28 +23,6 @@ block_bad W i x e h = rw (← e, lt-leb 1 x h)
 pub block_good : (W : List ℕ) (i x y : ℕ) (t : Bool) → x ≡ get_or W i 0 → 1 ≤ x → y ≡ get_or W (i + 1) 0 → t ≡ plain (of_bits binary32 y) → t ≡ block_ok (block_row W i)
 unfolding block_ok block_row
 block_good W i x y t e h f g = rw (← e, ← f, le-leb 1 x h) g
-
--- ---- all blocks' test
-
--- the blocks from block i on
-abbrev pub rest : List ℕ → ℕ → ℕ → ℕ → List BlockData
-rest W at i n = tab (λ k. block_row W (at + k * 2)) i (n - i)
-
-pub ok_first : (W : List ℕ) (at n : ℕ) → every block_ok (blocks_at W at n) ≡ every block_ok (rest W at 0 n)
-unfolding rows_at
-ok_first W at n = ap (λ (k : ℕ). every block_ok (tab (λ j. block_row W (at + j * 2)) 0 k)) (sym (sub-zero n))
-
-pub ok_next : (W : List ℕ) (at i n : ℕ) → i < n → true ≡ block_ok (block_row W (at + i * 2)) → every block_ok (rest W at i n) ≡ every block_ok (rest W at (i + 1) n)
-unfolding every
-ok_next W at i n h e = rw (tab_more (λ k. block_row W (at + k * 2)) i n h, ← e)
-
-pub ok_bad : (W : List ℕ) (at i n : ℕ) → i < n → false ≡ block_ok (block_row W (at + i * 2)) → every block_ok (rest W at i n) ≡ false
-unfolding every
-ok_bad W at i n h e = rw (tab_more (λ k. block_row W (at + k * 2)) i n h, ← e)
-
-pub ok_last : (W : List ℕ) (at i n : ℕ) → n ≤ i → every block_ok (rest W at i n) ≡ true
-unfolding every
-ok_last W at i n h = rw (tab_done (λ k. block_row W (at + k * 2)) i n h)
 
 -- ---- the sum of the counts
 
@@ -73,8 +49,8 @@ pub count_first : (W : List ℕ) (at n : ℕ) → Counting W at n 0 0
 unfolding start_of
 count_first W at n = record { within = omega arith; is = refl; below = omega arith }
 
-pub count_next : {W : List ℕ} {at n i t : ℕ} (x y : ℕ) → Counting W at n i t → i < n → x ≡ get_or W (at + i * 2) 0 → y ≡ x → y < 4294967296 → Counting W at n (i + 1) (t + y)
-count_next {W} {at} {n} {i} {t} x y c h e f l =
+pub count_next : {W : List ℕ} {at n i t : ℕ} (x y : ℕ) → Counting W at n i t → i < n → x ≡ get_or W (at + i * 2) 0 → x < 4294967296 → y ≡ x → Counting W at n (i + 1) (t + y)
+count_next {W} {at} {n} {i} {t} x y c h e l f =
     record { within = omega arith; is = omega (arith, c.is, row_starts W at n i h); below = omega (arith, c.below) }
 
 pub count_last : {W : List ℕ} {at n i t : ℕ} → Counting W at n i t → n ≤ i → t ≡ insts_of (blocks_at W at n)

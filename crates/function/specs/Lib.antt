@@ -1,3 +1,4 @@
 pub mod Bools
 pub mod Blocks
 pub mod BlockLaws
+pub mod Every

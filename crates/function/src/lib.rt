@@ -34,22 +34,14 @@ pub fn block_at(rows: &[u8], at: usize, b: Block) -> BlockData
     BlockData { insts, frequency }
 }
 
-fn wide(x: u32) -> u64
-    ensures { (result ≡ x) × (result < 4294967296) }
-{
-    x as u64
-}
-
 // How many instructions n blocks have.
 pub fn count_insts(rows: &[u8], at: usize, n: u32) -> u64
     requires { at + n * 2 ≤ word_count rows.now }
     ensures { result ≡ insts_of (blocks_at (words_of rows.now) at n) }
 {
     let mut total: u64 = 0;
-    let mut i: u32 = 0;
-    while i < n {
-        total += wide(count_at(rows, at, Block(i)));
-        i += 1;
+    for i in 0..n {
+        total += u64::from(count_at(rows, at, Block(i)));
     }
     total
 }
@@ -70,12 +62,5 @@ pub fn blocks_ok(rows: &[u8], at: usize, n: u32) -> bool
     requires { at + n * 2 ≤ word_count rows.now }
     ensures { result ≡ every block_ok (blocks_at (words_of rows.now) at n) }
 {
-    let mut i: u32 = 0;
-    while i < n {
-        if !block_ok(rows, at, Block(i)) {
-            return false;
-        }
-        i += 1;
-    }
-    true
+    (0..n).all(|i| block_ok(rows, at, Block(i)))
 }
