@@ -8,7 +8,7 @@ ghost use Rattle.definition.specs.Types.{HeldGroup, Held, Mapped, Piece, State};
 ghost use Rattle.definition.specs.RegInfo.{class_at};
 ghost use Rattle.definition.specs.Admit.{members_at};
 ghost use Rattle.definition.specs.Place.{alone_state, lead_state, join_state, merge_state};
-ghost use Rattle.virt_regs.specs.Encoding.{tables_end, hint_word, register_words};
+ghost use Rattle.virt_regs.specs.Encoding.{tables_end, register_words};
 ghost use Rattle.vreg_change.specs.Flat.{Spreadable};
 ghost use Rattle.vreg_weight.specs.Weighed.{job_in, Weighable};
 ghost use Rattle.place.specs.Ready.{Space, Ready, Filled, Left, row_of, one_more, group_more, pieces_more};
@@ -19,15 +19,6 @@ use use_costs::class_data;
 use virt_regs::{Counts, OutLayout, RegisterRow, pieces_of};
 use vreg_change::{add_group, set_member, spread};
 use vreg_weight::{least_weight, weight_of_pieces};
-
-fn hint_word(hint: bool) -> u32
-    ensures { result ≡ hint_word hint }
-{
-    if hint {
-        return 1;
-    }
-    0
-}
 
 // The row of a register behind those held. Its np pieces with nu uses stand behind the pieces and uses held.
 pub fn add_register(
@@ -51,7 +42,7 @@ pub fn add_register(
         weight,
         group,
         index,
-        hint: hint_word(hint),
+        hint: u32::from(hint),
         first: c.segs as u32,
         count: np as u32,
     };
@@ -60,7 +51,7 @@ pub fn add_register(
         regs: c.regs + 1,
         segs: c.segs + np,
         uses: c.uses + nu,
-        groups: c.groups,
+        ..c
     }
 }
 
@@ -122,10 +113,8 @@ pub fn finish_lead(
         VirtReg(v),
     );
     Counts {
-        regs: n.regs,
-        segs: n.segs,
-        uses: n.uses,
         groups: n.groups + 1,
+        ..n
     }
 }
 
@@ -187,9 +176,8 @@ pub fn finish_merge(
     let weight = least_weight(out, ol, g, index as usize, w);
     spread(out, ol, g, class, weight);
     Counts {
-        regs: c.regs,
         segs: c.segs + np,
         uses: c.uses + nu,
-        groups: c.groups,
+        ..c
     }
 }

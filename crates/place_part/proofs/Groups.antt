@@ -3,7 +3,7 @@ use mathlib.Core.Path.{◌≡◌, refl, sym, ap, ◌∙◌, subst}
 use mathlib.Core.Bool.{Bool, true, false}
 use mathlib.Core.Option.{Option, none, some}
 use mathlib.Core.List.{List, []}
-use Prim.Native.Nat.{ℕ, ◌+◌, ◌-◌, ◌^◌, ◌≤◌, ◌<◌}
+use Prim.Native.Nat.{ℕ, ◌+◌, ◌-◌, ◌^◌, ◌<◌}
 use native.Mathlib.Omega.{arith}
 use lib.ListN.{length}
 use Rattle.words.specs.Words.{word_count, words_of}
@@ -25,7 +25,7 @@ use Rattle.set_part.specs.declared.SetPart.{SetPart}
 use Rattle.set_part.specs.Part.{part_row, seg_by, marked_use, part_segs}
 use Rattle.virt_regs.specs.declared.OutLayout.{OutLayout}
 use Rattle.virt_regs.specs.declared.Counts.{Counts}
-use Rattle.virt_regs.specs.Encoding.{room_of, counts_of, Holds}
+use Rattle.virt_regs.specs.Encoding.{room_of}
 use Rattle.vreg_weight.specs.Fair.{Fair}
 use Rattle.members.specs.Places.{group_of}
 use Rattle.constraints.specs.declared.Held.{Held}
@@ -36,19 +36,19 @@ use Rattle.part_pieces.proofs.Rows.{own_segs}
 use Rattle.part_maps.specs.Maps.{MapApart, Outside, MapsTo, Maps}
 use Rattle.part_maps.proofs.Kept.{outside_none, marked_kept, ready_kept}
 use Rattle.place.specs.Ready.{Left}
-use Rattle.place_end.specs.declared.Ended.TheVariants as ended
-use Rattle.place_end.specs.declared.PlaceEnd.{PlaceEnd}
-use Rattle.place_end.specs.Ends.{Sane, Ends, gate_stopped, gate_full, gate_done, room_full, room_done, sane_added, sane_spread}
+use Rattle.std.specs.Prelude.{Ok, Err}
+use Rattle.place_end.specs.declared.NotPlaced.TheVariants as not_placed
+use Rattle.place_end.specs.Ends.{Placed, Sane, Ends, gate_stopped, gate_full, gate_done, room_full, room_done, sane_added, sane_spread}
 use Rattle.place_laws.specs.Held.{HeldFits, group_held}
 use Rattle.place_part.specs.Asked.{new_pieces, Standing, Asked, RoomEnds, LeadPut}
 
 -- ---- by the answer b to whether there is room
 
-pub room_ends_full : (ol : OutLayout) (O : List ℕ) (r : PlaceEnd) (b x : Bool) (st : State) → b ≡ x → b ≡ false → r.end ≡ ended.Full → RoomEnds ol O r x st
+pub room_ends_full : (ol : OutLayout) (O : List ℕ) (r : Placed) (b x : Bool) (st : State) → b ≡ x → b ≡ false → r ≡ Err not_placed.Full → RoomEnds ol O r x st
 room_ends_full ol O r b x st ex eb e = record { full = λ _. e; done = λ t. absurd (let z : ◌≡◌ {A = ℕ} 0 1 = cc in omega arith) }
 
-pub room_ends_done : (ol : OutLayout) (O : List ℕ) (r : PlaceEnd) (b x : Bool) (st : State) → b ≡ x → b ≡ true → r.end ≡ ended.Done → Left ol O r.counts st → RoomEnds ol O r x st
-room_ends_done ol O r b x st ex eb e l = record { full = λ t. absurd (let z : ◌≡◌ {A = ℕ} 0 1 = cc in omega arith); done = λ _. (e, l) }
+pub room_ends_done : (ol : OutLayout) (O : List ℕ) (r : Placed) (n : Counts) (b x : Bool) (st : State) → b ≡ x → b ≡ true → r ≡ Ok n → Left ol O n st → RoomEnds ol O r x st
+room_ends_done ol O r n b x st ex eb e l = record { full = λ t. absurd (let z : ◌≡◌ {A = ℕ} 0 1 = cc in omega arith); done = λ _. (n, e, l) }
 
 -- ---- what is asked
 
@@ -93,19 +93,18 @@ asked_kept t o W O work work' lay ol wl sp h c x a =
 
 -- ---- in an empty place of a group
 
-module _ (J : Job) (ol : OutLayout) (W : List ℕ) (lay : Layout) (wl : WorkLayout) (K O O₂ : List ℕ) (c : Counts) (st : State) (vs : ValueSet) (h : types.Held) (hg : HeldGroup) (g : VirtRegGroup) (ps : List Piece) (r : PlaceEnd) (s : Standing J ol O W K lay wl c st) where
-  pub join_full : has_room (room_of ol) st 1 0 ps ≡ false → r.end ≡ ended.Full → Ends J ol W lay wl K O₂ K r (join J (room_of ol) vs h hg g ps st)
+module _ (J : Job) (ol : OutLayout) (W : List ℕ) (lay : Layout) (wl : WorkLayout) (K O O₂ : List ℕ) (c : Counts) (st : State) (vs : ValueSet) (h : types.Held) (hg : HeldGroup) (g : VirtRegGroup) (ps : List Piece) (r : Placed) (s : Standing J ol O W K lay wl c st) where
+  pub join_full : has_room (room_of ol) st 1 0 ps ≡ false → r ≡ Err not_placed.Full → Ends J ol W lay wl K O₂ K r (join J (room_of ol) vs h hg g ps st)
   unfolding join
   join_full eb e = room_full J ol W lay wl K O₂ K r (outside_none lay wl K) (has_room (room_of ol) st 1 0 ps) (join_state J vs h hg g ps st) eb e
 
-  pub join_done : has_room (room_of ol) st 1 0 ps ≡ true → r.end ≡ ended.Done → Fair J 4096 ps → Left ol O₂ r.counts (join_state J vs h hg g ps st)
+  pub join_done : (n : Counts) → has_room (room_of ol) st 1 0 ps ≡ true → r ≡ Ok n → Fair J 4096 ps → Left ol O₂ n (join_state J vs h hg g ps st)
       → Ends J ol W lay wl K O₂ K r (join J (room_of ol) vs h hg g ps st)
   unfolding join join_state Sane
-  join_done eb e f l =
+  join_done n eb e f l =
       let w = group_weight J h hg (members_at st g) ps st in
-      room_done J ol W lay wl K O₂ K r (outside_none lay wl K) (has_room (room_of ol) st 1 0 ps) (join_state J vs h hg g ps st) eb
+      room_done J ol W lay wl K O₂ K r (outside_none lay wl K) (has_room (room_of ol) st 1 0 ps) n (join_state J vs h hg g ps st) eb e
       (record {
-        end = e;
         counts = l.counts;
         stands = record { tables = l.holds; mapped = s.stands.mapped };
         sane =
@@ -126,7 +125,7 @@ unfolding MapsTo
 maps_some W lay wl K b none m e = let t : b ≡ false = m in absurd (let z : ◌≡◌ {A = ℕ} 0 1 = cc in omega arith)
 maps_some W lay wl K b (some ms) m e = (refl, m.1)
 
-module _ (J : Job) (ol : OutLayout) (W : List ℕ) (lay : Layout) (wl : WorkLayout) (K K' O O₂ : List ℕ) (c : Counts) (st : State) (vs : ValueSet) (h : Held) (sp : SetPart) (r : PlaceEnd) (b : Bool)
+module _ (J : Job) (ol : OutLayout) (W : List ℕ) (lay : Layout) (wl : WorkLayout) (K K' O O₂ : List ℕ) (c : Counts) (st : State) (vs : ValueSet) (h : Held) (sp : SetPart) (r : Placed) (b : Bool)
     (s : Standing J ol O W K lay wl c st) (m : Maps W K lay wl (map_uses (vrgroup c.groups) (uses_of (part_segs K wl.marks W lay sp))) b K') where
   maps_to : MapsTo W lay wl K' b (map_uses (vrgroup (length st.groups)) (uses_of (segs_of (new_pieces K wl W lay sp))) st.mapping)
   maps_to =
@@ -135,7 +134,7 @@ module _ (J : Job) (ol : OutLayout) (W : List ℕ) (lay : Layout) (wl : WorkLayo
       subst (λ (n : ℕ). MapsTo W lay wl K' b (map_uses (vrgroup n) (uses_of (segs_of (as_own ss))) st.mapping)) e
       (subst (λ (l : List Segment). MapsTo W lay wl K' b (map_uses (vrgroup c.groups) (uses_of l) st.mapping)) (sym (own_segs ss)) (m.answers st.mapping s.stands.mapped))
 
-  pub lead_stopped : b ≡ false → r.end ≡ ended.Stopped MappedTwice → Ends J ol W lay wl K O₂ K' r (lead J (room_of ol) vs (held_of h) (group_held h) (new_pieces K wl W lay sp) st)
+  pub lead_stopped : b ≡ false → r ≡ Err (not_placed.Stopped MappedTwice) → Ends J ol W lay wl K O₂ K' r (lead J (room_of ol) vs (held_of h) (group_held h) (new_pieces K wl W lay sp) st)
   unfolding lead
   lead_stopped eb e =
       let x : Option (List Mapped) = map_uses (vrgroup (length st.groups)) (uses_of (segs_of (new_pieces K wl W lay sp))) st.mapping in
@@ -161,12 +160,11 @@ module _ (J : Job) (ol : OutLayout) (W : List ℕ) (lay : Layout) (wl : WorkLayo
           (lead_state J vs (held_of h) (group_held h) (new_pieces K wl W lay sp) st (or_else x [])) en eq (re.full eq)
       go true eq x en mp re =
           let d = re.done eq in
-          gate_done J ol W lay wl K O₂ K' r m.outside (is_none x) MappedTwice (has_room (room_of ol) st 1 1 (new_pieces K wl W lay sp))
-          (lead_state J vs (held_of h) (group_held h) (new_pieces K wl W lay sp) st (or_else x [])) en eq
+          gate_done J ol W lay wl K O₂ K' r m.outside (is_none x) MappedTwice (has_room (room_of ol) st 1 1 (new_pieces K wl W lay sp)) d.0
+          (lead_state J vs (held_of h) (group_held h) (new_pieces K wl W lay sp) st (or_else x [])) en eq d.1
           (record {
-            end = d.0;
-            counts = d.1.counts;
-            stands = record { tables = d.1.holds; mapped = mp };
+            counts = d.2.counts;
+            stands = record { tables = d.2.holds; mapped = mp };
             sane =
                 sane_added J st.registers
                 (made vs (held_of h) (weight_of J (held_of h).class (segs_of (new_pieces K wl W lay sp))) (some (vrgroup (length st.groups))) h.index (new_pieces K wl W lay sp)) s.sane f;

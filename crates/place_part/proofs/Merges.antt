@@ -3,11 +3,10 @@ use mathlib.Core.Path.{◌≡◌, refl, sym, ap, ap₂, ◌∙◌}
 use mathlib.Core.Bool.{Bool, true, false, cond}
 use mathlib.Core.Option.{some}
 use mathlib.Core.List.{List}
-use Prim.Native.Nat.{ℕ, zero, suc, ◌+◌, ◌-◌, ◌*◌, ◌^◌, ◌≤◌, ◌<◌}
+use Prim.Native.Nat.{ℕ, zero, suc, ◌+◌, ◌-◌, ◌*◌, ◌≤◌, ◌<◌}
 use native.Mathlib.Nat.{add-zero}
 use native.Mathlib.Omega.{arith}
 use borrow.Author.Tests.{eq-eqb}
-use lib.Dec.{eqb}
 use lib.ListN.{length, get_or}
 use Rattle.rows.specs.Tab.{tab}
 use Rattle.definition.specs.declared.LiveRangePoint.{LiveRangePoint}
@@ -18,10 +17,9 @@ use Rattle.definition.specs.Types.{Job, Segment, Piece, State}
 use Rattle.definition.specs.Lines.{hint_in}
 use Rattle.definition.specs.Admit.{register_at, members_at}
 use Rattle.definition.specs.Build.{as_own}
-use Rattle.definition.specs.Place.{pieces_in, uses_in, uses_of, first_from, last_to, overlaps, inserted, with_pieces, update, has_room, gate, group_weight, merge, merge_state}
+use Rattle.definition.specs.Place.{pieces_in, uses_in, uses_of, first_from, last_to, overlaps, inserted, with_pieces, update, has_room, group_weight, merge, merge_state}
 use Rattle.layout.specs.declared.Layout.{Layout}
 use Rattle.layout.specs.Layout.{seg_at}
-use Rattle.job.specs.Job.{job_of}
 use Rattle.set_part.specs.declared.SetPart.{SetPart}
 use Rattle.set_part.specs.Part.{PartOk, part_row, seg_by, marked_use, part_segs}
 use Rattle.virt_regs.specs.declared.OutLayout.{OutLayout}
@@ -29,23 +27,22 @@ use Rattle.virt_regs.specs.declared.Counts.{Counts}
 use Rattle.virt_regs.specs.Encoding.{room_of, counts_of, Holds}
 use Rattle.virt_regs.specs.Reads.{pieces_in_lem, span_in}
 use Rattle.vreg_put.specs.Written.{Written}
-use Rattle.vreg_find.specs.declared.Place.{Place}
-use Rattle.vreg_find.specs.declared.Place.TheVariants.{Overlap, At}
+use Rattle.std.specs.Prelude.{None, Some}
 use Rattle.vreg_find.specs.Ends.{ends_by, ends_le, pick_place, place_of}
 use Rattle.vreg_insert.specs.Ask.{Ask, first_use_le}
 use Rattle.vreg_insert.specs.Opened.{Opened}
 use Rattle.vreg_weight.specs.Fair.{Fair, fair_inserted}
-use Rattle.members.specs.Places.{reg_of, group_of}
+use Rattle.members.specs.Places.{reg_of}
 use Rattle.constraints.specs.declared.Held.{Held}
 use Rattle.work_layout.specs.declared.WorkLayout.{WorkLayout}
 use Rattle.constraints.specs.Held.{held_of}
 use Rattle.part_pieces.proofs.Rows.{count_pieces_of, count_part_uses}
 use Rattle.part_maps.proofs.Kept.{outside_none}
-use Rattle.place.specs.Ready.{Filled, Left, all_of}
+use Rattle.place.specs.Ready.{Filled, all_of}
 use Rattle.place.specs.Laws.{filled}
-use Rattle.place_end.specs.declared.Ended.TheVariants as ended
-use Rattle.place_end.specs.declared.PlaceEnd.{PlaceEnd}
-use Rattle.place_end.specs.Ends.{Sane, Ends, gate_stopped, gate_full, gate_done, sane_at, sane_update, sane_spread}
+use Rattle.std.specs.Prelude.{Err}
+use Rattle.place_end.specs.declared.NotPlaced.TheVariants as not_placed
+use Rattle.place_end.specs.Ends.{Placed, Sane, Ends, gate_stopped, gate_full, gate_done, sane_at, sane_update, sane_spread}
 use Rattle.place_laws.specs.Held.{HeldFits, group_held}
 use Rattle.place_part.specs.Asked.{new_pieces, Standing, Asked, RoomEnds, PlacedAt, MergePut}
 use Rattle.place_part.proofs.Parts.{fair_weighed, fair_each, written_own, RoomSaid, asked_room}
@@ -83,19 +80,19 @@ module _ (K : List ℕ) (m : ℕ) (W : List ℕ) (lay : Layout) (sp : SetPart) (
 
 -- ---- the place
 
-place_at : (x : Bool) (n k : ℕ) → At k ≡ pick_place x n → (x ≡ false) × (k ≡ n)
+place_at : (x : Bool) (n k : ℕ) → Some k ≡ pick_place x n → (x ≡ false) × (k ≡ n)
 place_at true n k e = absurd (let z : ◌≡◌ {A = ℕ} 0 1 = cc in omega arith)
 place_at false n k e = (refl, let q : k ≡ n = cc in q)
 
-place_none : (x : Bool) (n : ℕ) → Overlap ≡ pick_place x n → x ≡ true
+place_none : (x : Bool) (n : ℕ) → None ≡ pick_place x n → x ≡ true
 place_none true n e = refl
 place_none false n e = absurd (let z : ◌≡◌ {A = ℕ} 0 1 = cc in omega arith)
 
-at_place : (a b : LiveRangePoint) (ps : List Piece) (k : ℕ) → At k ≡ place_of a b ps → (overlaps a b ps ≡ false) × (k ≡ ends_by a ps)
+at_place : (a b : LiveRangePoint) (ps : List Piece) (k : ℕ) → Some k ≡ place_of a b ps → (overlaps a b ps ≡ false) × (k ≡ ends_by a ps)
 unfolding place_of
 at_place a b ps k e = place_at (overlaps a b ps) (ends_by a ps) k e
 
-no_place : (a b : LiveRangePoint) (ps : List Piece) → Overlap ≡ place_of a b ps → overlaps a b ps ≡ true
+no_place : (a b : LiveRangePoint) (ps : List Piece) → None ≡ place_of a b ps → overlaps a b ps ≡ true
 unfolding place_of
 no_place a b ps e = place_none (overlaps a b ps) (ends_by a ps) e
 
@@ -156,9 +153,9 @@ part_filled J ol O O₁ O₂ st c v k hint p u K m W lay sp ok hs ec here sane f
 
 -- ---- the answer
 
-module _ (J : Job) (ol : OutLayout) (W : List ℕ) (lay : Layout) (wl : WorkLayout) (K O O₂ : List ℕ) (c : Counts) (st : State) (h : Held) (g : VirtRegGroup) (v : VirtReg) (sp : SetPart) (r : PlaceEnd)
+module _ (J : Job) (ol : OutLayout) (W : List ℕ) (lay : Layout) (wl : WorkLayout) (K O O₂ : List ℕ) (c : Counts) (st : State) (h : Held) (g : VirtRegGroup) (v : VirtReg) (sp : SetPart) (r : Placed)
     (ok : PartOk W lay sp) (s : Standing J ol O W K lay wl c st) where
-  pub merge_stopped : Overlap ≡ place_of sp.«from» sp.to (register_at st v).pieces → r.end ≡ ended.Stopped stops.Overlap
+  pub merge_stopped : None ≡ place_of sp.«from» sp.to (register_at st v).pieces → r ≡ Err (not_placed.Stopped stops.Overlap)
       → Ends J ol W lay wl K O₂ K r (merge J (room_of ol) (held_of h) (group_held h) g v (new_pieces K wl W lay sp) st)
   unfolding merge
   merge_stopped ep e =
@@ -193,6 +190,6 @@ module _ (J : Job) (ol : OutLayout) (W : List ℕ) (lay : Layout) (wl : WorkLayo
           (merge_state J (held_of h) (group_held h) g v (new_pieces K wl W lay sp) st) eo eq (re.full eq)
       go true eq eo sn re =
           let d = re.done eq in
-          gate_done J ol W lay wl K O₂ K r (outside_none lay wl K) (overlaps (first_from (new_pieces K wl W lay sp)) (last_to (new_pieces K wl W lay sp)) (register_at st v).pieces) stops.Overlap (has_room (room_of ol) st 0 0 (new_pieces K wl W lay sp))
-          (merge_state J (held_of h) (group_held h) g v (new_pieces K wl W lay sp) st) eo eq
-          (record { end = d.0; counts = d.1.counts; stands = record { tables = d.1.holds; mapped = s.stands.mapped }; sane = sn })
+          gate_done J ol W lay wl K O₂ K r (outside_none lay wl K) (overlaps (first_from (new_pieces K wl W lay sp)) (last_to (new_pieces K wl W lay sp)) (register_at st v).pieces) stops.Overlap (has_room (room_of ol) st 0 0 (new_pieces K wl W lay sp)) d.0
+          (merge_state J (held_of h) (group_held h) g v (new_pieces K wl W lay sp) st) eo eq d.1
+          (record { counts = d.2.counts; stands = record { tables = d.2.holds; mapped = s.stands.mapped }; sane = sn })

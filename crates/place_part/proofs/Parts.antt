@@ -1,16 +1,13 @@
 -- A part's pieces written behind the rows in use, and room for them. Assumes nothing.
-use mathlib.Core.Path.{◌≡◌, refl, sym, ap, ◌∙◌, subst}
+use mathlib.Core.Path.{◌≡◌, refl, sym, ◌∙◌, subst}
 use mathlib.Core.Bool.{Bool, true, false, not}
 use mathlib.Core.Option.{none}
 use mathlib.Core.List.{List}
 use Prim.Native.Nat.{ℕ, ◌+◌, ◌-◌, ◌≤◌, ◌<◌}
 use native.Mathlib.Omega.{arith}
 use lib.ListN.{length}
-use Rattle.words.specs.Words.{word_count, words_of}
-use Rattle.rows.specs.Tab.{tab}
 use Rattle.definition.specs.declared.Inst.{Inst}
 use Rattle.definition.specs.declared.ValueSet.{ValueSet}
-use Rattle.definition.specs.declared.Use.{Use}
 use Rattle.definition.specs.declared.UseKind.{UseKind}
 use Rattle.definition.specs.declared.UseKind.TheVariants.{FixedDef, FixedUse, TiedUse, ConstraintConflict, ClassUse, ClassDef, GroupClassUse, GroupClassDef, BlockparamIn, BlockparamOut}
 use Rattle.definition.specs.Types.{Job, Segment, Piece, State}
@@ -20,7 +17,6 @@ use Rattle.definition.specs.Build.{as_own}
 use Rattle.definition.specs.Weights.{weight_of}
 use Rattle.definition.specs.Place.{uses_of, segs_of, uses_of_pieces, has_room, made, alone, alone_state}
 use Rattle.layout.specs.declared.Layout.{Layout}
-use Rattle.job.specs.Job.{job_of}
 use Rattle.set_part.specs.declared.SetPart.{SetPart}
 use Rattle.set_part.specs.Part.{PartOk, part_segs}
 use Rattle.virt_regs.specs.declared.OutLayout.{OutLayout}
@@ -33,15 +29,13 @@ use Rattle.vreg_weight.specs.Fair.{Fair, fair_insts, fair_typed, fair_inside}
 use Rattle.constraints.specs.declared.Held.{Held}
 use Rattle.work_layout.specs.declared.WorkLayout.{WorkLayout}
 use Rattle.constraints.specs.Held.{held_of}
-use Rattle.constraints.specs.Ready as constraints
 use Rattle.part_pieces.proofs.Rows.{own_segs, count_pieces_of, count_part_uses}
 use Rattle.part_maps.proofs.Kept.{outside_none}
 use Rattle.place.specs.Ready.{Space, Weighed, Ready, Left}
 use Rattle.place.specs.Room.{room_counts, space}
-use Rattle.place_end.specs.declared.Ended.TheVariants as ended
-use Rattle.place_end.specs.declared.PlaceEnd.{PlaceEnd}
-use Rattle.place_end.specs.Ends.{Sane, Ends, room_full, room_done, sane_added}
-use Rattle.place_laws.specs.Held.{HeldFits}
+use Rattle.std.specs.Prelude.{Ok, Err}
+use Rattle.place_end.specs.declared.NotPlaced.TheVariants as not_placed
+use Rattle.place_end.specs.Ends.{Placed, Sane, Ends, room_full, room_done, sane_added}
 use Rattle.place_part.specs.Asked.{new_pieces, Standing, Asked}
 
 -- ---- tests of an answer that is negated
@@ -127,18 +121,17 @@ held_class h = refl
 
 -- ---- in no group
 
-module _ (J : Job) (ol : OutLayout) (W : List ℕ) (lay : Layout) (wl : WorkLayout) (K O O₂ : List ℕ) (c : Counts) (st : State) (vs : ValueSet) (h : types.Held) (ps : List Piece) (r : PlaceEnd) (s : Standing J ol O W K lay wl c st) where
-  pub alone_full : has_room (room_of ol) st 1 0 ps ≡ false → r.end ≡ ended.Full → Ends J ol W lay wl K O₂ K r (alone J (room_of ol) vs h ps st)
+module _ (J : Job) (ol : OutLayout) (W : List ℕ) (lay : Layout) (wl : WorkLayout) (K O O₂ : List ℕ) (c : Counts) (st : State) (vs : ValueSet) (h : types.Held) (ps : List Piece) (r : Placed) (s : Standing J ol O W K lay wl c st) where
+  pub alone_full : has_room (room_of ol) st 1 0 ps ≡ false → r ≡ Err not_placed.Full → Ends J ol W lay wl K O₂ K r (alone J (room_of ol) vs h ps st)
   unfolding alone
   alone_full eb e = room_full J ol W lay wl K O₂ K r (outside_none lay wl K) (has_room (room_of ol) st 1 0 ps) (alone_state J vs h ps st) eb e
 
-  pub alone_done : has_room (room_of ol) st 1 0 ps ≡ true → r.end ≡ ended.Done → Fair J 4096 ps → Left ol O₂ r.counts (alone_state J vs h ps st)
+  pub alone_done : (n : Counts) → has_room (room_of ol) st 1 0 ps ≡ true → r ≡ Ok n → Fair J 4096 ps → Left ol O₂ n (alone_state J vs h ps st)
       → Ends J ol W lay wl K O₂ K r (alone J (room_of ol) vs h ps st)
   unfolding alone alone_state Sane
-  alone_done eb e f l =
-      room_done J ol W lay wl K O₂ K r (outside_none lay wl K) (has_room (room_of ol) st 1 0 ps) (alone_state J vs h ps st) eb
+  alone_done n eb e f l =
+      room_done J ol W lay wl K O₂ K r (outside_none lay wl K) (has_room (room_of ol) st 1 0 ps) n (alone_state J vs h ps st) eb e
       (record {
-        end = e;
         counts = l.counts;
         stands = record { tables = l.holds; mapped = s.stands.mapped };
         sane = sane_added J st.registers (made vs h (weight_of J h.class (segs_of ps)) none 0 ps) s.sane f;

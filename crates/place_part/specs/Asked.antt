@@ -1,5 +1,5 @@
 -- What is asked before a part is placed. Assumes nothing.
-use Rattle.std.specs.Prelude.{◌≡◌, Bool, true, false, List, ℕ, ◌+◌, ◌^◌, ◌≤◌, ◌<◌, length}
+use Rattle.std.specs.Prelude.{◌≡◌, Bool, true, false, Some, Ok, Err, List, ℕ, ◌+◌, ◌^◌, ◌≤◌, ◌<◌, length}
 use Rattle.definition.specs.declared.ValueSet.{ValueSet}
 use Rattle.definition.specs.declared.LiveRangePoint.{LiveRangePoint}
 use Rattle.definition.specs.declared.VirtReg.{VirtReg}
@@ -15,7 +15,6 @@ use Rattle.set_part.specs.Part.{PartOk, part_segs}
 use Rattle.virt_regs.specs.declared.OutLayout.{OutLayout}
 use Rattle.virt_regs.specs.declared.Counts.{Counts}
 use Rattle.virt_regs.specs.Encoding.{tables_end, room_of, counts_of, Holds}
-use Rattle.vreg_find.specs.declared.Place.TheVariants.{At}
 use Rattle.vreg_find.specs.Ends.{place_of}
 use Rattle.constraints.specs.declared.Held.{Held}
 use Rattle.work_layout.specs.declared.WorkLayout.{WorkLayout}
@@ -26,9 +25,8 @@ use Rattle.vreg_weight.specs.Fair.{Fair}
 use Rattle.part_maps.specs.Maps.{MapApart}
 use Rattle.place.specs.Ready.{Left}
 use Rattle.place_laws.specs.Held.{HeldFits, group_held}
-use Rattle.place_end.specs.declared.Ended.TheVariants as ended
-use Rattle.place_end.specs.declared.PlaceEnd.{PlaceEnd}
-use Rattle.place_end.specs.Ends.{Sane}
+use Rattle.place_end.specs.declared.NotPlaced.TheVariants as not_placed
+use Rattle.place_end.specs.Ends.{Placed, Sane}
 
 -- the pieces that the part becomes
 abbrev pub new_pieces : List ℕ → WorkLayout → List ℕ → Layout → SetPart → List Piece
@@ -59,21 +57,21 @@ pub record Asked (t w o : ℕ) (W K O : List ℕ) (lay : Layout) (ol : OutLayout
   pub fair : Fair (job_of W lay) 4096 (new_pieces K wl W lay sp)
 
 -- by whether there is room: the table is full, or the words hold st
-pub record RoomEnds (ol : OutLayout) (O : List ℕ) (r : PlaceEnd) (b : Bool) (st : State) : Type 0 where
-  pub full : b ≡ false → r.end ≡ ended.Full
-  pub done : b ≡ true → (r.end ≡ ended.Done) × Left ol O r.counts st
+pub record RoomEnds (ol : OutLayout) (O : List ℕ) (r : Placed) (b : Bool) (st : State) : Type 0 where
+  pub full : b ≡ false → r ≡ Err not_placed.Full
+  pub done : b ≡ true → (n : Counts) × (r ≡ Ok n) × Left ol O n st
 
 -- a register that leads a new group is placed, or there is no room, for every state that the words O hold
-abbrev pub LeadPut : Job → OutLayout → List ℕ → List ℕ → Counts → ValueSet → Held → PlaceEnd → List Piece → Type 0
+abbrev pub LeadPut : Job → OutLayout → List ℕ → List ℕ → Counts → ValueSet → Held → Placed → List Piece → Type 0
 LeadPut J ol O O' c vs h r ps =
     (st : State) (ms : List Mapped) → Holds ol O st → c ≡ counts_of st → HeldFits J st h → Fair J 4096 ps
     → RoomEnds ol O' r (has_room (room_of ol) st 1 1 ps) (lead_state J vs (held_of h) (group_held h) ps st ms)
 
 -- the place in register v for pieces from a up to b is before its piece k
 abbrev pub PlacedAt : OutLayout → List ℕ → VirtReg → LiveRangePoint → LiveRangePoint → ℕ → Type 0
-PlacedAt ol O v a b k = (st : State) → Holds ol O st → v.0 < length st.registers → At k ≡ place_of a b (register_at st v).pieces
+PlacedAt ol O v a b k = (st : State) → Holds ol O st → v.0 < length st.registers → Some k ≡ place_of a b (register_at st v).pieces
 
 -- pieces are merged into register v, or there is no room, for every state that the words O hold
-abbrev pub MergePut : Job → OutLayout → List ℕ → List ℕ → Counts → Held → VirtRegGroup → VirtReg → PlaceEnd → List Piece → Type 0
+abbrev pub MergePut : Job → OutLayout → List ℕ → List ℕ → Counts → Held → VirtRegGroup → VirtReg → Placed → List Piece → Type 0
 MergePut J ol O O' c h g v r ps =
     (st : State) → Holds ol O st → c ≡ counts_of st → Sane J st → HeldFits J st h → Fair J 4096 ps → RoomEnds ol O' r (has_room (room_of ol) st 0 0 ps) (merge_state J (held_of h) (group_held h) g v ps st)

@@ -21,10 +21,10 @@ use layout::Layout;
 use part_maps::map_part;
 use part_pieces::{hint_in_part, write_part};
 use place::{finish_alone, finish_join, finish_lead, finish_merge};
-use place_end::{Ended, PlaceEnd};
+use place_end::NotPlaced;
 use set_part::SetPart;
 use virt_regs::{Counts, OutLayout};
-use vreg_find::{Place, find_place};
+use vreg_find::find_place;
 use vreg_insert::open_gaps;
 use vreg_put::has_room;
 use work_layout::WorkLayout;
@@ -41,7 +41,7 @@ pub fn place_alone(
     set: ValueSet,
     held: Held,
     c: Counts,
-) -> PlaceEnd
+) -> Result<Counts, NotPlaced>
     requires { Asked (word_count job.now) (word_count work.now) (word_count out.old) (words_of job.now) (words_of work.now) (words_of out.old) lay ol wl sp held c }
     ensures { (st : State) → Standing (job_of (words_of job.now) lay) ol (words_of out.old) (words_of job.now) (words_of work.now) lay wl c st
         → Fair (job_of (words_of job.now) lay) 4096 (new_pieces (words_of work.now) wl (words_of job.now) lay sp)
@@ -50,10 +50,7 @@ pub fn place_alone(
     let np = sp.last + 1 - sp.seg;
     let nu = sp.end - sp.first;
     if !has_room(ol, c, 1, 0, np, nu) {
-        return PlaceEnd {
-            end: Ended::Full,
-            counts: c,
-        };
+        return Err(NotPlaced::Full);
     }
     let hint = hint_in_part(job, lay, sp);
     write_part(job, lay, work, wl.marks, sp, out, ol, c.segs, c.uses);
@@ -61,10 +58,7 @@ pub fn place_alone(
     let n = finish_alone(
         job, lay, out, ol, work, wl.starts, c, set, class, np, nu, hint,
     );
-    PlaceEnd {
-        end: Ended::Done,
-        counts: n,
-    }
+    Ok(n)
 }
 
 // At the held place of group g, which is empty.
@@ -80,7 +74,7 @@ pub fn place_join(
     held: Held,
     g: VirtRegGroup,
     c: Counts,
-) -> PlaceEnd
+) -> Result<Counts, NotPlaced>
     requires { Asked (word_count job.now) (word_count work.now) (word_count out.old) (words_of job.now) (words_of work.now) (words_of out.old) lay ol wl sp held c × (held.grouped ≡ true) × (group_of held.mapped ≡ some g) }
     ensures { (st : State) → Standing (job_of (words_of job.now) lay) ol (words_of out.old) (words_of job.now) (words_of work.now) lay wl c st → HeldFits (job_of (words_of job.now) lay) st held
         → Fair (job_of (words_of job.now) lay) 4096 (new_pieces (words_of work.now) wl (words_of job.now) lay sp)
@@ -89,10 +83,7 @@ pub fn place_join(
     let np = sp.last + 1 - sp.seg;
     let nu = sp.end - sp.first;
     if !has_room(ol, c, 1, 0, np, nu) {
-        return PlaceEnd {
-            end: Ended::Full,
-            counts: c,
-        };
+        return Err(NotPlaced::Full);
     }
     let hint = hint_in_part(job, lay, sp);
     write_part(job, lay, work, wl.marks, sp, out, ol, c.segs, c.uses);
@@ -100,10 +91,7 @@ pub fn place_join(
     let n = finish_join(
         job, lay, out, ol, work, wl.starts, c, set, class, g, held.index, np, nu, hint,
     );
-    PlaceEnd {
-        end: Ended::Done,
-        counts: n,
-    }
+    Ok(n)
 }
 
 // In a new group, whose operands are mapped: if there is room.
@@ -118,17 +106,14 @@ fn put_lead(
     set: ValueSet,
     held: Held,
     c: Counts,
-) -> PlaceEnd
+) -> Result<Counts, NotPlaced>
     requires { Asked (word_count job.now) (word_count work.now) (word_count out.old) (words_of job.now) (words_of work.now) (words_of out.old) lay ol wl sp held c × (held.grouped ≡ true) }
     ensures { LeadPut (job_of (words_of job.now) lay) ol (words_of out.old) (words_of out.new) c set held result (new_pieces (words_of work.now) wl (words_of job.now) lay sp) }
 {
     let np = sp.last + 1 - sp.seg;
     let nu = sp.end - sp.first;
     if !has_room(ol, c, 1, 1, np, nu) {
-        return PlaceEnd {
-            end: Ended::Full,
-            counts: c,
-        };
+        return Err(NotPlaced::Full);
     }
     let hint = hint_in_part(job, lay, sp);
     write_part(job, lay, work, wl.marks, sp, out, ol, c.segs, c.uses);
@@ -136,10 +121,7 @@ fn put_lead(
     let n = finish_lead(
         job, lay, out, ol, work, wl.starts, c, set, class, held.index, np, nu, hint,
     );
-    PlaceEnd {
-        end: Ended::Done,
-        counts: n,
-    }
+    Ok(n)
 }
 
 // In a new group, to which every group operand of the part is mapped.
@@ -154,7 +136,7 @@ pub fn place_lead(
     set: ValueSet,
     held: Held,
     c: Counts,
-) -> PlaceEnd
+) -> Result<Counts, NotPlaced>
     requires { Asked (word_count job.now) (word_count work.old) (word_count out.old) (words_of job.now) (words_of work.old) (words_of out.old) lay ol wl sp held c × (held.grouped ≡ true) }
     ensures { (st : State) → Standing (job_of (words_of job.now) lay) ol (words_of out.old) (words_of job.now) (words_of work.old) lay wl c st → HeldFits (job_of (words_of job.now) lay) st held
         → Fair (job_of (words_of job.now) lay) 4096 (new_pieces (words_of work.old) wl (words_of job.now) lay sp)
@@ -162,10 +144,7 @@ pub fn place_lead(
 {
     let g = c.groups as u32;
     if !map_part(job, lay, work, wl, sp, g) {
-        return PlaceEnd {
-            end: Ended::Stopped(Stop::MappedTwice),
-            counts: c,
-        };
+        return Err(NotPlaced::Stopped(Stop::MappedTwice));
     }
     put_lead(job, lay, out, ol, work, wl, sp, set, held, c)
 }
@@ -184,17 +163,14 @@ fn put_merge(
     v: VirtReg,
     k: usize,
     c: Counts,
-) -> PlaceEnd
+) -> Result<Counts, NotPlaced>
     requires { Asked (word_count job.now) (word_count work.now) (word_count out.old) (words_of job.now) (words_of work.now) (words_of out.old) lay ol wl sp held c × (held.grouped ≡ true) × (group_of held.mapped ≡ some g) × (reg_of held.target ≡ some v) × PlacedAt ol (words_of out.old) v sp.«from» sp.to k }
     ensures { MergePut (job_of (words_of job.now) lay) ol (words_of out.old) (words_of out.new) c held g v result (new_pieces (words_of work.now) wl (words_of job.now) lay sp) }
 {
     let np = sp.last + 1 - sp.seg;
     let nu = sp.end - sp.first;
     if !has_room(ol, c, 0, 0, np, nu) {
-        return PlaceEnd {
-            end: Ended::Full,
-            counts: c,
-        };
+        return Err(NotPlaced::Full);
     }
     let hint = hint_in_part(job, lay, sp);
     let gaps = open_gaps(out, ol, c, v, k, np, nu, hint);
@@ -213,10 +189,7 @@ fn put_merge(
     let n = finish_merge(
         job, lay, out, ol, work, wl.starts, c, class, g, v, held.index, np, nu,
     );
-    PlaceEnd {
-        end: Ended::Done,
-        counts: n,
-    }
+    Ok(n)
 }
 
 // Among the pieces of register v, the member at the held place of group g.
@@ -232,20 +205,15 @@ pub fn place_merge(
     g: VirtRegGroup,
     v: VirtReg,
     c: Counts,
-) -> PlaceEnd
+) -> Result<Counts, NotPlaced>
     requires { Asked (word_count job.now) (word_count work.now) (word_count out.old) (words_of job.now) (words_of work.now) (words_of out.old) lay ol wl sp held c × (held.grouped ≡ true) × (group_of held.mapped ≡ some g) × (reg_of held.target ≡ some v) }
     ensures { (st : State) → Standing (job_of (words_of job.now) lay) ol (words_of out.old) (words_of job.now) (words_of work.now) lay wl c st → HeldFits (job_of (words_of job.now) lay) st held
         → Fair (job_of (words_of job.now) lay) 4096 (new_pieces (words_of work.now) wl (words_of job.now) lay sp)
         → Ends (job_of (words_of job.now) lay) ol (words_of job.now) lay wl (words_of work.now) (words_of out.new) (words_of work.now) result (merge (job_of (words_of job.now) lay) (room_of ol) (held_of held) (group_held held) g v (new_pieces (words_of work.now) wl (words_of job.now) lay sp) st) }
 {
-    let a = sp.from;
-    let b = sp.to;
-    match find_place(out, ol, v, a, b) {
-        Place::Overlap => PlaceEnd {
-            end: Ended::Stopped(Stop::Overlap),
-            counts: c,
-        },
-        Place::At(k) => put_merge(job, lay, out, ol, work, wl, sp, held, g, v, k, c),
+    match find_place(out, ol, v, sp.from, sp.to) {
+        None => Err(NotPlaced::Stopped(Stop::Overlap)),
+        Some(k) => put_merge(job, lay, out, ol, work, wl, sp, held, g, v, k, c),
     }
 }
 
@@ -261,7 +229,7 @@ pub fn place_part(
     set: ValueSet,
     held: Held,
     c: Counts,
-) -> PlaceEnd
+) -> Result<Counts, NotPlaced>
     requires { Asked (word_count job.now) (word_count work.old) (word_count out.old) (words_of job.now) (words_of work.old) (words_of out.old) lay ol wl sp held c }
     ensures { (st : State) → Standing (job_of (words_of job.now) lay) ol (words_of out.old) (words_of job.now) (words_of work.old) lay wl c st → HeldFits (job_of (words_of job.now) lay) st held
         → Fair (job_of (words_of job.now) lay) 4096 (new_pieces (words_of work.old) wl (words_of job.now) lay sp)

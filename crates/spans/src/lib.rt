@@ -7,18 +7,12 @@ ghost use Rattle.rows.specs.Parts.{splice};
 ghost use Rattle.rows.specs.Moves.{Gap};
 ghost use Rattle.words.specs.Words.{word_count, words_of};
 
-use words::{put_word, word_at};
-
 // Zeros everywhere, in the bytes behind the last word too.
 pub fn clear(s: &mut [u8])
     ensures zeroed { s.new ≡ replicate (length s.old) 0 }
     ensures zero_words { words_of s.new ≡ replicate (word_count s.old) 0 }
 {
-    let mut i: usize = 0;
-    while i < s.len() {
-        s[i] = 0;
-        i += 1;
-    }
+    s.fill(0);
 }
 
 // Zeros in the first n words.
@@ -26,8 +20,7 @@ pub fn clear_first(s: &mut [u8], n: usize)
     requires { n ≤ word_count s.old }
     ensures { words_of s.new ≡ replicate n 0 ++ drop n (words_of s.old) }
 {
-    let end = n * 4;
-    clear(&mut s[..end]);
+    clear(&mut s[..n * 4]);
 }
 
 // Copies n words of src, from word `from` on, to dst from word `at` on.
@@ -35,11 +28,7 @@ pub fn copy_words(dst: &mut [u8], at: usize, src: &[u8], from: usize, n: usize)
     requires { (at + n ≤ word_count dst.old) × (from + n ≤ word_count src.now) }
     ensures { words_of dst.new ≡ splice (words_of dst.old) at (take n (drop from (words_of src.now))) }
 {
-    let mut k: usize = 0;
-    while k < n {
-        put_word(dst, at + k, word_at(src, from + k));
-        k += 1;
-    }
+    dst[at * 4..(at + n) * 4].copy_from_slice(&src[from * 4..(from + n) * 4]);
 }
 
 // Moves the words from `at` up to `end` n places up. The contract does not say what is left in the gap.
@@ -47,11 +36,7 @@ pub fn open_gap(t: &mut [u8], at: usize, end: usize, n: usize)
     requires { (at ≤ end) × (end + n ≤ word_count t.old) }
     ensures { Gap (words_of t.old) at end n (words_of t.new) }
 {
-    let mut k = end;
-    while at < k {
-        k -= 1;
-        put_word(t, k + n, word_at(t, k));
-    }
+    t.copy_within(at * 4..end * 4, (at + n) * 4);
 }
 
 // Inserts n words of src, from word `from` on, at word `at`; the words from there up to `end` move up.

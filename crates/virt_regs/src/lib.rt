@@ -1,13 +1,14 @@
 // virt_regs/mod.rs: the result tables in one lent slice. Registers (8 words), segments (7), uses (6) and groups (9) follow each other; an OutLayout has how many rows each can hold.
 #![tactic(auto)]
 
-ghost use Rattle.std.specs.Prelude.{◌≡◌, ◌+◌, ◌*◌, ◌≤◌, ◌<◌, get_or};
+ghost use Rattle.std.specs.Prelude.{◌≡◌, ◌+◌, ◌*◌, ◌^◌, ◌≤◌, ◌<◌, get_or};
 ghost use Rattle.words.specs.Words.{word_count, words_of};
 ghost use Rattle.definition.specs.Types.{cls};
-ghost use Rattle.virt_regs.specs.Encoding.{seg_base, group_base, tables_end};
+ghost use Rattle.virt_regs.specs.Encoding.{seg_base, use_base, group_base, tables_end};
 ghost use Rattle.virt_regs.specs.Reads.{piece_in, segments_in};
 
 use definition::{LiveRangePoint, RegClass, Value, ValueSet, VirtReg, VirtRegGroup};
+use words::word_at;
 
 // How many rows each table can hold.
 #[derive(Clone, Copy)]
@@ -16,6 +17,32 @@ pub struct OutLayout {
     pub segs: usize,
     pub uses: usize,
     pub groups: usize,
+}
+
+impl OutLayout {
+    // The word at which the pieces' rows begin, behind the registers'.
+    pub fn seg_base(self) -> usize
+        requires { tables_end self < 2 ^ 64 }
+        ensures { result ≡ seg_base self }
+    {
+        self.regs * 8
+    }
+
+    // The word at which the uses' rows begin.
+    pub fn use_base(self) -> usize
+        requires { tables_end self < 2 ^ 64 }
+        ensures { result ≡ use_base self }
+    {
+        self.seg_base() + self.segs * 7
+    }
+
+    // The word at which the groups' rows begin.
+    pub fn group_base(self) -> usize
+        requires { tables_end self < 2 ^ 64 }
+        ensures { result ≡ group_base self }
+    {
+        self.use_base() + self.uses * 6
+    }
 }
 
 // How many rows of each table are in use.
@@ -59,13 +86,20 @@ pub struct PieceSpan {
     pub count: usize,
 }
 
+// Word k of register v's row.
+fn register_word(out: &[u8], v: VirtReg, k: usize) -> u32
+    requires { (v.0 * 8 + 8 ≤ word_count out.now) × (k < 8) }
+    ensures { result ≡ get_or (words_of out.now) (v.0 * 8 + k) 0 }
+{
+    word_at(out, v.0 as usize * 8 + k)
+}
+
 // The class of register v.
 pub fn class_of(out: &[u8], v: VirtReg) -> RegClass
     requires { v.0 * 8 + 8 ≤ word_count out.now }
     ensures { result ≡ cls (get_or (words_of out.now) (v.0 * 8 + 1) 0) }
 {
-    let row = v.0 as usize;
-    RegClass(words::word_at(out, row * 8 + 1))
+    RegClass(register_word(out, v, 1))
 }
 
 // The bits of its weight.
@@ -73,8 +107,7 @@ pub fn weight_of(out: &[u8], v: VirtReg) -> u32
     requires { v.0 * 8 + 8 ≤ word_count out.now }
     ensures { result ≡ get_or (words_of out.now) (v.0 * 8 + 2) 0 }
 {
-    let row = v.0 as usize;
-    words::word_at(out, row * 8 + 2)
+    register_word(out, v, 2)
 }
 
 // Its group + 1, 0 where it has none.
@@ -82,8 +115,7 @@ pub fn group_of(out: &[u8], v: VirtReg) -> u32
     requires { v.0 * 8 + 8 ≤ word_count out.now }
     ensures { result ≡ get_or (words_of out.now) (v.0 * 8 + 3) 0 }
 {
-    let row = v.0 as usize;
-    words::word_at(out, row * 8 + 3)
+    register_word(out, v, 3)
 }
 
 // Its pieces.
@@ -91,11 +123,18 @@ pub fn pieces_of(out: &[u8], v: VirtReg) -> PieceSpan
     requires { v.0 * 8 + 8 ≤ word_count out.now }
     ensures { (result.first ≡ get_or (words_of out.now) (v.0 * 8 + 6) 0) × (result.count ≡ get_or (words_of out.now) (v.0 * 8 + 7) 0) }
 {
-    let row = v.0 as usize;
     PieceSpan {
-        first: words::word_at(out, row * 8 + 6) as usize,
-        count: words::word_at(out, row * 8 + 7) as usize,
+        first: register_word(out, v, 6) as usize,
+        count: register_word(out, v, 7) as usize,
     }
+}
+
+// Word k of group g's row.
+fn group_word(out: &[u8], ol: OutLayout, g: VirtRegGroup, k: usize) -> u32
+    requires { (tables_end ol ≤ word_count out.now) × (g.0 < ol.groups) × (k < 9) }
+    ensures { result ≡ get_or (words_of out.now) (group_base ol + (g.0 * 9 + k)) 0 }
+{
+    word_at(out, ol.group_base() + (g.0 as usize * 9 + k))
 }
 
 // The number of places of group g.
@@ -103,9 +142,7 @@ pub fn group_size(out: &[u8], ol: OutLayout, g: VirtRegGroup) -> u32
     requires { (tables_end ol ≤ word_count out.now) × (g.0 < ol.groups) }
     ensures { result ≡ get_or (words_of out.now) (group_base ol + g.0 * 9) 0 }
 {
-    let base = ol.regs * 8 + ol.segs * 7 + ol.uses * 6;
-    let row = g.0 as usize;
-    words::word_at(out, base + row * 9)
+    group_word(out, ol, g, 0)
 }
 
 // The register at place i of group g, + 1; 0 where the place is empty.
@@ -113,25 +150,24 @@ pub fn member_at(out: &[u8], ol: OutLayout, g: VirtRegGroup, i: usize) -> u32
     requires { (tables_end ol ≤ word_count out.now) × (g.0 < ol.groups) × (i < 8) }
     ensures { result ≡ get_or (words_of out.now) (group_base ol + (g.0 * 9 + (i + 1))) 0 }
 {
-    let base = ol.regs * 8 + ol.segs * 7 + ol.uses * 6;
-    let row = g.0 as usize;
-    words::word_at(out, base + (row * 9 + (i + 1)))
+    group_word(out, ol, g, i + 1)
 }
 
 // Piece i.
+#[tactic(auto, unfolding(crate::specs::Reads::piece_in))]
 pub fn piece_at(out: &[u8], ol: OutLayout, i: usize) -> PieceRow
     requires { (tables_end ol ≤ word_count out.now) × (i < ol.segs) }
     ensures { result ≡ piece_in (words_of out.now) (seg_base ol + i * 7) }
 {
-    let at = ol.regs * 8 + i * 7;
+    let at = ol.seg_base() + i * 7;
     PieceRow {
-        value: Value(words::word_at(out, at)),
-        from: LiveRangePoint(words::word_at(out, at + 1)),
-        to: LiveRangePoint(words::word_at(out, at + 2)),
-        flags: words::word_at(out, at + 3),
-        origin: words::word_at(out, at + 4),
-        first: words::word_at(out, at + 5),
-        uses: words::word_at(out, at + 6),
+        value: Value(word_at(out, at)),
+        from: LiveRangePoint(word_at(out, at + 1)),
+        to: LiveRangePoint(word_at(out, at + 2)),
+        flags: word_at(out, at + 3),
+        origin: word_at(out, at + 4),
+        first: word_at(out, at + 5),
+        uses: word_at(out, at + 6),
     }
 }
 
@@ -142,7 +178,7 @@ pub fn segments(out: &[u8], ol: OutLayout, v: VirtReg) -> &[u8]
     ensures { words_of result.now ≡ segments_in ol (words_of out.now) v }
 {
     let s = pieces_of(out, v);
-    let from = ol.regs * 8 + s.first * 7;
+    let from = ol.seg_base() + s.first * 7;
     let to = from + s.count * 7;
     &out[from * 4..to * 4]
 }

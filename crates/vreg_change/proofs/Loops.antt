@@ -3,7 +3,7 @@ use mathlib.Core.Path.{◌≡◌, refl, sym, ap, ◌∙◌}
 use mathlib.Core.List.{List}
 use Prim.Native.Nat.{ℕ, zero, suc, ◌+◌, ◌-◌, ◌*◌, ◌≤◌, ◌<◌}
 use native.Mathlib.Omega.{arith}
-use lib.ListN.{length, get_or, set}
+use lib.ListN.{get_or, set}
 use lib.Seq.{get_or-set_other}
 use Rattle.rows.specs.Tab.{tab, tab_more, tab_done}
 use Rattle.words.specs.Words.{words_of}
@@ -32,7 +32,6 @@ member_kept ol g c b (suc v) j O h =
 
 -- the places before place i are done; n is the group's size
 pub record Spreading (ol : OutLayout) (g : VirtRegGroup) (c b n : ℕ) (o₀ : List ℕ) (i : ℕ) (o : List ℕ) : Type 0 where
-  pub long : length o ≡ length o₀
   pub within : i ≤ n
   pub same : (j : ℕ) → member_in ol g (words_of o) j ≡ member_in ol g (words_of o₀) j
   pub left : at_places c b (tab (member_in ol g (words_of o₀)) 0 n) (words_of o₀) ≡ at_places c b (tab (member_in ol g (words_of o₀)) i (n - i)) (words_of o)
@@ -40,7 +39,7 @@ pub record Spreading (ol : OutLayout) (g : VirtRegGroup) (c b n : ℕ) (o₀ : L
 pub spread_first : (ol : OutLayout) (g : VirtRegGroup) (c b n : ℕ) (o₀ : List ℕ) → Spreading ol g c b n o₀ 0 o₀
 spread_first ol g c b n o₀ =
     let e : n ≡ n - 0 = omega arith in
-    record { long = refl; within = omega arith; same = λ j. refl; left = ap (λ (k : ℕ). at_places c b (tab (member_in ol g (words_of o₀)) 0 k) (words_of o₀)) e }
+    record { within = omega arith; same = λ j. refl; left = ap (λ (k : ℕ). at_places c b (tab (member_in ol g (words_of o₀)) 0 k) (words_of o₀)) e }
 
 -- the member at place i is a row
 pub spread_row : {ol : OutLayout} {g : VirtRegGroup} {c b n : ℕ} {o₀ : List ℕ} {i : ℕ} {o : List ℕ} (m : ℕ) → Spreading ol g c b n o₀ i o → Spreadable ol g (words_of o₀) → i < n → n ≤ 8
@@ -49,13 +48,12 @@ unfolding member_in
 spread_row {i = i} m s a l h e = let k = a.members i (omega arith) in let q = s.same i in omega arith
 
 pub spread_next : {ol : OutLayout} {g : VirtRegGroup} {c b n : ℕ} {o₀ : List ℕ} {i : ℕ} {o o' : List ℕ} (m : ℕ) → Spreading ol g c b n o₀ i o → i < n → m ≤ ol.regs
-    → m ≡ get_or (words_of o) (group_base ol + (g.0 * 9 + (i + 1))) 0 → words_of o' ≡ at_place c b m (words_of o) → length o' ≡ length o → Spreading ol g c b n o₀ (i + 1) o'
+    → m ≡ get_or (words_of o) (group_base ol + (g.0 * 9 + (i + 1))) 0 → words_of o' ≡ at_place c b m (words_of o) → Spreading ol g c b n o₀ (i + 1) o'
 unfolding member_in at_places
-spread_next {ol} {g} {c} {b} {n} {o₀} {i} {o} {o'} m s l r em ew el =
+spread_next {ol} {g} {c} {b} {n} {o₀} {i} {o} {o'} m s l r em ew =
     let f : ℕ → ℕ = member_in ol g (words_of o₀) in
     let e : f i ≡ m = sym (s.same i) ∙ sym em in
     record {
-      long = el ∙ s.long;
       within = omega arith;
       same = λ j. ap (λ (t : List ℕ). member_in ol g t j) ew ∙ member_kept ol g c b m j (words_of o) r ∙ s.same j;
       left =

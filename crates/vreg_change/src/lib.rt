@@ -8,15 +8,17 @@ ghost use Rattle.vreg_change.specs.Flat.{weighted, at_place, spread_in, Spreadab
 
 use definition::{RegClass, VirtReg, VirtRegGroup};
 use virt_regs::{OutLayout, group_size, member_at};
+use words::put_word;
 
 // Class and weight of register v.
+#[tactic(auto, unfolding(crate::specs::Flat::weighted))]
 pub fn set_class_weight(out: &mut [u8], v: usize, class: RegClass, weight: u32)
     requires { v * 8 + 8 ≤ word_count out.old }
     ensures { words_of out.new ≡ weighted class.0 weight v (words_of out.old) }
 {
     let at = v * 8;
-    words::put_word(out, at + 1, class.0);
-    words::put_word(out, at + 2, weight);
+    put_word(out, at + 1, class.0);
+    put_word(out, at + 2, weight);
 }
 
 // The same for the register that a place's word names, if any.
@@ -24,10 +26,9 @@ pub fn set_at_place(out: &mut [u8], m: u32, class: RegClass, weight: u32)
     requires { m * 8 ≤ word_count out.old }
     ensures { words_of out.new ≡ at_place class.0 weight m (words_of out.old) }
 {
-    if m == 0 {
-        return;
+    if m != 0 {
+        set_class_weight(out, (m - 1) as usize, class, weight);
     }
-    set_class_weight(out, (m - 1) as usize, class, weight);
 }
 
 // Class and weight of all members of group g.
@@ -35,12 +36,9 @@ pub fn spread(out: &mut [u8], ol: OutLayout, g: VirtRegGroup, class: RegClass, w
     requires { (tables_end ol ≤ word_count out.old) × Spreadable ol g (words_of out.old) }
     ensures { words_of out.new ≡ spread_in ol class.0 weight g (words_of out.old) }
 {
-    let n = group_size(out, ol, g) as usize;
-    let mut i: usize = 0;
-    while i < n {
+    for i in 0..group_size(out, ol, g) as usize {
         let m = member_at(out, ol, g, i);
         set_at_place(out, m, class, weight);
-        i += 1;
     }
 }
 
@@ -49,9 +47,8 @@ pub fn set_member(out: &mut [u8], ol: OutLayout, g: VirtRegGroup, i: usize, v: V
     requires { (tables_end ol ≤ word_count out.old) × (g.0 < ol.groups) × (i < 8) × (v.0 + 1 < 2 ^ 32) }
     ensures { words_of out.new ≡ set (words_of out.old) (group_base ol + (g.0 * 9 + (i + 1))) (v.0 + 1) }
 {
-    let base = ol.regs * 8 + ol.segs * 7 + ol.uses * 6;
-    let row = g.0 as usize;
-    words::put_word(out, base + (row * 9 + (i + 1)), v.0 + 1);
+    let at = ol.group_base() + (g.0 as usize * 9 + (i + 1));
+    put_word(out, at, v.0 + 1);
 }
 
 // Group g, behind the groups held: `size` places, of which place i has register v.
@@ -59,8 +56,6 @@ pub fn add_group(out: &mut [u8], ol: OutLayout, g: VirtRegGroup, size: u32, i: u
     requires { (tables_end ol ≤ word_count out.old) × (g.0 < ol.groups) × (i < 8) × (v.0 + 1 < 2 ^ 32) }
     ensures { words_of out.new ≡ set (set (words_of out.old) (group_base ol + g.0 * 9) size) (group_base ol + (g.0 * 9 + (i + 1))) (v.0 + 1) }
 {
-    let base = ol.regs * 8 + ol.segs * 7 + ol.uses * 6;
-    let row = g.0 as usize;
-    words::put_word(out, base + row * 9, size);
+    put_word(out, ol.group_base() + g.0 as usize * 9, size);
     set_member(out, ol, g, i, v);
 }

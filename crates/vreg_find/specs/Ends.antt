@@ -1,5 +1,5 @@
 -- Where pieces go that are merged into a register: behind those that end by their start. Assumes nothing.
-use Rattle.std.specs.Prelude.{◌≡◌, refl, Bool, true, false, ◌&&◌, ◌||◌, List, [], ◌∷◌, ◌++◌, ℕ, suc, ◌+◌, ◌*◌, ◌≤◌, ◌<◌, leb, ltb, length, get_or, take, drop}
+use Rattle.std.specs.Prelude.{◌≡◌, refl, Bool, true, false, ◌&&◌, ◌||◌, List, [], ◌∷◌, ◌++◌, ℕ, suc, ◌+◌, ◌*◌, ◌≤◌, ◌<◌, leb, ltb, length, get_or, take, drop, Option, None, Some}
 use Rattle.std.proofs.Common.{sym, ap, ◌∙◌, append-nil, arith, leb-true, le-ltb}
 use Rattle.definition.specs.declared.LiveRangePoint.{LiveRangePoint}
 use Rattle.definition.specs.declared.VirtReg.{VirtReg}
@@ -9,8 +9,6 @@ use Rattle.definition.specs.Admit.{register_at}
 use Rattle.virt_regs.specs.declared.OutLayout.{OutLayout}
 use Rattle.virt_regs.specs.Encoding.{seg_base, each_piece, Holds}
 use Rattle.virt_regs.specs.Reads.{no_piece, piece_at, first_piece, first_use, piece_word, piece_of_lem, pieces_in_lem}
-use Rattle.vreg_find.specs.declared.Place.{Place}
-use Rattle.vreg_find.specs.declared.Place.TheVariants.{Overlap, At}
 
 abbrev pub one_more : Bool → ℕ → ℕ
 one_more true n = suc n
@@ -25,12 +23,12 @@ ends_by a (p ∷ ps) = one_more (leb p.seg.to.0 a.0) (ends_by a ps)
 abbrev pub inserted_at : ℕ → List Piece → List Piece → List Piece
 inserted_at k new ps = take k ps ++ (new ++ drop k ps)
 
-abbrev pub pick_place : Bool → ℕ → Place
-pick_place true k = Overlap
-pick_place false k = At k
+abbrev pub pick_place : Bool → ℕ → Option ℕ
+pick_place true k = None
+pick_place false k = Some k
 
 -- the place for pieces from a up to b among ps
-unfoldable pub place_of : LiveRangePoint → LiveRangePoint → List Piece → Place
+unfoldable pub place_of : LiveRangePoint → LiveRangePoint → List Piece → Option ℕ
 unfolding overlaps ends_by
 place_of a b ps = pick_place (overlaps a b ps) (ends_by a ps)
 

@@ -10,27 +10,17 @@ ghost use Rattle.virt_regs.specs.Encoding.{seg_base, tables_end, Holds};
 ghost use Rattle.vreg_find.specs.Ends.{ends_by, Shows, place_of};
 
 use definition::{LiveRangePoint, VirtReg};
-use virt_regs::{OutLayout, pieces_of};
-use words::word_at;
-
-// An old piece overlaps, or the new ones go in front of the piece with that number.
-#[derive(Clone, Copy)]
-pub enum Place {
-    Overlap,
-    At(usize),
-}
+use virt_regs::{OutLayout, piece_at, pieces_of};
 
 // How many of the pieces from piece `first` on end by a, up to the first that does not.
 fn ends_by(out: &[u8], ol: OutLayout, first: usize, count: usize, a: LiveRangePoint) -> usize
     requires { (tables_end ol ≤ word_count out.now) × (first + count ≤ ol.segs) }
     ensures { (result ≤ count) × ((ps : List Piece) → length ps ≡ count → Shows ol (words_of out.now) first ps → result ≡ ends_by a ps) }
 {
-    let mut i: usize = 0;
-    while i < count {
-        if a.0 < word_at(out, ol.regs * 8 + ((first + i) * 7 + 2)) {
+    for i in 0..count {
+        if a < piece_at(out, ol, first + i).to {
             return i;
         }
-        i += 1;
     }
     count
 }
@@ -40,11 +30,8 @@ fn touches(out: &[u8], ol: OutLayout, i: usize, a: LiveRangePoint, b: LiveRangeP
     requires { (tables_end ol ≤ word_count out.now) × (i < ol.segs) }
     ensures { result ≡ ltb a.0 (get_or (words_of out.now) (seg_base ol + (i * 7 + 2)) 0) && ltb (get_or (words_of out.now) (seg_base ol + (i * 7 + 1)) 0) b.0 }
 {
-    let row = ol.regs * 8;
-    if word_at(out, row + (i * 7 + 2)) <= a.0 {
-        return false;
-    }
-    word_at(out, row + (i * 7 + 1)) < b.0
+    let row = piece_at(out, ol, i);
+    a < row.to && row.from < b
 }
 
 // Whether one of the pieces does, from the one with number k on.
@@ -60,24 +47,17 @@ fn meets(
     requires { (tables_end ol ≤ word_count out.now) × (first + count ≤ ol.segs) × (k ≤ count) }
     ensures { (ps : List Piece) → length ps ≡ count → Shows ol (words_of out.now) first ps → result ≡ overlaps a b (drop k ps) }
 {
-    let mut i = k;
-    while i < count {
-        if touches(out, ol, first + i, a, b) {
-            return true;
-        }
-        i += 1;
-    }
-    false
+    (k..count).any(|i| touches(out, ol, first + i, a, b))
 }
 
-// The place in register v for pieces from a up to b.
+// The piece of register v that pieces from a up to b go in front of: none where an old piece overlaps.
 pub fn find_place(
     out: &[u8],
     ol: OutLayout,
     v: VirtReg,
     a: LiveRangePoint,
     b: LiveRangePoint,
-) -> Place
+) -> Option<usize>
     requires room { (tables_end ol ≤ word_count out.now) × (v.0 < ol.regs) }
     requires pieces_room { get_or (words_of out.now) (v.0 * 8 + 6) 0 + get_or (words_of out.now) (v.0 * 8 + 7) 0 ≤ ol.segs }
     ensures { (st : State) → Holds ol (words_of out.now) st → v.0 < length st.registers → result ≡ place_of a b (register_at st v).pieces }
@@ -85,7 +65,7 @@ pub fn find_place(
     let s = pieces_of(out, v);
     let k = ends_by(out, ol, s.first, s.count, a);
     if meets(out, ol, s.first, s.count, k, a, b) {
-        return Place::Overlap;
+        return None;
     }
-    Place::At(k)
+    Some(k)
 }

@@ -1,13 +1,8 @@
 -- Turns of the loop that raises words, and what the stores come to. Assumes nothing.
-use mathlib.Core.Path.{◌≡◌, refl, sym, ap, ◌∙◌, subst}
-use mathlib.Core.Bool.{Bool}
-use mathlib.Core.List.{List}
-use Prim.Native.Nat.{ℕ, zero, suc, ◌+◌, ◌-◌, ◌*◌, ◌^◌, ◌≤◌, ◌<◌}
-use native.Mathlib.Nat.{suc-mul, zero-mul}
-use native.Mathlib.Omega.{arith}
-use lib.ListN.{length, get_or, set}
-use lib.Seq.{get_or-set_other, take_all}
-use Rattle.words.specs.Words.{word_count, words_of}
+use Rattle.std.specs.Prelude.{◌≡◌, refl, Bool, true, false, List, ℕ, zero, suc, ◌+◌, ◌-◌, ◌*◌, ◌^◌, ◌≤◌, ◌<◌, length, get_or, set}
+use Rattle.std.proofs.Common.{sym, ap, ◌∙◌, subst, arith, add-one, take_all}
+use Rattle.std.proofs.Math.Nat.{suc-mul, zero-mul, sub-zero}
+use Rattle.std.proofs.lemmas.List.{set-get_or, get_or-set_other}
 use Rattle.definition.specs.declared.VirtReg.{VirtReg}
 use Rattle.definition.specs.Types.{Piece, State}
 use Rattle.definition.specs.Place.{pieces_in, uses_in, uses_of, segs_of}
@@ -18,66 +13,45 @@ use Rattle.virt_regs.specs.Encoding.{seg_base, all_pieces, counts_of, Holds}
 use Rattle.virt_regs.specs.Counting.{count_pieces, count_uses}
 use Rattle.virt_regs.specs.Reads.{first_piece, first_use, first_held, pieces_in_lem, piece_word}
 use Rattle.vreg_insert.specs.Raised.{raised}
-use Rattle.vreg_insert.specs.Flat.{or_word, grown, lifted, Liftable}
+use Rattle.vreg_insert.specs.Flat.{grown, lifted, Liftable}
 use Rattle.vreg_insert.specs.Opened.{Opened, opened_of}
 use Rattle.vreg_insert.specs.Ask.{Ask, Gaps₂, first_use_le}
 
--- k of n words have been raised, and word j is next
-pub record Raising (m s n : ℕ) (o₀ : List ℕ) (at j k : ℕ) (o : List ℕ) : Type 0 where
-  pub within : k ≤ n
-  pub long : length o ≡ length o₀
-  pub room : j + (n - k) * s < word_count o₀ + s
-  pub same : raised m s (words_of o₀) at n ≡ raised m s (words_of o) j (n - k)
-  pub fits : (i : ℕ) → i < n - k → get_or (words_of o) (j + i * s) 0 + m < 2 ^ 32
+-- k of the n words from word `at` on have been raised
+pub record Raising (m s n at : ℕ) (W : List ℕ) (k : ℕ) (V : List ℕ) : Type 0 where
+  pub same : raised m s W at n ≡ raised m s V (at + k * s) (n - k)
+  pub fits : (i : ℕ) → i < n - k → get_or V (at + k * s + i * s) 0 + m < 2 ^ 32
 
-pub raise_first : (m s n : ℕ) (o : List ℕ) (at : ℕ) → at + n * s < word_count o + s → ((k : ℕ) → k < n → get_or (words_of o) (at + k * s) 0 + m < 2 ^ 32) → Raising m s n o at at 0 o
-raise_first m s n o at h f =
-    let e : n - 0 ≡ n = omega arith in
-    record {
-      within = omega arith;
-      long = refl;
-      room = subst (λ (x : ℕ). at + x * s < word_count o + s) (sym e) h;
-      same = ap (λ (x : ℕ). raised m s (words_of o) at x) (sym e);
-      fits = λ i l. f i (omega arith);
-    }
+pub raise_first : (m s n at : ℕ) (W : List ℕ) → ((k : ℕ) → k < n → get_or W (at + k * s) 0 + m < 2 ^ 32) → Raising m s n at W 0 W
+raise_first m s n at W f = let e : at + 0 * s ≡ at = rw zero-mul (omega arith) in
+    record { same = rw (e, sub-zero); fits = λ i l. rw e (f i (omega arith)) }
 
-module _ {m s n : ℕ} {o₀ : List ℕ} {at j k : ℕ} {o : List ℕ} (r : Raising m s n o₀ at j k o) (h : k < n) where
-  left_is : n - k ≡ suc (n - (k + 1))
-  left_is = omega arith
-
-  -- the words left
-  left_words : (n - k) * s ≡ (n - (k + 1)) * s + s
-  left_words = ap (λ (x : ℕ). x * s) left_is ∙ suc-mul (n - (k + 1)) s
-
-  pub raise_in : j < word_count o
-  raise_in = omega (arith, left_words, r.room, r.long)
-
-  pub raise_fits : get_or (words_of o) j 0 + m < 2 ^ 32
+module _ {m s n at : ℕ} {W : List ℕ} {k : ℕ} {V : List ℕ} (r : Raising m s n at W k V) (h : k < n) where
+  pub raise_fits : get_or V (at + k * s) 0 + m < 2 ^ 32
   raise_fits =
-      let e : j + 0 * s ≡ j = rw zero-mul (omega arith) in
-      subst (λ (x : ℕ). get_or (words_of o) x 0 + m < 2 ^ 32) e (r.fits 0 (omega arith))
+      let e : at + k * s + 0 * s ≡ at + k * s = rw zero-mul (omega arith) in
+      rw e at (r.fits 0 (omega arith))
 
-  pub raise_next : (o' : List ℕ) (f : ℕ) → 0 < s → f ≡ get_or (words_of o) j 0 → words_of o' ≡ set (words_of o) j (f + m) → length o' ≡ length o → Raising m s n o₀ at (j + s) (k + 1) o'
+  pub raise_next : (V' : List ℕ) (f : ℕ) → 0 < s → f ≡ get_or V (at + k * s) 0 → V' ≡ set V (at + k * s) (f + m) → Raising m s n at W (k + 1) V'
   unfolding raised
-  raise_next o' f hs ef ew el =
-      let e : words_of o' ≡ set (words_of o) j (get_or (words_of o) j 0 + m) = ew ∙ ap (λ (x : ℕ). set (words_of o) j (x + m)) ef in
+  raise_next V' f hs ef e =
+      let j : ℕ = at + k * s in
+      let d : n - k ≡ suc (n - (k + 1)) = omega arith in
+      let next : at + (k + 1) * s ≡ j + s = omega (arith, suc-mul k s, add-one k) in
       record {
-        within = omega arith;
-        long = el ∙ r.long;
-        room = omega (arith, left_words, r.room);
-        same = r.same ∙ ap (λ (x : ℕ). raised m s (words_of o) j x) left_is ∙ ap (λ (t : List ℕ). raised m s t (j + s) (n - (k + 1))) (sym e);
+        same = r.same ∙ rw (d, next, e, ef);
         fits = λ i l.
             let a : j + s + i * s ≡ j + suc i * s = omega (arith, suc-mul i s) in
-            let g : get_or (words_of o') (j + s + i * s) 0 ≡ get_or (words_of o) (j + suc i * s) 0 =
-            ap (λ (t : List ℕ). get_or t (j + s + i * s) 0) ew ∙ get_or-set_other (words_of o) j (j + s + i * s) (f + m) 0 (omega arith) ∙ ap (λ (x : ℕ). get_or (words_of o) x 0) a in
-            subst (λ (x : ℕ). x + m < 2 ^ 32) (sym g) (r.fits (suc i) (omega arith));
+            let g : get_or V' (j + s + i * s) 0 ≡ get_or V (j + suc i * s) 0 =
+            rw e (get_or-set_other V j (j + s + i * s) (f + m) 0 (omega arith)) ∙ ap (λ (x : ℕ). get_or V x 0) a in
+            rw (next, g) (r.fits (suc i) (omega arith));
       }
 
-pub raise_last : {m s n : ℕ} {o₀ : List ℕ} {at j k : ℕ} {o : List ℕ} → Raising m s n o₀ at j k o → n ≤ k → words_of o ≡ raised m s (words_of o₀) at n
+pub raise_last : {m s n at : ℕ} {W : List ℕ} {k : ℕ} {V : List ℕ} → Raising m s n at W k V → n ≤ k → V ≡ raised m s W at n
 unfolding raised
-raise_last {m} {s} {n} {o₀} {at} {j} {k} {o} r h =
+raise_last {m} {s} {n} {at} {W} {k} {V} r h =
     let e : n - k ≡ 0 = omega arith in
-    sym (r.same ∙ ap (λ (x : ℕ). raised m s (words_of o) j x) e)
+    sym (r.same ∙ ap (raised m s V (at + k * s)) e)
 
 -- ---- the first use of a piece
 
@@ -97,10 +71,16 @@ use_read ol O c i w l n e st h ec =
     below : (i < c.segs) → i < pieces_in st
     below q = let s : c.segs ≡ pieces_in st = ap (λ (x : Counts). x.segs) ec in omega arith
 
-pub grown_of : (v n : ℕ) (hint : Bool) (x y z : ℕ) (O O₁ O₂ : List ℕ) → x ≡ get_or O (v * 8 + 7) 0 → y ≡ get_or O (v * 8 + 5) 0 → O₁ ≡ set O (v * 8 + 7) (x + n) → z ≡ or_word hint y → O₂ ≡ set O₁ (v * 8 + 5) z
-    → O₂ ≡ grown v n hint O
-unfolding grown
-grown_of v n hint x y z O O₁ O₂ ex ey e₁ ez e₂ = rw (e₂, e₁, ez, ey, ex)
+module _ (v n x : ℕ) (hint : Bool) (O O₁ : List ℕ) (ex : x ≡ get_or O (v * 8 + 7) 0) (e₁ : O₁ ≡ set O (v * 8 + 7) (x + n)) where
+  pub grown_hint : hint ≡ true → (O₂ : List ℕ) → O₂ ≡ set O₁ (v * 8 + 5) 1 → O₂ ≡ grown v n hint O
+  unfolding grown
+  grown_hint h O₂ e = rw (e, e₁, ex, h)
+
+  pub grown_as : hint ≡ false → O₁ ≡ grown v n hint O
+  unfolding grown
+  grown_as h =
+      let k : get_or O₁ (v * 8 + 5) 0 ≡ get_or O (v * 8 + 5) 0 = rw e₁ (get_or-set_other O (v * 8 + 7) (v * 8 + 5) (x + n) 0 (omega arith)) in
+      sym (set-get_or O₁ (v * 8 + 5) 0) ∙ rw (k, e₁, ex, h)
 
 -- ---- the rows that stay
 

@@ -29,13 +29,9 @@ fn raise(out: &mut [u8], at: usize, s: usize, n: usize, m: u32)
     requires no_overflow { (k : ℕ) → k < n → get_or (words_of out.old) (at + k * s) 0 + m < 2 ^ 32 }
     ensures { words_of out.new ≡ raised m s (words_of out.old) at n }
 {
-    let mut j = at;
-    let mut k: usize = 0;
-    while k < n {
-        let f = word_at(out, j);
-        put_word(out, j, f + m);
-        j += s;
-        k += 1;
+    for k in 0..n {
+        let j = at + k * s;
+        put_word(out, j, word_at(out, j) + m);
     }
 }
 
@@ -47,16 +43,7 @@ fn first_use_of(out: &[u8], ol: OutLayout, c: Counts, i: usize) -> usize
     if i == c.segs {
         return c.uses;
     }
-    word_at(out, ol.regs * 8 + (i * 7 + 5)) as usize
-}
-
-fn either(hint: bool, old: u32) -> u32
-    ensures { result ≡ or_word hint old }
-{
-    if hint {
-        return 1;
-    }
-    old
+    word_at(out, ol.seg_base() + (i * 7 + 5)) as usize
 }
 
 // Register v has n pieces more; its hint is set where `hint` is.
@@ -66,9 +53,10 @@ fn grow_register(out: &mut [u8], v: usize, n: u32, hint: bool)
 {
     let at = v * 8;
     let count = word_at(out, at + 7);
-    let old = word_at(out, at + 5);
     put_word(out, at + 7, count + n);
-    put_word(out, at + 5, either(hint, old));
+    if hint {
+        put_word(out, at + 5, 1);
+    }
 }
 
 // The rows that stay, for np pieces with nu uses more in register v, before piece p.
@@ -76,7 +64,7 @@ fn lift(out: &mut [u8], ol: OutLayout, c: Counts, v: usize, p: usize, np: u32, n
     requires { (tables_end ol ≤ word_count out.old) × Liftable ol c v p np nu (words_of out.old) }
     ensures { words_of out.new ≡ lifted ol c v p np nu hint (words_of out.old) }
 {
-    raise(out, ol.regs * 8 + (p * 7 + 5), 7, c.segs - p, nu);
+    raise(out, ol.seg_base() + (p * 7 + 5), 7, c.segs - p, nu);
     raise(out, (v + 1) * 8 + 6, 8, c.regs - (v + 1), np);
     grow_register(out, v, np, hint);
 }
@@ -86,9 +74,9 @@ fn open_rows(out: &mut [u8], ol: OutLayout, c: Counts, p: usize, u: usize, np: u
     requires { (tables_end ol ≤ word_count out.old) × (p ≤ c.segs) × (u ≤ c.uses) × (c.segs + np ≤ ol.segs) × (c.uses + nu ≤ ol.uses) }
     ensures { Gaps₂ ol c p u np nu (words_of out.old) (words_of out.new) }
 {
-    let a = ol.regs * 8;
+    let a = ol.seg_base();
     spans::open_gap(out, a + p * 7, a + c.segs * 7, np * 7);
-    let b = ol.regs * 8 + ol.segs * 7;
+    let b = ol.use_base();
     spans::open_gap(out, b + u * 6, b + c.uses * 6, nu * 6);
 }
 

@@ -13,6 +13,7 @@ use use_lists::{Source, UseList};
 use virt_regs::OutLayout;
 
 // While a set is built: the uses of a part are a part of the job's.
+#[tactic(auto, unfolding(crate::specs::Shown::part_list))]
 pub fn part_list(sp: SetPart) -> UseList
     requires { sp.first ≤ sp.end }
     ensures { result ≡ part_list sp }
@@ -25,6 +26,7 @@ pub fn part_list(sp: SetPart) -> UseList
 }
 
 // In a result: the uses of piece i stand among the added ones, the result's own.
+#[tactic(auto, unfolding(crate::specs::Shown::piece_list))]
 pub fn piece_list(out: &[u8], ol: OutLayout, i: usize) -> UseList
     requires { (tables_end ol ≤ word_count out.now) × (i < ol.segs) }
     ensures { result ≡ piece_list (words_of out.now) ol i }
@@ -50,7 +52,7 @@ pub fn list_rows<'a>(
 {
     let at = lay.uses.at;
     let end = at + lay.uses.n * 6;
-    let base = ol.regs * 8 + ol.segs * 7;
-    let behind = base + ol.uses * 6;
+    let base = ol.use_base();
+    let behind = ol.group_base();
     use_lists::use_list(&job[at * 4..end * 4], &out[base * 4..behind * 4], list)
 }

@@ -1,8 +1,6 @@
 -- `count_insts`: the count of `live_insts` as long as it is at most 4096. Assumes nothing.
-use mathlib.Core.Path.{◌≡◌, refl}
-use mathlib.Core.List.{List}
-use Prim.Native.Nat.{ℕ, zero, suc, ◌+◌, ◌-◌, ◌*◌, ◌≤◌, ◌<◌}
-use native.Mathlib.Omega.{arith}
+use Rattle.std.specs.Prelude.{◌≡◌, List, ℕ, ◌+◌, ◌-◌, ◌*◌, ◌≤◌, ◌<◌, max}
+use Rattle.std.proofs.Common.{arith}
 use Rattle.rows.specs.RowsAt.{rows_at}
 use Rattle.definition.specs.declared.Inst.{Inst}
 use Rattle.live_insts.specs.declared.LiveRangeSegment.{LiveRangeSegment}
@@ -18,12 +16,5 @@ pub count_over : {W : List ℕ} {at n i sum k : ℕ} {counted : Inst} {s : LiveR
     → sum ≤ 4096 → 4096 - sum < k → Counts W at n 4096
 count_over l h e f m o = (omega arith, omega arith, λ lo hi. absurd (omega (arith, count_room l h e f)))
 
-pub count_none : {W : List ℕ} {at n i sum : ℕ} {counted : Inst} → Counting W at n i sum counted → n ≤ i → sum ≡ 0 → Counts W at n 1
-count_none l h z = (omega arith, omega arith, λ lo hi. absurd (omega (arith, count_done l h)))
-
-pub count_all : {W : List ℕ} {at n i sum : ℕ} {counted : Inst} → Counting W at n i sum counted → n ≤ i → (sum ≡ 0 → ⊥) → sum ≤ 4096 → Counts W at n sum
-count_all {sum = sum} l h z m = (positive sum z, m, λ lo hi. count_done l h)
-  where
-    positive : (k : ℕ) → (k ≡ 0 → ⊥) → 1 ≤ k
-    positive zero z = absurd (z refl)
-    positive (suc k) z = omega arith
+pub count_all : {W : List ℕ} {at n i sum : ℕ} {counted : Inst} (r : ℕ) → Counting W at n i sum counted → n ≤ i → sum ≤ 4096 → r ≡ max sum 1 → Counts W at n r
+count_all r l h m e = (omega arith, omega arith, λ lo hi. omega (arith, count_done l h))

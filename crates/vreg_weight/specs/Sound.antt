@@ -14,7 +14,7 @@ use Rattle.definition.specs.Types.{Segment, Job}
 use Rattle.definition.specs.Cuts.{left_cut, right_cut, uses_before, uses_from}
 use Rattle.definition.specs.Place.{uses_of}
 use Rattle.definition.specs.Build.{turned_use, turn_in, turn_at}
-use Rattle.definition.specs.Entry.{insts_of, insts, every, use_ok, use_tests, uses_ok, entry, entry_tests}
+use Rattle.definition.specs.Entry.{insts_of, insts, use_ok, use_tests, uses_ok, entry, entry_tests}
 use Rattle.definition.proofs.Cuts.{uses_cut, cut_uses}
 use Rattle.definition.proofs.Counts.{uses_turn}
 use Rattle.definition.proofs.Entries.{and_both, conj_all, every_all, lowest_none}

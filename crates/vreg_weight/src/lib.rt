@@ -45,15 +45,12 @@ pub fn sum_uses(
     let blocks = lay.blocks.n as u32;
     let mut total = sum;
     let mut b = Block(0);
-    let mut i: usize = 0;
-    while i < n {
+    for i in 0..n {
         let u = uses::use_at(out, at + i * 6);
-        let kind = u.kind;
         b = use_costs::block_near(work, starts, blocks, b, u.pos);
-        let cost = use_costs::use_cost(job, lay, kind);
+        let cost = use_costs::use_cost(job, lay, u.kind);
         let frequency = use_costs::frequency_of(work, starts, b);
         total = spill_weight::add_use(total, options, remat, cost, frequency);
-        i += 1;
     }
     total
 }
@@ -76,12 +73,11 @@ pub fn sum_piece(
     let row = virt_regs::piece_at(out, ol, i);
     let first = row.first as usize;
     let n = row.uses as usize;
-    let cap = ol.uses;
-    if cap < first + n {
+    if ol.uses < first + n {
         return sum;
     }
     let remat = use_costs::remat_at(job, lay, row.value);
-    let at = ol.regs * 8 + ol.segs * 7 + first * 6;
+    let at = ol.use_base() + first * 6;
     sum_uses(job, lay, out, at, n, work, starts, options, remat, sum)
 }
 
@@ -101,10 +97,8 @@ pub fn sum_pieces(
     ensures { T (nonneg result) × ((u : ℕ) (ps : List Piece) → Shown ol (words_of out.now) p u ps → length ps ≡ n → Inside (job_in job.now lay) (uses_of (segs_of ps)) → result ≡ sum_segs (job_in job.now lay) zero_f (segs_of ps)) }
 {
     let mut sum: f32 = 0.0;
-    let mut i: usize = 0;
-    while i < n {
+    for i in 0..n {
         sum = sum_piece(job, lay, out, ol, work, starts, options, sum, p + i);
-        i += 1;
     }
     sum
 }
@@ -116,8 +110,7 @@ pub fn count_insts(out: &[u8], at: usize, n: usize) -> u32
 {
     let mut sum: u32 = 0;
     let mut counted = Inst(0);
-    let mut i: usize = 0;
-    while i < n {
+    for i in 0..n {
         let s = live_insts::range_at(out, at + i * 7);
         let more = live_insts::new_insts(counted, s);
         if 4096 - sum < more {
@@ -125,12 +118,8 @@ pub fn count_insts(out: &[u8], at: usize, n: usize) -> u32
         }
         sum += more;
         counted = live_range::next_inst(s.to);
-        i += 1;
     }
-    if sum == 0 {
-        return 1;
-    }
-    sum
+    sum.max(1)
 }
 
 // The bits of the weight of the n pieces from piece p on, in class c.
@@ -150,7 +139,7 @@ pub fn weight_of_pieces(
 {
     let options = layout::options_at(job, lay.opts);
     let sum = sum_pieces(job, lay, out, ol, work, starts, options, p, n);
-    let insts = count_insts(out, ol.regs * 8 + p * 7, n);
+    let insts = count_insts(out, ol.seg_base() + p * 7, n);
     let data = use_costs::class_data(job, lay, c);
     floats::bits_of(spill_weight::weight(sum, insts, options.adjust, data.spillslots))
 }
@@ -160,11 +149,10 @@ pub fn lesser_at(out: &[u8], ol: OutLayout, m: u32, w: u32) -> u32
     requires { (tables_end ol ≤ word_count out.now) × (w ≤ 0x7f80_0000) }
     ensures { (result ≤ 0x7f80_0000) × (m ≡ 0 → result ≡ w) × ((v : VirtReg) (x : Float) → m ≡ v.0 + 1 → v.0 < ol.regs → get_or (words_of out.now) (v.0 * 8 + 2) 0 ≡ to_bits binary32 x → Weighs x → of_bits binary32 result ≡ min_f (of_bits binary32 w) x) }
 {
-    let cap = ol.regs;
     if m == 0 {
         return w;
     }
-    if cap < m as usize {
+    if ol.regs < m as usize {
         return w;
     }
     let bits = virt_regs::weight_of(out, VirtReg(m - 1));
@@ -179,8 +167,7 @@ pub fn lesser_other(out: &[u8], ol: OutLayout, g: VirtRegGroup, i: usize, j: usi
     requires { (tables_end ol ≤ word_count out.now) × (g.0 < ol.groups) × (j < 8) × (w ≤ 0x7f80_0000) }
     ensures { (result ≤ 0x7f80_0000) × ((st : State) → Members ol (words_of out.now) st g → of_bits binary32 result ≡ lesser_at st i j (get_or (members_at st g) j none) (of_bits binary32 w)) }
 {
-    let own = i == j;
-    if own {
+    if i == j {
         return w;
     }
     lesser_at(out, ol, virt_regs::member_at(out, ol, g, j), w)
@@ -192,10 +179,8 @@ pub fn least_weight(out: &[u8], ol: OutLayout, g: VirtRegGroup, i: usize, w: u32
     ensures { (result ≤ 0x7f80_0000) × ((st : State) → Members ol (words_of out.now) st g → BitsOf result (least_weight st i 0 (members_at st g) (of_bits binary32 w))) }
 {
     let mut least = w;
-    let mut j: usize = 0;
-    while j < 8 {
+    for j in 0..8 {
         least = lesser_other(out, ol, g, i, j, least);
-        j += 1;
     }
     least
 }

@@ -1,31 +1,31 @@
--- Stores in turn leave a row. Assumes nothing.
-use mathlib.Core.Path.{◌≡◌, ap, ◌∙◌}
-use mathlib.Core.List.{List, [], ◌∷◌, ◌++◌}
-use Prim.Native.Nat.{ℕ, ◌+◌, ◌≤◌}
-use native.Mathlib.Omega.{arith}
-use lib.ListN.{length, set}
-use Rattle.rows.specs.Parts.{splice, splice_splice, length_splice}
-use Rattle.rows.specs.Moves.{store_1, stores_3, stores_4}
+-- The four bytes stored are a word, the words stored in turn a row. Assumes nothing.
+use Rattle.std.proofs.Common.{◌≡◌, List, ℕ, ◌+◌, ◌-◌, ◌*◌, ◌/◌, ◌%◌, ◌^◌, ◌≤◌, ◌<◌, length, get_or, set, sym, ap, ◌∙◌, arith, take_all, drop-drop}
+use Rattle.std.proofs.Math.Seq.{paste}
+use Rattle.std.specs.Int.{w32, to_le_bytes}
+use borrow.Rule.Slice.PartMut.{put_mid}
+use Rattle.std.proofs.lemmas.List.Edits.{paste_more}
+use Rattle.rows.specs.Parts.{splice, splice_paste}
+use Rattle.rows.specs.Moves.{stores_4}
 use Rattle.words.specs.Words.{word_count, words_of}
-use Rattle.words.specs.Laws.{length_words}
+use Rattle.words.specs.Laws.{length_words, word_set}
 
-pub stored_3 : (s : List ℕ) {w₁ w₂ w₃ : List ℕ} (i a b c : ℕ) → w₁ ≡ set (words_of s) i a → w₂ ≡ set w₁ (i + 1) b → w₃ ≡ set w₂ (i + 2) c → i + 3 ≤ word_count s
-    → w₃ ≡ splice (words_of s) i (a ∷ b ∷ c ∷ [])
-stored_3 s i a b c e f g h = rw (g, f, e) (stores_3 (words_of s) i a b c (omega (arith, length_words s)))
+-- the bytes of x put over those of word i
+pub word_stored : (s p : List ℕ) (i x : ℕ) → i < word_count s → x < 2 ^ 32 → p ≡ to_le_bytes w32 x
+    → words_of (put_mid (i * 4) (i * 4 + 4 - i * 4) s p) ≡ set (words_of s) i x
+unfolding splice
+word_stored s p i x h l e =
+    let at = i * 4 in
+    let k : at + 4 - at ≡ 4 = omega arith in
+    let top : x / 16777216 % 256 ≡ x / 16777216 = omega arith in
+    let stores = stores_4 s at (x % 256) (x / 256 % 256) (x / 65536 % 256) (x / 16777216 % 256) (omega arith) in
+    rw (e, k, drop-drop 4 at s) (ap words_of (sym stores) ∙ rw top (word_set s i x h))
 
-pub stored_4 : (s : List ℕ) {w₁ w₂ w₃ w₄ : List ℕ} (i a b c d : ℕ) → w₁ ≡ set (words_of s) i a → w₂ ≡ set w₁ (i + 1) b → w₃ ≡ set w₂ (i + 2) c → w₄ ≡ set w₃ (i + 3) d
-    → i + 4 ≤ word_count s → w₄ ≡ splice (words_of s) i (a ∷ b ∷ c ∷ d ∷ [])
-stored_4 s i a b c d e f g k h = rw (k, g, f, e) (stores_4 (words_of s) i a b c d (omega (arith, length_words s)))
+-- s holds the first k words of row at word i
+pub stored_next : (s : List ℕ) (row : List ℕ) {w w' : List ℕ} (i k n : ℕ) → w ≡ paste (words_of s) i row k → w' ≡ set w (i + k) (get_or row k 0)
+    → i + n ≤ word_count s → n ≡ length row → k < n → w' ≡ paste (words_of s) i row (k + 1)
+stored_next s row i k n e f h l m =
+    f ∙ ap (λ w. set w (i + k) (get_or row k 0)) e ∙ paste_more (words_of s) i row k 0 (omega (arith, length_words s)) (omega arith)
 
--- a row and a row behind it
-pub stored_more : (s : List ℕ) {w₁ w₂ : List ℕ} (i : ℕ) (xs ys : List ℕ) → w₁ ≡ splice (words_of s) i xs → w₂ ≡ splice w₁ (i + length xs) ys
-    → i + length xs ≤ word_count s → w₂ ≡ splice (words_of s) i (xs ++ ys)
-stored_more s i xs ys e f h =
-    f ∙ ap (λ (w : List ℕ). splice w (i + length xs) ys) e ∙ splice_splice (words_of s) i xs ys (omega (arith, length_words s))
-
--- a row and a word behind it
-pub stored_one_more : (s : List ℕ) {w₁ w₂ : List ℕ} (i : ℕ) (xs : List ℕ) (y : ℕ) → w₁ ≡ splice (words_of s) i xs → w₂ ≡ set w₁ (i + length xs) y
-    → i + length xs + 1 ≤ word_count s → w₂ ≡ splice (words_of s) i (xs ++ (y ∷ []))
-stored_one_more s {w₁} i xs y e f h =
-    let l : length w₁ ≡ length (words_of s) = ap length e ∙ length_splice (words_of s) i xs (omega (arith, length_words s)) in
-    stored_more s i xs (y ∷ []) e (f ∙ store_1 w₁ (i + length xs) y (omega (arith, length_words s))) (omega arith)
+pub stored_all : (s : List ℕ) (row : List ℕ) {w : List ℕ} (i k n : ℕ) → w ≡ paste (words_of s) i row k → n ≡ length row → k ≤ n → n ≤ k → w ≡ splice (words_of s) i row
+stored_all s row i k n e l h m =
+    e ∙ splice_paste (words_of s) i row k (omega arith) ∙ ap (splice (words_of s) i) (take_all k row (omega arith))

@@ -23,5 +23,5 @@ finish_alone-n-requires c = let a = c.requires in
 pub returns : goal.returns
 returns c = let a = c.requires in
     λ st q f.
-    alone_done _ _ _ _ _ _ _ _ _ st _ _ _ _ q (sym (said_at _ _ _ _ _ st _ _ _ _ _ a.part q.counts c.has_room.ensures) ∙ not-false c.has_room.result c.if-not-has_room.false-raw) refl f
+    alone_done _ _ _ _ _ _ _ _ _ st _ _ _ _ q _ (sym (said_at _ _ _ _ _ st _ _ _ _ _ a.part q.counts c.has_room.ensures) ∙ not-false c.has_room.result c.if-not-has_room.false-raw) refl f
     (c.finish_alone-n.ensures.1 _ st _ _ (part_ready _ _ _ _ _ _ st _ _ _ _ _ q.stands.tables q.counts a.part f c.write_part.ensures c.hint_in_part-hint.ensures) (held_class _))

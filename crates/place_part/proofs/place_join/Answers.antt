@@ -35,5 +35,5 @@ returns c = let p = c.requires in
     let a = p.0 in
     let yes = not-false c.has_room.result c.if-not-has_room.false-raw in
     λ st q hf f.
-    join_done _ _ _ _ _ _ _ _ _ st _ _ _ _ _ _ q (sym (said_at _ _ _ _ _ st _ _ _ _ _ a.part q.counts c.has_room.ensures) ∙ yes) refl f
+    join_done _ _ _ _ _ _ _ _ _ st _ _ _ _ _ _ q _ (sym (said_at _ _ _ _ _ st _ _ _ _ _ a.part q.counts c.has_room.ensures) ∙ yes) refl f
     (c.finish_join-n.ensures.1 _ st _ _ _ (part_ready _ _ _ _ _ _ st _ _ _ _ _ q.stands.tables q.counts a.part f c.write_part.ensures c.hint_in_part-hint.ensures) (held_class _) refl (hf.group p.1 _ p.2).0 (hf.group p.1 _ p.2).1)

@@ -34,5 +34,5 @@ returns c = let p = c.requires in
     let a = p.0 in
     let yes = not-false c.has_room.result c.if-not-has_room.false-raw in
     λ st ms hs ec hf f.
-    room_ends_done _ _ _ _ _ _ (said_at _ _ _ _ _ st _ _ _ _ _ a.part ec c.has_room.ensures) yes refl
+    room_ends_done _ _ _ _ _ _ _ (said_at _ _ _ _ _ st _ _ _ _ _ a.part ec c.has_room.ensures) yes refl
     (c.finish_lead-n.ensures.1 _ st _ _ _ ms (part_ready _ _ _ _ _ _ st _ _ _ _ _ hs ec a.part f c.write_part.ensures c.hint_in_part-hint.ensures) (held_class _) refl (hf.index p.1).0 (hf.index p.1).1)

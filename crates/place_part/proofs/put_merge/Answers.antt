@@ -41,5 +41,5 @@ returns c = let p = c.requires in
     let yes = not-false c.has_room.result c.if-not-has_room.false-raw in
     let m = asked_room _ _ _ _ _ _ _ _ _ _ _ _ a _ _ _ c.has_room.ensures yes in
     λ st hs ec sn hf f.
-    room_ends_done _ _ _ _ _ _ (said_at _ _ _ _ _ st _ _ _ _ _ a.part ec c.has_room.ensures) yes refl
+    room_ends_done _ _ _ _ _ _ _ (said_at _ _ _ _ _ st _ _ _ _ _ a.part ec c.has_room.ensures) yes refl
     (c.finish_merge-n.ensures.1 st _ _ _ (part_filled _ _ _ _ _ st _ _ _ _ _ _ _ _ _ _ _ a.part hs ec (hf.target p.1 _ p.3) sn f p.4 (c.open_gaps-gaps.ensures st hs ec (hf.target p.1 _ p.3) (placed_before _ _ _ _ _ _ p.4 st hs (hf.target p.1 _ p.3))) c.write_part.ensures c.hint_in_part-hint.ensures m.1 m.2) (held_class _) refl (hf.group p.1 _ p.2).0)

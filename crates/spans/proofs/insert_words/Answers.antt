@@ -1,5 +1,5 @@
 use native.Mathlib.Omega.{arith}
-use Rattle.spans.proofs.Loops.{insert_last}
+use Rattle.spans.proofs.Moves.{insert_last}
 use Rattle.spans.proofs.insert_words.Goals as goal
 
 pub returns : goal.returns

@@ -1,5 +1,4 @@
-use Prim.Native.Nat.{◌-◌, ◌≤◌, ◌<◌}
-use native.Mathlib.Omega.{arith}
+use Rattle.std.proofs.Common.{arith}
 use Rattle.vreg_change.proofs.Loops.{spread_first, spread_row, spread_next, spread_last}
 use Rattle.vreg_change.proofs.spread.Goals as goal
 
@@ -7,17 +6,14 @@ pub loop-i-init : goal.loop-i-init
 loop-i-init c = spread_first _ _ _ _ _ _
 
 pub member_at-m-requires : goal.member_at-m-requires
-member_at-m-requires c = (omega (arith, c.requires.0, c.loop-i.invariant.long), c.requires.1.here, omega (arith, c.group_size-n.ensures, c.requires.1.size, c.loop-i-test.true))
+member_at-m-requires c = (omega arith, c.requires.1.here, omega (arith, c.group_size-i-end.ensures, c.requires.1.size, c.loop-i-test.true))
 
 pub set_at_place-requires : goal.set_at_place-requires
-set_at_place-requires c = omega (arith, c.requires.0, c.loop-i.invariant.long, spread_row _ c.loop-i.invariant c.requires.1 c.loop-i-test.true (omega (arith, c.group_size-n.ensures, c.requires.1.size)) c.member_at-m.ensures)
+set_at_place-requires c = omega (arith, spread_row _ c.loop-i.invariant c.requires.1 c.loop-i-test.true (omega (arith, c.group_size-i-end.ensures, c.requires.1.size)) c.member_at-m.ensures)
 
 pub loop-i-preserved : goal.loop-i-preserved
-loop-i-preserved c = let p = c.set_at_place in
-    spread_next _ c.loop-i.invariant c.loop-i-test.true (spread_row _ c.loop-i.invariant c.requires.1 c.loop-i-test.true (omega (arith, c.group_size-n.ensures, c.requires.1.size)) c.member_at-m.ensures) c.member_at-m.ensures p.ensures p.auto.out
-
-pub shape_of-out : goal.shape_of-out
-shape_of-out c = c.loop-i.invariant.long
+loop-i-preserved c =
+    spread_next _ c.loop-i.invariant c.loop-i-test.true (spread_row _ c.loop-i.invariant c.requires.1 c.loop-i-test.true (omega (arith, c.group_size-i-end.ensures, c.requires.1.size)) c.member_at-m.ensures) c.member_at-m.ensures c.set_at_place.ensures
 
 pub returns : goal.returns
-returns c = spread_last c.loop-i.invariant c.loop-i-test.false c.group_size-n.ensures
+returns c = spread_last c.loop-i.invariant c.loop-i-test.false c.group_size-i-end.ensures

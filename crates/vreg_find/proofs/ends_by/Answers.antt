@@ -1,16 +1,15 @@
-use Prim.Native.Nat.{◌-◌}
-use native.Mathlib.Omega.{arith}
+use Rattle.std.proofs.Common.{arith}
 use Rattle.vreg_find.proofs.Scans.{ends_start, ends_next, ends_stop, ends_done}
 use Rattle.vreg_find.proofs.ends_by.Goals as goal
 
 pub loop-i-init : goal.loop-i-init
 loop-i-init c = ends_start _ _ _ _ _
 
-pub returns-then-a-word_at : goal.returns-then-a-word_at
-returns-then-a-word_at c = (c.loop-i.invariant.within, ends_stop _ _ _ _ _ _ _ c.loop-i.invariant c.loop-i-test.true c.word_at.ensures c.if-a-word_at.true)
+pub returns-then-lt : goal.returns-then-lt
+returns-then-lt c = (c.loop-i.invariant.within, ends_stop _ _ _ _ _ _ c.loop-i.invariant c.loop-i-test.true _ c.piece_at.ensures _ c.lt.ensures c.if-lt.true)
 
 pub loop-i-preserved : goal.loop-i-preserved
-loop-i-preserved c = ends_next _ _ _ _ _ _ _ c.loop-i.invariant c.loop-i-test.true c.word_at.ensures c.if-a-word_at.false
+loop-i-preserved c = ends_next _ _ _ _ _ _ c.loop-i.invariant c.loop-i-test.true _ c.piece_at.ensures _ c.lt.ensures c.if-lt.false
 
 pub returns : goal.returns
 returns c = (omega arith, ends_done _ _ _ _ _ _ c.loop-i.invariant c.loop-i-test.false)

@@ -1,13 +1,8 @@
-use Prim.Native.Nat.{◌+◌, ◌*◌}
-use lib.ListN.{get_or}
-use Rattle.words.specs.Words.{words_of}
-use Rattle.virt_regs.specs.Encoding.{seg_base}
-use Rattle.vreg_find.proofs.Scans.{touch_no, touch_as}
+use Rattle.vreg_find.proofs.Scans.{touch_as, touch_not}
 use Rattle.vreg_find.proofs.touches.Goals as goal
 
-pub returns-then-word_at-a : goal.returns-then-word_at-a
-returns-then-word_at-a c = let a = c.args in
-    touch_no _ _ (get_or (words_of a.out.now) (seg_base a.ol + (a.i * 7 + 1)) 0) _ a.b.0 c.word_at.ensures c.if-word_at-a.true
+pub returns-then-lt : goal.returns-then-lt
+returns-then-lt c = touch_as c.args.ol _ _ _ _ _ c.piece_at-row.ensures _ c.lt.ensures c.if-lt.true _ c.lt-then-lt.ensures
 
-pub returns : goal.returns
-returns c = touch_as _ _ _ _ _ _ c.word_at.ensures c.word_at-2.ensures c.if-word_at-a.false
+pub returns-else-lt : goal.returns-else-lt
+returns-else-lt c = touch_not c.args.ol _ _ _ _ _ c.piece_at-row.ensures _ c.lt.ensures c.if-lt.false

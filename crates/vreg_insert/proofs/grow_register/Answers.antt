@@ -1,6 +1,8 @@
-use Rattle.vreg_insert.proofs.Turns.{grown_of}
+use Rattle.vreg_insert.proofs.Turns.{grown_hint, grown_as}
 use Rattle.vreg_insert.proofs.grow_register.Goals as goal
 
-pub returns : goal.returns
-returns c = let a = c.args in
-    grown_of a.v a.n a.hint _ _ _ _ _ _ c.word_at-count.ensures c.word_at-old.ensures c.put_word.ensures c.either.ensures c.put_word-2.ensures
+pub returns-then-hint : goal.returns-then-hint
+returns-then-hint c = grown_hint _ _ _ _ _ _ c.word_at-count.ensures c.put_word.ensures c.if-hint.true _ c.put_word-then-hint.ensures
+
+pub returns-else-hint : goal.returns-else-hint
+returns-else-hint c = grown_as _ _ _ _ _ _ c.word_at-count.ensures c.put_word.ensures c.if-hint.false

@@ -1,5 +1,4 @@
 use native.Mathlib.Omega.{arith}
-use Prim.Native.Nat.{◌+◌, ◌≤◌}
 use Rattle.words.specs.Laws.{length_words}
 use Rattle.vreg_insert.specs.Ask.{ask_first, ask_long, ask_row, ask_lift}
 use Rattle.vreg_insert.proofs.Turns.{use_le, opened_last}

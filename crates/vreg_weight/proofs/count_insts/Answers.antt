@@ -1,7 +1,6 @@
-use Prim.Native.Nat.{◌-◌}
 use native.Mathlib.Omega.{arith}
 use Rattle.live_insts.proofs.Counting.{count_start, count_next}
-use Rattle.vreg_weight.proofs.Insts.{count_over, count_none, count_all}
+use Rattle.vreg_weight.proofs.Insts.{count_over, count_all}
 use Rattle.vreg_weight.proofs.count_insts.Goals as goal
 
 pub loop-i-init : goal.loop-i-init
@@ -13,8 +12,5 @@ returns-then-sum-more c = let l = c.loop-i.invariant in count_over l.0 (omega ar
 pub loop-i-preserved : goal.loop-i-preserved
 loop-i-preserved c = let l = c.loop-i.invariant in (count_next l.0 (omega arith) c.range_at-s.ensures c.new_insts-more.ensures c.next_inst-counted.ensures, omega arith)
 
-pub returns-then-sum-eq0 : goal.returns-then-sum-eq0
-returns-then-sum-eq0 c = count_none c.loop-i.invariant.0 c.loop-i-test.false c.if-sum-eq0.true
-
 pub returns : goal.returns
-returns c = count_all c.loop-i.invariant.0 c.loop-i-test.false c.if-sum-eq0.false c.loop-i.invariant.1
+returns c = count_all _ c.loop-i.invariant.0 c.loop-i-test.false c.loop-i.invariant.1 (omega (arith, c.max.ensures))

@@ -1,4 +1,3 @@
-use Prim.Native.Nat.{◌-◌}
 use Rattle.vreg_weight.proofs.Least.{least_start, least_next, least_end}
 use Rattle.vreg_weight.proofs.least_weight.Goals as goal
 

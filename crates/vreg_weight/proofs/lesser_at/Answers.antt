@@ -5,8 +5,8 @@ use Rattle.vreg_weight.proofs.lesser_at.Goals as goal
 pub returns-then-m-eq0 : goal.returns-then-m-eq0
 returns-then-m-eq0 c = let a = c.args in lesser_empty a.ol (words_of a.out.now) _ _ c.requires.1 c.if-m-eq0.true
 
-pub returns-then-cap-m : goal.returns-then-cap-m
-returns-then-cap-m c = let a = c.args in lesser_past a.ol (words_of a.out.now) _ _ c.requires.1 c.if-cap-m.true
+pub returns-then-ol-m : goal.returns-then-ol-m
+returns-then-ol-m c = let a = c.args in lesser_past a.ol (words_of a.out.now) _ _ c.requires.1 c.if-ol-m.true
 
 pub returns-then-bits-gt2139095040 : goal.returns-then-bits-gt2139095040
 returns-then-bits-gt2139095040 c = let a = c.args in lesser_over a.ol (words_of a.out.now) _ _ _ c.requires.1 c.weight_of-bits.ensures c.if-bits-gt2139095040.true

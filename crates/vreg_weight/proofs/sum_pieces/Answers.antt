@@ -1,4 +1,3 @@
-use Prim.Native.Nat.{◌-◌}
 use native.Mathlib.Omega.{arith}
 use lib.Ieee.{of_bits}
 use Rattle.vreg_weight.proofs.Pieces.{pieces_start, pieces_next, pieces_end}

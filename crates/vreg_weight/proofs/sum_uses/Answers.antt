@@ -1,19 +1,9 @@
-use Prim.Native.Nat.{◌-◌}
 use native.Mathlib.Omega.{arith}
 use Rattle.vreg_weight.proofs.Sums.{blocks_long, scales_small, block_finite, summing_start, summing_next, summing_end}
 use Rattle.vreg_weight.proofs.sum_uses.Goals as goal
 
-pub overflow_cast-blocks : goal.overflow_cast-blocks
-overflow_cast-blocks c = omega (arith, c.requires.0.few)
-
 pub loop-i-init : goal.loop-i-init
 loop-i-init c = summing_start _ _ _ _ _ _ _ c.requires.3 c.requires.0.filled
-
-pub block_near-b-requires : goal.block_near-b-requires
-block_near-b-requires c = (omega (arith, c.loop-i.invariant.there), omega (arith, c.requires.0.room))
-
-pub use_cost-cost-requires : goal.use_cost-cost-requires
-use_cost-cost-requires c = (c.requires.0.fits, c.requires.0.book)
 
 pub frequency_of-frequency-requires : goal.frequency_of-frequency-requires
 frequency_of-frequency-requires c = (omega (arith, c.block_near-b.ensures.0, c.requires.0.room), block_finite _ _ _ _ _ c.requires.0.table c.block_near-b.ensures.0)

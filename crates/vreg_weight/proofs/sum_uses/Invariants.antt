@@ -1,4 +1,3 @@
-use Prim.Native.Nat.{◌-◌}
 use Rattle.words.specs.Words.{words_of}
 use Rattle.vreg_weight.specs.Weighed.{job_in}
 use Rattle.vreg_weight.proofs.Sums.{Summing}
@@ -6,6 +5,3 @@ use Rattle.vreg_weight.proofs.sum_uses.Given as goal
 
 abbrev pub invariant-loop-i : goal.invariant-loop-i
 invariant-loop-i l = Summing (job_in l.job l.lay) l.remat (words_of l.out) l.at l.n l.lay.blocks.n l.sum l.total l.b.0 l.i
-
-abbrev pub decreases-loop-i : goal.decreases-loop-i
-decreases-loop-i l = l.n - l.i

@@ -13,4 +13,4 @@ weight-requires c = let i = c.count_insts-insts.ensures in
 
 pub returns : goal.returns
 returns c = let b = c.bits_of.ensures in
-    (b.2, weight_is _ _ _ _ _ _ _ _ _ _ _ _ c.sum_pieces-sum.ensures.1 c.count_insts-insts.ensures.2 (c.options_at-options.ensures ∙ options_are _ _) c.class_data-data.ensures.0 c.weight.ensures.0 b.0 b.1)
+    (b.2, weight_is _ _ _ _ _ _ _ _ _ _ _ _ c.sum_pieces-sum.ensures.1 (rw c.seg_base.ensures at c.count_insts-insts.ensures.2) (c.options_at-options.ensures ∙ options_are _ _) c.class_data-data.ensures.0 c.weight.ensures.0 b.0 b.1)

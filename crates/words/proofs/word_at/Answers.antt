@@ -1,4 +1,4 @@
-use native.Mathlib.Omega.{arith}
+use Rattle.std.proofs.Common.{arith}
 use Rattle.words.specs.Laws.{word_get}
 use Rattle.words.proofs.word_at.Goals as goal
 

@@ -1,4 +1,0 @@
-use Rattle.virt_regs.proofs.class_of.Goals as goal
-
-pub returns : goal.returns
-returns c = cc
