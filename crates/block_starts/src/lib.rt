@@ -27,8 +27,7 @@ pub fn put_starts(rows: &[u8], from: usize, n: u32, starts: &mut [u8], at: usize
     ensures { words_of starts.new ≡ splice (words_of starts.old) at (start_words (words_of rows.now) from n) }
 {
     let mut first: u32 = 0;
-    let mut i: u32 = 0;
-    while i < n {
+    for i in 0..n {
         put_start(
             starts,
             at,
@@ -37,7 +36,6 @@ pub fn put_starts(rows: &[u8], from: usize, n: u32, starts: &mut [u8], at: usize
             function::bits_at(rows, from, Block(i)),
         );
         first += function::count_at(rows, from, Block(i));
-        i += 1;
     }
     put_start(starts, at, Block(n), first, 0);
 }
@@ -55,11 +53,12 @@ pub fn block_of(starts: &[u8], at: usize, n: u32, inst: Inst) -> Block
     requires { (0 < n) × (at + n * 2 + 2 ≤ word_count starts.now) }
     ensures { (result.0 < n) × ((bs : List BlockData) → Starts (words_of starts.now) at bs → length bs ≡ n → inst.0 < insts_of bs → result.0 ≡ block_of bs inst.0) }
 {
+    // `partition_point` needs a slice of rows, and the table is words in a lent byte slice.
     let mut low: u32 = 0;
     let mut high = n;
     while 1 < high - low {
         let middle = low + (high - low) / 2;
-        if start_at(starts, at, Block(middle)).0 <= inst.0 {
+        if start_at(starts, at, Block(middle)) <= inst {
             low = middle;
         } else {
             high = middle;

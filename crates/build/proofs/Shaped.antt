@@ -1,7 +1,8 @@
 -- The ways of a build of a job of good shape. Assumes nothing.
 use mathlib.Core.Path.{◌≡◌, refl, sym, ap, ◌∙◌, subst}
 use mathlib.Core.List.{List, [], append-nil}
-use Prim.Native.Nat.{ℕ, zero, suc, ◌/◌, ◌≤◌, ◌<◌}
+use mathlib.Core.Option.{none, some}
+use Prim.Native.Nat.{ℕ, ◌/◌, ◌≤◌, ◌<◌}
 use native.Mathlib.Omega.{arith}
 use lib.ListN.{length, get_or, replicate}
 use Rattle.words.specs.Words.{word_count, words_of}
@@ -11,7 +12,7 @@ use Rattle.definition.specs.declared.Refusal.TheVariants.{NotARecord, OverALimit
 use Rattle.definition.specs.Types.{Job, State, Out, done, refused, number_of}
 use Rattle.definition.specs.Place.{◌>>=◌}
 use Rattle.definition.specs.Build.{Result, empty, build}
-use Rattle.definition.specs.Entry.{answer}
+use Rattle.definition.specs.Entry.{entry, answer}
 use Rattle.layout.specs.declared.Layout.{Layout}
 use Rattle.layout.specs.Layout.{seg_at}
 use Rattle.job.specs.Job.{raw_job, job_of}
@@ -22,12 +23,10 @@ use Rattle.virt_regs.specs.Reads.{holds_mapping}
 use Rattle.work_layout.specs.declared.WorkLayout.{WorkLayout}
 use Rattle.work_layout.specs.Regions.{max_work}
 use Rattle.entry.specs.Accepted.{Accepted, Prepared}
-use Rattle.entry.specs.Number.{number_for}
-use Rattle.entry.proofs.Numbers.{answer_built, answer_number}
-use Rattle.place_end.specs.declared.Ended.{Ended}
-use Rattle.place_end.specs.declared.Ended.TheVariants as ended
-use Rattle.place_end.specs.declared.PlaceEnd.{PlaceEnd}
-use Rattle.place_end.specs.Ends.{end_of}
+use Rattle.entry.proofs.Numbers.{answer_built, answer_refused}
+use Rattle.std.specs.Prelude.{Ok, Err}
+use Rattle.place_end.specs.declared.NotPlaced.{NotPlaced}
+use Rattle.place_end.specs.Ends.{Placed, end_of}
 use Rattle.build_state.specs.Fits.{StandsAs}
 use Rattle.build_begin.specs.Begins.{begun, onward_begin, builds}
 use Rattle.build_begin.specs.Empty.{Clear, clear_zeros, empty_stands}
@@ -50,7 +49,7 @@ end_built : (st : State) (c : Counts) → c ≡ counts_of st → built_end c ≡
 unfolding end_left
 end_built st c e = ap built_end e
 
-ended_number : (f : Refusal) (e : Ended) → end_of f e → end_number e ≡ number_of f
+ended_number : (f : Refusal) (e : NotPlaced) → end_of f e → end_number e ≡ number_of f
 ended_number (Stopped s) e h = ap end_number h
 ended_number Full e h = ap end_number h
 ended_number NotARecord e h = absurd h
@@ -61,33 +60,26 @@ ended_number BadHint e h = absurd h
 ended_number BadSegment e h = absurd h
 ended_number BadUse e h = absurd h
 
-number_done : (e : Ended) → end_number e ≡ 0 → e ≡ ended.Done
-number_done ended.Done h = refl
-number_done (ended.Stopped s) h = absurd (omega arith)
-number_done ended.Full h = absurd (omega arith)
-
 pub answered_as : {n : ℕ} {ol : OutLayout} {o : Out Result} {x : List ℕ} {y y' : BuildEnd} → y' ≡ y → Answered n ol o y x → Answered n ol o y' x
 answered_as {n} {ol} {o} {x} e a = subst (λ (y : BuildEnd). Answered n ol o y x) (sym e) a
 
 module _ (s : List ℕ) (lay : Layout) (ol : OutLayout) where
   -- ---- the entry refuses
 
-  pub refused_entry : (n k : ℕ) (x : List ℕ) → k ≡ number_for (words_of s) lay → (k ≡ 0 → ⊥) → x ≡ replicate n 0
+  pub refused_entry : (n k : ℕ) (f : Refusal) (x : List ℕ) → k ≡ number_of f → some f ≡ entry (raw_job (words_of s) lay) → x ≡ replicate n 0
       → Answered n ol (answer (raw_job (words_of s) lay) (room_of ol)) (refused_end k) x
-  refused_entry n zero x e d z = absurd (d refl)
-  refused_entry n (suc k) x e d z =
-      let f = answer_number (words_of s) lay (room_of ol) k (sym e) in
-      answered_refused n ol (answer (raw_job (words_of s) lay) (room_of ol)) f.0 (refused_end (suc k)) x f.1 (end_refused (suc k) f.0 (sym f.2)) z
+  refused_entry n k f x e d z =
+      answered_refused n ol (answer (raw_job (words_of s) lay) (room_of ol)) f (refused_end k) x (answer_refused (words_of s) lay (room_of ol) f (sym d)).0 (end_refused k f e) z
 
-  -- ---- the entry accepts, with number k: what is built is the answer
+  -- ---- the entry accepts: what is built is the answer
 
-  pub answered_entry : (n k : ℕ) (r : BuildEnd) (x : List ℕ) (l : Layout) → l ≡ lay → k ≡ number_for (words_of s) lay
-      → k ≡ 0 → Answered n ol (build (raw_job (words_of s) l) (room_of ol)) r x
+  pub answered_entry : (n : ℕ) (r : BuildEnd) (x : List ℕ) (l : Layout) → l ≡ lay → none ≡ entry (raw_job (words_of s) lay)
+      → Answered n ol (build (raw_job (words_of s) l) (room_of ol)) r x
       → Answered n ol (answer (raw_job (words_of s) lay) (room_of ol)) r x
-  answered_entry n k r x l q e z h =
+  answered_entry n r x l q e h =
       let b : build (raw_job (words_of s) l) (room_of ol) ≡ answer (raw_job (words_of s) lay) (room_of ol) =
       ap (λ (y : Layout). build (raw_job (words_of s) y) (room_of ol)) q
-      ∙ sym (answer_built (words_of s) lay (room_of ol) (sym e ∙ z)) in
+      ∙ sym (answer_built (words_of s) lay (room_of ol) (sym e)) in
       subst (λ (o : Out Result). Answered n ol o r x) b h
 
   module _ (K : List ℕ) (wl : WorkLayout) (n : ℕ) (a : Accepted s K lay wl n) (p : Prepared (words_of s) K lay wl) where
@@ -104,7 +96,7 @@ module _ (s : List ℕ) (lay : Layout) (ol : OutLayout) where
         }
 
     -- they ended with r, the words O of the result tables and K₁ of the work slice
-    module _ (O K₁ : List ℕ) (r : PlaceEnd)
+    module _ (O K₁ : List ℕ) (r : Placed)
         (h : EndsAs (job_of (words_of s) lay) ol (words_of s) lay wl O K₁ r (build_from (words_of s) lay (room_of ol) 0 empty)) where
       abbrev sets : Out State
       sets = build_from (words_of s) lay (room_of ol) 0 empty
@@ -112,38 +104,38 @@ module _ (s : List ℕ) (lay : Layout) (ol : OutLayout) where
       built_is : build (raw_job (words_of s) lay) (room_of ol) ≡ (sets >>= λ st. finished st)
       built_is = ap (λ (j : Job). build j (room_of ol)) a.same ∙ build_begins (words_of s) lay (room_of ol)
 
-      module _ (q : ℕ) (eq : q ≡ end_number r.end) where
-        left : q ≡ 0 → (st : State) × (sets ≡ done st) × StandsAs (job_of (words_of s) lay) ol O (words_of s) K₁ lay wl r.counts st
-        left z = ended_state (job_of (words_of s) lay) ol (words_of s) lay wl O K₁ r sets h (number_done r.end (sym eq ∙ z))
+      module _ (c₁ : Counts) (d : r ≡ Ok c₁) where
+        left : (st : State) × (sets ≡ done st) × StandsAs (job_of (words_of s) lay) ol O (words_of s) K₁ lay wl c₁ st
+        left = ended_state (job_of (words_of s) lay) ol (words_of s) lay wl O K₁ r sets c₁ h d
 
         -- done: a word counts the rows
-        pub built_counts : (x : List ℕ) → Cleared ol x → q ≡ 0 → (r.counts.regs < 4294967296) × (r.counts.groups < 4294967296)
-        built_counts x c z =
-            let l = left z in
+        pub built_counts : (x : List ℕ) → Cleared ol x → (c₁.regs < 4294967296) × (c₁.groups < 4294967296)
+        built_counts x c =
+            let l = left in
             let e = l.2.counts in
-            let g : r.counts.regs ≡ length l.0.registers = ap (λ (i : Counts). i.regs) e in
-            let g' : r.counts.groups ≡ length l.0.groups = ap (λ (i : Counts). i.groups) e in
+            let g : c₁.regs ≡ length l.0.registers = ap (λ (i : Counts). i.regs) e in
+            let g' : c₁.groups ≡ length l.0.groups = ap (λ (i : Counts). i.groups) e in
             (omega (arith, l.2.stands.tables.fit_registers, c.regs), omega (arith, l.2.stands.tables.fit_groups, c.groups))
 
-        pub answered_built : (x₀ x : List ℕ) → Cleared ol x₀ → length x ≡ length x₀ → O ≡ words_of x → ((i : ℕ) → get_or x i 0 < 256) → q ≡ 0
-            → Answered (length x₀) ol (build (raw_job (words_of s) lay) (room_of ol)) (built_end r.counts) x
-        answered_built x₀ x c lx eo b z =
-            let l = left z in
+        pub answered_built : (x₀ x : List ℕ) → Cleared ol x₀ → length x ≡ length x₀ → O ≡ words_of x → ((i : ℕ) → get_or x i 0 < 256)
+            → Answered (length x₀) ol (build (raw_job (words_of s) lay) (room_of ol)) (built_end c₁) x
+        answered_built x₀ x c lx eo b =
+            let l = left in
             let st = l.0 in
             let t : Holds ol (words_of x) st = subst (λ (w : List ℕ). Holds ol w st) eo l.2.stands.tables in
             let o : build (raw_job (words_of s) lay) (room_of ol) ≡ done (result_of st) = built_is ∙ ap (λ (y : Out State). y >>= λ st'. finished st') l.1 in
             record {
-              end = end_built st r.counts l.2.counts ∙ ap end_left (sym o);
+              end = end_built st c₁ l.2.counts ∙ ap end_left (sym o);
               bytes = sym (append-nil x) ∙ held_left (length x₀) 0 ol x st (lx ∙ c.long) (λ i m. b i) (omega arith) t ∙ ap (λ (u : Out Result). bytes_left (length x₀) ol u) (sym o);
               holds = λ res is. let m : result_of st ≡ res = cc in subst (λ (y : Result). Holds ol (words_of x) (state_of y)) m (holds_mapping ol (words_of x) st [] t);
             }
 
-        -- not done: the tables are cleared
-        pub answered_ended : (m : ℕ) (x : List ℕ) → x ≡ replicate m 0 → (q ≡ 0 → ⊥) → Answered m ol (build (raw_job (words_of s) lay) (room_of ol)) (refused_end q) x
-        unfolding EndsAs
-        answered_ended m x e z = go sets refl h
-          where
-            go : (y : Out State) → sets ≡ y → EndsAs (job_of (words_of s) lay) ol (words_of s) lay wl O K₁ r y → Answered m ol (build (raw_job (words_of s) lay) (room_of ol)) (refused_end q) x
-            go (done st) i u = absurd (z (eq ∙ ap end_number u.0))
-            go (refused f) i u =
-                answered_refused m ol (build (raw_job (words_of s) lay) (room_of ol)) f (refused_end q) x (built_is ∙ ap (λ (y : Out State). y >>= λ st. finished st) i) (end_refused q f (eq ∙ ended_number f r.end u)) e
+      -- not done: the tables are cleared
+      pub answered_ended : (v : NotPlaced) → r ≡ Err v → (q : ℕ) → q ≡ end_number v → (m : ℕ) (x : List ℕ) → x ≡ replicate m 0 → Answered m ol (build (raw_job (words_of s) lay) (room_of ol)) (refused_end q) x
+      unfolding EndsAs
+      answered_ended v d q eq m x e = go sets refl (subst (λ (y : Placed). EndsAs (job_of (words_of s) lay) ol (words_of s) lay wl O K₁ y sets) d h)
+        where
+          go : (y : Out State) → sets ≡ y → EndsAs (job_of (words_of s) lay) ol (words_of s) lay wl O K₁ (Err v) y → Answered m ol (build (raw_job (words_of s) lay) (room_of ol)) (refused_end q) x
+          go (done st) i u = absurd u
+          go (refused f) i u =
+              answered_refused m ol (build (raw_job (words_of s) lay) (room_of ol)) f (refused_end q) x (built_is ∙ ap (λ (y : Out State). y >>= λ st. finished st) i) (end_refused q f (eq ∙ ended_number f v u)) e

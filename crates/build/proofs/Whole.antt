@@ -1,6 +1,6 @@
 -- The tables as a part of the caller's slice, and a binary job's answer. Assumes nothing.
 use mathlib.Core.Path.{◌≡◌, refl, sym, ap, ◌∙◌, subst}
-use mathlib.Core.Bool.{true, false, not}
+use mathlib.Core.Bool.{true}
 use mathlib.Core.List.{List, ◌++◌, append_assoc}
 use Prim.Native.Nat.{ℕ, ◌+◌, ◌-◌, ◌*◌, ◌/◌, ◌≤◌}
 use native.Mathlib.Omega.{arith}
@@ -14,10 +14,10 @@ use Rattle.definition.specs.Types.{Out, done, refused}
 use Rattle.definition.specs.Build.{Result}
 use Rattle.definition.specs.Entry.{answer}
 use Rattle.job.specs.Job.{raw_job}
-use Rattle.job_shape.specs.declared.Shape.{Shape}
+use Rattle.std.specs.Prelude.{Option, Some, None, is_some}
+use Rattle.layout.specs.declared.Layout.{Layout}
 use Rattle.job_shape.specs.Shape.{layout_of, shape_ok, Shaped, Formed}
 use Rattle.job_shape.specs.Answer.{binary_answer}
-use Rattle.job_shape.proofs.Tests.{passed, failed}
 use Rattle.virt_regs.specs.declared.OutLayout.{OutLayout}
 use Rattle.virt_regs.specs.Encoding.{tables_end, room_of, Holds}
 use Rattle.entry.proofs.Numbers.{binary_off, binary_on}
@@ -85,22 +85,23 @@ module _ (n m a b c d e : ℕ) (ol : OutLayout) (s : List ℕ) (cleared : s ≡ 
         }
 
     -- a slice of good shape
-    pub answered_whole : (x : List ℕ) (h : Shape) → Formed x h → not h.ok ≡ false → Answered (length (take e s)) ol (answer (raw_job (words_of x) h.lay) (room_of ol)) r p
+    pub answered_whole : (x : List ℕ) (h : Option Layout) (lay : Layout) → Formed x h → h ≡ Some lay → Answered (length (take e s)) ol (answer (raw_job (words_of x) lay) (room_of ol)) r p
         → Answered n (out_layout_of (n / 4) a b c d) (binary_answer x (room_of (out_layout_of (n / 4) a b c d))) r (p ++ drop e s)
-    answered_whole x h f t w =
-        let ok : shape_ok x ≡ true = passed t f.is in
-        let found : h.lay ≡ layout_of (words_of x) = f.found (f.is ∙ ok) in
+    answered_whole x h lay f t w =
+        let g : Formed x (Some lay) = subst (λ (o : Option Layout). Formed x o) t f in
+        let ok : shape_ok x ≡ true = sym g.is in
+        let found : lay ≡ layout_of (words_of x) = g.found in
         answered_cut n m a b c d ol (λ i. binary_answer x (room_of i)) r (p ++ drop e s) k (words ∙ ap (λ (i : ℕ). i / 4) whole_long)
-        (part_answered (binary_answer x (room_of ol)) (subst (λ (o : Out Result). Answered (length (take e s)) ol o r p) (sym (binary_on x h.lay found ok (room_of ol))) w))
+        (part_answered (binary_answer x (room_of ol)) (subst (λ (o : Out Result). Answered (length (take e s)) ol o r p) (sym (binary_on x lay found ok (room_of ol))) w))
 
-pub shaped_found : (x : List ℕ) (h : Shape) → Formed x h → not h.ok ≡ false → Shaped x h.lay
-shaped_found x h f t = f.shaped (f.is ∙ passed t f.is)
+pub shaped_found : (x : List ℕ) (h : Option Layout) (lay : Layout) → Formed x h → h ≡ Some lay → Shaped x lay
+shaped_found x h lay f t = let g : Formed x (Some lay) = subst (λ (o : Option Layout). Formed x o) t f in g.shaped
 
 -- a slice off its shape
-pub answered_off : (n m a b c d : ℕ) (ol : OutLayout) (s x : List ℕ) (h : Shape) → s ≡ replicate n 0 → Cut m a b c d ol → m ≡ length s / 4 → Formed x h → not h.ok ≡ true
+pub answered_off : (n m a b c d : ℕ) (ol : OutLayout) (s x : List ℕ) (h : Option Layout) → s ≡ replicate n 0 → Cut m a b c d ol → m ≡ length s / 4 → Formed x h → h ≡ None
     → Answered n (out_layout_of (n / 4) a b c d) (binary_answer x (room_of (out_layout_of (n / 4) a b c d))) (refused_end 1) s
 unfolding end_left
 answered_off n m a b c d ol s x h z k em f t =
     let l : length s ≡ n = ap length z ∙ length-replicate n 0 in
     answered_cut n m a b c d ol (λ i. binary_answer x (room_of i)) (refused_end 1) s k (em ∙ ap (λ (i : ℕ). i / 4) l)
-    (answered_refused n ol (binary_answer x (room_of ol)) NotARecord (refused_end 1) s (binary_off x (room_of ol) (failed t f.is)) refl z)
+    (answered_refused n ol (binary_answer x (room_of ol)) NotARecord (refused_end 1) s (binary_off x (room_of ol) (sym f.is ∙ ap is_some t)) refl z)

@@ -3,13 +3,12 @@ use Rattle.std.specs.Prelude.{◌≡◌, List, ℕ, ◌+◌, ◌*◌, ◌<◌, l
 use Rattle.virt_regs.specs.declared.OutLayout.{OutLayout}
 use Rattle.virt_regs.specs.declared.Counts.{Counts}
 use Rattle.virt_regs.specs.Encoding.{tables_end}
-use Rattle.place_end.specs.declared.Ended.{Ended}
-use Rattle.place_end.specs.declared.Ended.TheVariants.{Done, Stopped, Full}
+use Rattle.place_end.specs.declared.NotPlaced.{NotPlaced}
+use Rattle.place_end.specs.declared.NotPlaced.TheVariants.{Stopped, Full}
 use Rattle.build_answer.specs.declared.BuildEnd.{BuildEnd}
 
--- 0, or the number of the refusal
-abbrev pub end_number : Ended → ℕ
-end_number Done = 0
+-- the number of the refusal
+abbrev pub end_number : NotPlaced → ℕ
 end_number (Stopped s) = 8
 end_number Full = 9
 

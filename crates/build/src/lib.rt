@@ -12,25 +12,25 @@ ghost use Rattle.virt_regs.specs.Encoding.{room_of};
 ghost use Rattle.work_layout.specs.Regions.{max_work};
 ghost use Rattle.entry.specs.Accepted.{Accepted, Prepared};
 ghost use Rattle.build_answer.specs.Answered.{out_layout_of, Answered};
-ghost use Rattle.build.specs.Ends.{end_number, built_end, refused_end, Cleared};
+ghost use Rattle.build.specs.Ends.{end_number, built_end, Cleared};
 
-use build_answer::{BuildEnd, out_layout, tables_bytes};
+use build_answer::{BuildEnd, number_of, out_layout, refuse, tables_bytes};
 use build_sets::build_sets;
+use definition::Refusal;
 use entry::{Entered, enter_prepared};
 use job_shape::find_layout;
 use layout::Layout;
-use place_end::Ended;
+use place_end::NotPlaced;
 use spans::clear;
 use virt_regs::{Counts, OutLayout};
 
-// The number of how the sets ended: 8 for a stop, 9 for a full table.
-fn end_number(e: Ended) -> u32
+// The number of why the sets are not built: 8 for a stop, 9 for a full table.
+fn end_number(e: NotPlaced) -> u32
     ensures { result ≡ end_number e }
 {
     match e {
-        Ended::Done => 0,
-        Ended::Stopped(_) => 8,
-        Ended::Full => 9,
+        NotPlaced::Stopped(_) => 8,
+        NotPlaced::Full => 9,
     }
 }
 
@@ -42,16 +42,6 @@ fn built(c: Counts) -> BuildEnd
         number: 0,
         registers: c.regs as u32,
         groups: c.groups as u32,
-    }
-}
-
-fn refuse(number: u32) -> BuildEnd
-    ensures { result ≡ refused_end number }
-{
-    BuildEnd {
-        number,
-        registers: 0,
-        groups: 0,
     }
 }
 
@@ -70,15 +60,14 @@ pub fn build_entered(
     ensures { Answered (length out.old) ol
         (build (raw_job (words_of job.now) e.lay) (room_of ol)) result out.new }
 {
-    let r = build_sets(job, e.lay, out, ol, work, e.wl);
-    let end = r.end;
-    let number = end_number(end);
-    if number != 0 {
-        clear(out);
-        return refuse(number);
+    match build_sets(job, e.lay, out, ol, work, e.wl) {
+        Err(why) => {
+            let number = end_number(why);
+            clear(out);
+            refuse(number)
+        }
+        Ok(counts) => built(counts),
     }
-    let counts = r.counts;
-    built(counts)
 }
 
 // A job of good shape, in such tables.
@@ -92,12 +81,10 @@ pub fn build_shaped(
     requires { Shaped job.now lay × (max_work ≤ word_count work.old) × Cleared ol out.old }
     ensures { Answered (length out.old) ol (answer (raw_job (words_of job.now) lay) (room_of ol)) result out.new }
 {
-    let e = enter_prepared(job, lay, work);
-    let test = e.number;
-    if test != 0 {
-        return refuse(test);
+    match enter_prepared(job, lay, work) {
+        Ok(e) => build_entered(job, e, out, ol, work),
+        Err(r) => refuse(number_of(r)),
     }
-    build_entered(job, e, out, ol, work)
 }
 
 // job: a binary job. out: the result tables, with as many rows as are named and fit. work: what it holds does not matter.
@@ -116,11 +103,9 @@ pub fn build_initial_vregs(
 {
     clear(out);
     let ol = out_layout(out.len() / 4, regs, segs, uses, groups);
-    let shape = find_layout(job);
-    if !shape.ok {
-        return refuse(1);
-    }
-    let lay = shape.lay;
+    let Some(lay) = find_layout(job) else {
+        return refuse(number_of(Refusal::NotARecord));
+    };
     let end = tables_bytes(ol);
     build_shaped(job, lay, &mut out[..end], ol, work)
 }

@@ -2,7 +2,7 @@
 -- A call is lent a slice of n bytes with the tables ol and a job of the bytes s; it answers r and leaves the bytes x (`Answered`). It accepts where `r.number` is 0.
 -- `binary_job s` is the job that s stands for; `result_in ol r x` the result, its registers and groups read back from the bytes x by the counts in r.
 -- What each word means is in `specs/Promised.antt` of the definition: `live_at v q` how many segments of value v hold the point q, `had v u` how often they have the use u.
-use mathlib.Core.Path.{◌≡◌, refl, sym, ap, ◌∙◌}
+use mathlib.Core.Path.{◌≡◌}
 use mathlib.Core.Bool.{true}
 use mathlib.Core.Option.{some}
 use mathlib.Core.List.{List}

@@ -1,24 +1,13 @@
 -- The tables that `out_layout` cuts. Assumes nothing.
-use mathlib.Core.Path.{◌≡◌, sym, ap, ◌∙◌}
-use Prim.Native.Nat.{ℕ, ◌-◌, ◌*◌, ◌/◌, ◌≤◌, ◌<◌}
+use mathlib.Core.Path.{◌≡◌, ◌∙◌}
+use Prim.Native.Nat.{ℕ, ◌-◌, ◌*◌, ◌/◌, ◌≤◌}
 use native.Mathlib.Omega.{arith}
-use borrow.Author.Tests.{lt-ltb, le-ltb}
 use Rattle.virt_regs.specs.declared.OutLayout.{OutLayout}
-use Rattle.build_answer.specs.Answered.{lesser, named_in, rows_in, out_layout_of, Cut}
+use Rattle.build_answer.specs.Answered.{named_in, rows_in, out_layout_of, Cut}
 
 -- what `rows_in` promises
 abbrev pub Named : ℕ → ℕ → ℕ → Type 0
 Named room a r = (r ≡ named_in room a) × (r ≤ room) × (r ≤ 4294967294)
-
-pub least_first : (a b : ℕ) → a < b → (a ≡ lesser a b) × (a ≤ a) × (a ≤ b)
-least_first a b h = (simp (lt-ltb a b h), omega arith, omega arith)
-
-pub least_second : (a b : ℕ) → b ≤ a → (b ≡ lesser a b) × (b ≤ a) × (b ≤ b)
-least_second a b h = (simp (le-ltb a b h), omega arith, omega arith)
-
-pub named_in_lem : (room a m r : ℕ) → (m ≡ lesser a 4294967294) × (m ≤ a) × (m ≤ 4294967294) → (r ≡ lesser m room) × (r ≤ m) × (r ≤ room)
-    → (r ≡ named_in room a) × (r ≤ room) × (r ≤ 4294967294)
-named_in_lem room a m r h k = (k.0 ∙ ap (λ (t : ℕ). lesser t room) h.0, k.2, omega (arith, k.1, h.2))
 
 tables : ℕ → ℕ → ℕ → ℕ → OutLayout
 tables r s u g = record { regs = r; segs = s; uses = u; groups = g }

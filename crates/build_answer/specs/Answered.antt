@@ -1,5 +1,5 @@
 -- What a build leaves in the lent result tables, byte for byte, and answers. Assumes nothing.
-use Rattle.std.specs.Prelude.{◌≡◌, cond, List, [], ◌++◌, ℕ, ◌+◌, ◌-◌, ◌*◌, ◌/◌, ◌≤◌, ◌<◌, ltb, length, replicate}
+use Rattle.std.specs.Prelude.{◌≡◌, min, List, [], ◌++◌, ℕ, ◌+◌, ◌-◌, ◌*◌, ◌/◌, ◌≤◌, ◌<◌, length, replicate}
 use Rattle.rows.specs.Parts.{pad}
 use Rattle.words.specs.Words.{words_of, bytes_of}
 use Rattle.definition.specs.Types.{State, Out, done, refused, number_of}
@@ -12,12 +12,9 @@ use Rattle.build_answer.specs.declared.BuildEnd.{BuildEnd}
 
 -- ---- the tables in a lent slice of n words, cut by the numbers of rows that the caller names: where the slice is too short, the tables have fewer rows
 
-abbrev pub lesser : ℕ → ℕ → ℕ
-lesser a b = cond (ltb a b) a b
-
 -- of the rows named, those for which there is room; and no more than a word counts
 abbrev pub named_in : ℕ → ℕ → ℕ
-named_in room a = lesser (lesser a 4294967294) room
+named_in room a = min (min a 4294967294) room
 
 -- of rows of k words, those that fit into n words
 abbrev pub rows_in : ℕ → ℕ → ℕ → ℕ

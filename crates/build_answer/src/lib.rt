@@ -1,13 +1,17 @@
-// How a build ends, and the tables in the slice that the caller lends for the result.
+// How a build ends, the numbers of the refusals, and the tables in the slice that the caller lends for the result.
 #![tactic(auto)]
 
 ghost use Rattle.std.specs.Prelude.{◌≡◌, ◌*◌, ◌≤◌, ◌<◌};
 ghost use Rattle.virt_regs.specs.Encoding.{tables_end};
-ghost use Rattle.build_answer.specs.Answered.{lesser, named_in, Cut};
+ghost use Rattle.definition.specs.Types.{number_of};
+ghost use Rattle.definition.specs.SheetForms.{sheet_number_of};
+ghost use Rattle.build_answer.specs.Answered.{named_in, Cut};
+ghost use Rattle.build_answer.specs.Sheets.{number_alone};
 
+use definition::{Refusal, SheetRefusal};
 use virt_regs::OutLayout;
 
-// Number 0 and how many registers and groups there are; or the refusal's number, and zeros.
+// Number 0 and how many registers and groups there are; or the refusal's number, and zeros. No Result, since C gets it.
 #[repr(C)]
 #[derive(Clone, Copy)]
 pub struct BuildEnd {
@@ -16,21 +20,49 @@ pub struct BuildEnd {
     pub groups: u32,
 }
 
-fn least(a: usize, b: usize) -> usize
-    ensures { (result ≡ lesser a b) × (result ≤ a) × (result ≤ b) }
+// The number of a refusal.
+pub fn number_of(r: Refusal) -> u32
+    ensures { result ≡ number_of r }
 {
-    if a < b {
-        return a;
+    match r {
+        Refusal::NotARecord => 1,
+        Refusal::OverALimit => 2,
+        Refusal::BadBook => 3,
+        Refusal::BadFunction => 4,
+        Refusal::BadHint => 5,
+        Refusal::BadSegment => 6,
+        Refusal::BadUse => 7,
+        Refusal::Stopped(_) => 8,
+        Refusal::Full => 9,
     }
-    b
+}
+
+// The number of a job sheet's refusal.
+pub fn sheet_number_of(r: SheetRefusal) -> u32
+    ensures { result ≡ sheet_number_of r }
+{
+    match r {
+        SheetRefusal::By(f) => number_of(f),
+        SheetRefusal::WrittenDiffers => 10,
+    }
+}
+
+// A refusal, by its number alone.
+pub fn refuse(number: u32) -> BuildEnd
+    ensures { result ≡ number_alone number }
+{
+    BuildEnd {
+        number,
+        registers: 0,
+        groups: 0,
+    }
 }
 
 // Of the rows named, those for which there is room; and no more than a word counts.
 fn rows_in(room: usize, named: u32) -> usize
     ensures { (result ≡ named_in room named) × (result ≤ room) × (result ≤ 4294967294) }
 {
-    let rows = least(named as usize, 4294967294);
-    least(rows, room)
+    (named as usize).min(4294967294).min(room)
 }
 
 // The tables in a slice of n words, with as many rows as are named and fit.
@@ -57,5 +89,5 @@ pub fn tables_bytes(ol: OutLayout) -> usize
     requires { tables_end ol < 4611686018427387904 }
     ensures { result ≡ tables_end ol * 4 }
 {
-    (ol.regs * 8 + ol.segs * 7 + ol.uses * 6 + ol.groups * 9) * 4
+    (ol.group_base() + ol.groups * 9) * 4
 }

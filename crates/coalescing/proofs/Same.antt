@@ -1,27 +1,22 @@
--- Two lists of sets compared from the front. Assumes nothing.
-use Prim.Native.Nat.{ℕ, ◌+◌, ◌-◌, ◌≤◌, ◌<◌}
+-- Two lists of sets compared. Assumes nothing.
+use Prim.Native.Nat.{ℕ}
 use mathlib.Core.List.{List, [], ◌∷◌}
 use mathlib.Core.Bool.{Bool, true, false, ◌&&◌}
 use mathlib.Core.Path.{◌≡◌, refl, ap₂}
-use native.Mathlib.Numerals.{add-one}
 use native.Mathlib.Omega.{arith}
 use lib.Dec.{eqb}
-use lib.ListN.{length, get_or, drop, drop_of_length-le}
-use lib.Seq.{drop-cons}
-use borrow.Author.Tests.{eq-eqb, ne_eqb, eqb-true}
+use lib.Pointwise.{pointwise}
+use borrow.Author.Tests.{eq-eqb, eqb-true}
 use Rattle.definition.specs.declared.ValueSet.{ValueSet}
 use Rattle.definition.specs.Types.{vset}
 use Rattle.definition.specs.Admit.{same_sets}
 
-module _ (a b : List ValueSet) (i : ℕ) (d : ValueSet) (ha : i < length a) (hb : i < length b) where
-  pub same_step : (get_or a i d).0 ≡ (get_or b i d).0 → same_sets (drop i a) (drop i b) ≡ same_sets (drop (i + 1) a) (drop (i + 1) b)
-  same_step e = rw (drop-cons a i d ha, drop-cons b i d hb, eq-eqb _ _ e, add-one)
-
-  pub same_stop : ((get_or a i d).0 ≡ (get_or b i d).0 → ⊥) → same_sets (drop i a) (drop i b) ≡ false
-  same_stop e = rw (drop-cons a i d ha, drop-cons b i d hb, ne_eqb _ _ e)
-
-pub same_end : (a b : List ValueSet) (i : ℕ) → length a ≤ i → length b ≤ i → same_sets (drop i a) (drop i b) ≡ true
-same_end a b i ha hb = rw (drop_of_length-le a ha, drop_of_length-le b hb)
+-- lists compared pair by pair, by a test that is equality of the sets' numbers
+pub same_pairs : (E : ValueSet → ValueSet → Bool) → ((x y : ValueSet) → E x y ≡ eqb x.0 y.0) → (a b : List ValueSet) → pointwise E a b ≡ same_sets a b
+same_pairs E e [] [] = refl
+same_pairs E e [] (y ∷ ys) = refl
+same_pairs E e (x ∷ xs) [] = refl
+same_pairs E e (x ∷ xs) (y ∷ ys) = ap₂ (λ p q. p && q) (e x y) (same_pairs E e xs ys)
 
 both_true : (p q : Bool) → p && q ≡ true → (p ≡ true) × (q ≡ true)
 both_true true q e = (refl, e)

@@ -7,7 +7,7 @@ use Rattle.definition.specs.declared.ValueData.{ValueData}
 use Rattle.definition.specs.declared.Remat.{Remat}
 use Rattle.definition.specs.declared.Remat.TheVariants.{Never, CheaperThanMove, CheaperThanLoad, Indirect}
 use Rattle.definition.specs.Types.{val, vset}
-use Rattle.definition.specs.RegInfo.{no_value, set_of}
+use Rattle.definition.specs.RegInfo.{no_value}
 
 abbrev pub pick_r : Bool → Remat → Remat → Remat
 pick_r true x y = x

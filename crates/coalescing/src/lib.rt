@@ -78,11 +78,8 @@ pub fn value_sets(t: &[u8], at: usize, n: usize, i: usize) -> [ValueSet; 8]
     ensures { (job : Job) → job.values ≡ values_at (words_of t.now) at n → result ≡ sets_of job (vgroup_row (words_of t.now) i) }
 {
     let mut out = [ValueSet(4294967295); 8];
-    let members = group_len(t, i);
-    let mut k: usize = 0;
-    while k < members {
+    for k in 0..group_len(t, i) {
         out[k] = set_in(t, at, n, member_at(t, i, k));
-        k += 1;
     }
     out
 }
@@ -91,12 +88,5 @@ pub fn value_sets(t: &[u8], at: usize, n: usize, i: usize) -> [ValueSet; 8]
 pub fn same_sets(a: [ValueSet; 8], b: [ValueSet; 8]) -> bool
     ensures { result ≡ same_sets a b }
 {
-    let mut i: usize = 0;
-    while i < 8 {
-        if a[i].0 != b[i].0 {
-            return false;
-        }
-        i += 1;
-    }
-    true
+    a == b
 }

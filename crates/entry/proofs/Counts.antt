@@ -12,9 +12,7 @@ use borrow.Author.Tests.{lt-ltb, le-ltb, leb-true, eqb-true}
 use Rattle.rows.specs.Tab.{tab}
 use Rattle.rows.specs.RowsAt.{rows_at}
 use Rattle.definition.proofs.Entries.{and_both}
-use Rattle.layout.specs.declared.Table.{Table}
 use Rattle.layout.specs.declared.Layout.{Layout}
-use Rattle.layout.specs.declared.SegRow.{SegRow}
 use Rattle.layout.specs.Layout.{seg_row, seg_at, next_use}
 use Rattle.job_shape.specs.Shape.{rises, use_counts, counts_ok}
 use Rattle.job_shape.proofs.Rising.{begins_at}

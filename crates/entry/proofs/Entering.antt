@@ -1,15 +1,18 @@
 -- What a job that passes all tests leaves. Assumes nothing.
-use Prim.Native.Nat.{ℕ, suc, ◌/◌, ◌≤◌, ◌<◌}
+use Prim.Native.Nat.{ℕ, ◌/◌, ◌≤◌, ◌<◌}
 use native.Mathlib.Omega.{arith}
 use mathlib.Core.Path.{◌≡◌, refl, sym, ap, subst, ◌∙◌}
 use mathlib.Core.Bool.{Bool, true, false, not, ◌&&◌}
 use mathlib.Core.List.{List}
+use mathlib.Core.Option.{none, some}
 use lib.Dec.{leb, ltb}
+use Rattle.std.specs.Prelude.{Result, Ok, Err, IfOk, IsErrAnd}
 use lib.ListN.{length, get_or}
 use borrow.Author.Tests.{not-false}
 use Rattle.rows.specs.RowsAt.{rows_at}
 use Rattle.words.specs.Words.{words_of}
 use Rattle.definition.specs.declared.Operand.{Operand}
+use Rattle.definition.specs.declared.Refusal.{Refusal}
 use Rattle.definition.specs.declared.Hint.{Hint}
 use Rattle.definition.specs.Types.{Job}
 use Rattle.definition.specs.Entry.{every, insts_of, insts, apart, same_place, chained, not_after, limits_ok, function_ok, hints_ok, entry_tests, entry}
@@ -20,7 +23,6 @@ use Rattle.operands.specs.declared.Chains.{Chains}
 use Rattle.operands.specs.Rows.{operands_at}
 use Rattle.operands.specs.Chains.{Under, Chained, operands_of}
 use Rattle.operands.proofs.Only.{under_of}
-use Rattle.layout.specs.declared.Table.{Table}
 use Rattle.layout.specs.declared.Layout.{Layout}
 use Rattle.layout.specs.Layout.{Fits}
 use Rattle.job.specs.Job.{raw_job}
@@ -37,10 +39,8 @@ use Rattle.entry_uses.proofs.Typed.{raw_is_job}
 use Rattle.work_layout.specs.declared.WorkLayout.{WorkLayout}
 use Rattle.work_layout.specs.Regions.{max_work, Regions, chains_in}
 use Rattle.work_layout.proofs.Parts.{heads_are}
-use Rattle.entry.specs.Number.{number_for}
-use Rattle.entry.specs.declared.Entered.{Entered}
-use Rattle.entry.specs.Accepted.{no_entry, Accepted}
-use Rattle.entry.proofs.Numbers.{entry_none}
+use Rattle.entry.specs.Number.{refusal_in}
+use Rattle.entry.specs.Accepted.{Accepted}
 use Rattle.entry.proofs.Counts.{rising}
 
 -- the number of instructions
@@ -48,12 +48,15 @@ pub raw_insts : (W : List ℕ) (lay : Layout) → insts (raw_job W lay) ≡ inst
 unfolding insts
 raw_insts W lay = ap insts_of (raw_blocks W lay)
 
--- a test failed
-pub no_entry_lem : {r : Entered} (lay : Layout) (k : ℕ) (s K : List ℕ) → r ≡ no_entry (suc k) lay → suc k ≡ number_for (words_of s) lay
-    → ((r.number ≡ number_for (words_of s) lay) × (r.lay ≡ lay)) × (r.number ≡ 0 → Accepted s K r.lay r.wl r.insts)
-no_entry_lem lay k s K e d =
-    let n = ap (λ (x : Entered). x.number) e in
-    ((n ∙ d, ap (λ (x : Entered). x.lay) e), λ z. absurd (omega (arith, n, z)))
+-- what holds, holds where an answer is a job's
+pub if_ok : {A E : Type 0} {P : Type 0} (r : Result A E) → P → IfOk r (λ a. P)
+if_ok (Ok a) p = p
+if_ok (Err e) p = tt
+
+-- a refusal that is passed on
+pub err_kept : {A : Type 0} (r : Result A Refusal) (e : Refusal) → IsErrAnd r (λ x. x ≡ e) → refusal_in r ≡ some e
+err_kept (Ok a) e h = absurd h
+err_kept (Err x) e h = ap some h
 
 -- test 2 is passed
 pub few : {s : List ℕ} {lay : Layout} {t : Bool} → Shaped s lay → not t ≡ false → t ≡ limits_ok (raw_job (words_of s) lay) → Limited (words_of s) lay
@@ -88,7 +91,7 @@ indexes {W} {lay} {wl} {c} {w} {n} h e r q =
 indexed : (W K : List ℕ) (lay : Layout) (wl : WorkLayout) (c : Chains) → c ≡ chains_in lay wl → Chained K c (operands_of W c) → Chained K (chains_in lay wl) (operands_at W lay.operands.at lay.operands.n)
 indexed W K lay wl c q h = subst (λ (x : Chains). Chained K x (operands_of W x)) q h
 
-module _ (s : List ℕ) (lay : Layout) (b : Shaped s lay) (zero : number_for (words_of s) lay ≡ 0) where
+module _ (s : List ℕ) (lay : Layout) (b : Shaped s lay) (none_failed : entry (raw_job (words_of s) lay) ≡ none) where
   abbrev W : List ℕ
   W = words_of s
 
@@ -113,7 +116,6 @@ module _ (s : List ℕ) (lay : Layout) (b : Shaped s lay) (zero : number_for (wo
       → (c : Chains) → c ≡ chains_in lay wl → Chained K c (operands_of W c) → Accepted s K lay wl n
   unfolding entry
   accepted K wl n bytes d r c q h =
-      let none_failed = entry_none (words_of s) lay zero in
       let a = lowest_none (entry_tests job) none_failed in
       record {
         shaped = b;

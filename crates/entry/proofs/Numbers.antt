@@ -1,12 +1,11 @@
--- The number of the first test that fails. Assumes nothing.
-use Prim.Native.Nat.{ℕ, suc}
-use native.Mathlib.Omega.{arith}
+-- The first test that fails. Assumes nothing.
+use Prim.Native.Nat.{ℕ}
 use mathlib.Core.Path.{◌≡◌, refl, sym, ap, ◌∙◌}
 use mathlib.Core.Bool.{Bool, true, false, not}
 use mathlib.Core.Option.{Option, none, some}
 use mathlib.Core.List.{List, [], ◌∷◌}
 use Rattle.definition.specs.declared.Refusal.{Refusal}
-use Rattle.definition.specs.declared.Refusal.TheVariants.{NotARecord, OverALimit, BadBook, BadFunction, BadHint, BadSegment, BadUse, Stopped, Full}
+use Rattle.definition.specs.declared.Refusal.TheVariants.{NotARecord, OverALimit, BadBook}
 use Rattle.definition.specs.Types.{Job, Room, refused, number_of}
 use Rattle.definition.specs.Entry.{limits_ok, book_ok, lowest_of, entry, answer_to, answer}
 use Rattle.definition.specs.Build.{build}
@@ -16,86 +15,50 @@ use Rattle.job.specs.Job.{raw_job}
 use Rattle.job_shape.specs.Shape.{layout_of, shape_ok}
 use Rattle.job_shape.specs.Answer.{binary_job, answer_if, binary_answer}
 use Rattle.job_shape.proofs.Tests.{passed, failed}
-use Rattle.entry.specs.Number.{number_in, first_number, table_tests, number_for, entry_of, entry_number}
+use Rattle.entry.specs.Number.{number_in, table_tests, number_for, entry_of, entry_number}
 
 -- ---- tests one after the other: one of which a callee answered t
 
-pub fails : {t b : Bool} (r : Refusal) (ts : List (Bool × Refusal)) → not t ≡ true → t ≡ b → number_of r ≡ first_number ((b, r) ∷ ts)
-unfolding first_number lowest_of number_in
+pub fails : {t b : Bool} (r : Refusal) (ts : List (Bool × Refusal)) → not t ≡ true → t ≡ b → some r ≡ lowest_of ((b, r) ∷ ts)
+unfolding lowest_of
 fails r ts h e = rw (failed h e)
 
-pub passes : {n : ℕ} {t b : Bool} (r : Refusal) (ts : List (Bool × Refusal)) → not t ≡ false → t ≡ b → n ≡ first_number ts → n ≡ first_number ((b, r) ∷ ts)
-unfolding first_number lowest_of
+pub passes : {o : Option Refusal} {t b : Bool} (r : Refusal) (ts : List (Bool × Refusal)) → not t ≡ false → t ≡ b → o ≡ lowest_of ts → o ≡ lowest_of ((b, r) ∷ ts)
+unfolding lowest_of
 passes r ts h e f = rw (passed h e) f
 
-pub all_pass : 0 ≡ first_number []
-unfolding first_number lowest_of number_in
+pub all_pass : none ≡ lowest_of []
+unfolding lowest_of
 all_pass = refl
 
--- ---- no number is 0
-
-named : (r : Refusal) → number_of r ≡ 0 → ⊥
-named NotARecord e = omega arith
-named OverALimit e = omega arith
-named BadBook e = omega arith
-named BadFunction e = omega arith
-named BadHint e = omega arith
-named BadSegment e = omega arith
-named BadUse e = omega arith
-named (Stopped s) e = omega arith
-named Full e = omega arith
-
-pub number_none : (o : Option Refusal) → number_in o ≡ 0 → o ≡ none
-unfolding number_in
-number_none none e = refl
-number_none (some r) e = absurd (named r e)
-
--- ---- the number of a job
+-- ---- the tests of a job
 
 module _ (W : List ℕ) (lay : Layout) where
   abbrev job : Job
   job = raw_job W lay
 
-  number_entry : number_for W lay ≡ number_in (entry job)
-  unfolding number_for
-  number_entry = refl
-
-  entry_is : number_in (entry job) ≡ first_number ((limits_ok job, OverALimit) ∷ (book_ok job, BadBook) ∷ table_tests job)
-  unfolding entry first_number
+  entry_is : entry job ≡ lowest_of ((limits_ok job, OverALimit) ∷ (book_ok job, BadBook) ∷ table_tests job)
+  unfolding entry
   entry_is = refl
 
-  pub number_limits : {t : Bool} → not t ≡ true → t ≡ limits_ok job → 2 ≡ number_for W lay
-  number_limits h e = fails OverALimit ((book_ok job, BadBook) ∷ table_tests job) h e ∙ sym entry_is ∙ sym number_entry
+  pub entry_limits : {t : Bool} → not t ≡ true → t ≡ limits_ok job → some OverALimit ≡ entry job
+  entry_limits h e = fails OverALimit ((book_ok job, BadBook) ∷ table_tests job) h e ∙ sym entry_is
 
-  pub number_book : {t u : Bool} → not t ≡ false → t ≡ limits_ok job → not u ≡ true → u ≡ book_ok job → 3 ≡ number_for W lay
-  number_book h e i f = passes OverALimit ((book_ok job, BadBook) ∷ table_tests job) h e (fails BadBook (table_tests job) i f) ∙ sym entry_is ∙ sym number_entry
+  pub entry_book : {t u : Bool} → not t ≡ false → t ≡ limits_ok job → not u ≡ true → u ≡ book_ok job → some BadBook ≡ entry job
+  entry_book h e i f = passes OverALimit ((book_ok job, BadBook) ∷ table_tests job) h e (fails BadBook (table_tests job) i f) ∙ sym entry_is
 
-  pub number_tables : {t u : Bool} {n : ℕ} → not t ≡ false → t ≡ limits_ok job → not u ≡ false → u ≡ book_ok job → n ≡ first_number (table_tests job) → n ≡ number_for W lay
-  number_tables h e i f g = passes OverALimit ((book_ok job, BadBook) ∷ table_tests job) h e (passes BadBook (table_tests job) i f g) ∙ sym entry_is ∙ sym number_entry
-
-  -- number 0: no refusal
-  pub entry_none : number_for W lay ≡ 0 → entry job ≡ none
-  entry_none e = number_none (entry job) (sym number_entry ∙ e)
+  pub entry_tables : {t u : Bool} {o : Option Refusal} → not t ≡ false → t ≡ limits_ok job → not u ≡ false → u ≡ book_ok job → o ≡ lowest_of (table_tests job) → o ≡ entry job
+  entry_tables h e i f g = passes OverALimit ((book_ok job, BadBook) ∷ table_tests job) h e (passes BadBook (table_tests job) i f g) ∙ sym entry_is
 
   -- ---- the answer to it
 
-  -- number 0: what is built
-  pub answer_built : (room : Room) → number_for W lay ≡ 0 → answer job room ≡ build job room
+  pub answer_built : (room : Room) → entry job ≡ none → answer job room ≡ build job room
   unfolding answer answer_to
-  answer_built room e = ap (λ (o : Option Refusal). answer_to o job room) (entry_none e)
+  answer_built room e = ap (λ (o : Option Refusal). answer_to o job room) e
 
-  -- any other: the refusal of that number
   pub answer_refused : (room : Room) (r : Refusal) → entry job ≡ some r → (answer job room ≡ refused r) × (number_for W lay ≡ number_of r)
-  unfolding answer answer_to number_in
-  answer_refused room r e = (ap (λ (o : Option Refusal). answer_to o job room) e, number_entry ∙ ap number_in e)
-
-  pub answer_number : (room : Room) (n : ℕ) → number_for W lay ≡ suc n → (r : Refusal) × (answer job room ≡ refused r) × (number_of r ≡ suc n)
-  unfolding number_in
-  answer_number room n e = go (entry job) refl (sym number_entry ∙ e)
-    where
-      go : (o : Option Refusal) → entry job ≡ o → number_in o ≡ suc n → (r : Refusal) × (answer job room ≡ refused r) × (number_of r ≡ suc n)
-      go none d f = absurd (omega (arith, f))
-      go (some r) d f = (r, (answer_refused room r d).0, f)
+  unfolding answer answer_to number_for number_in
+  answer_refused room r e = (ap (λ (o : Option Refusal). answer_to o job room) e, ap number_in e)
 
 -- ---- a binary job
 

@@ -18,7 +18,6 @@ use Rattle.block_starts.proofs.Made.{length_start_words, starts_made}
 use Rattle.operands.proofs.Rows.{long}
 use Rattle.operands.proofs.Store.{chained_kept}
 use Rattle.operands.specs.Rows.{operands_at}
-use Rattle.layout.specs.declared.Table.{Table}
 use Rattle.layout.specs.declared.Layout.{Layout}
 use Rattle.job.specs.Job.{raw_job}
 use Rattle.entry_function.proofs.Tables.{raw_blocks}

@@ -25,9 +25,7 @@ use Rattle.operands.specs.Rows.{operands_at, op_at, is_at}
 use Rattle.operands.specs.Chains.{Under}
 use Rattle.operands.specs.Chains as chains
 use Rattle.uses.specs.Rows.{use_row}
-use Rattle.layout.specs.declared.Table.{Table}
 use Rattle.layout.specs.declared.Layout.{Layout}
-use Rattle.layout.specs.declared.SegRow.{SegRow}
 use Rattle.layout.specs.Layout.{seg_at, next_use, job_uses, segment_of}
 use Rattle.job.specs.Job.{job_by, raw_job, job_of}
 use Rattle.job_shape.specs.Shape.{use_counts, rises, counts_ok}

@@ -9,7 +9,6 @@ use Rattle.function.specs.Blocks.{blocks_at, start_words, Starts}
 use Rattle.hints.specs.Hints.{hint_at}
 use Rattle.operands.specs.Rows.{operands_at}
 use Rattle.operands.specs.Chains.{Under, Chained}
-use Rattle.layout.specs.declared.Table.{Table}
 use Rattle.layout.specs.declared.Layout.{Layout}
 use Rattle.job.specs.Job.{raw_job, job_of}
 use Rattle.job_shape.specs.Shape.{Shaped}
@@ -18,16 +17,6 @@ use Rattle.entry_book.specs.Book.{Booked}
 use Rattle.entry_uses.specs.Tests.{Rising}
 use Rattle.work_layout.specs.declared.WorkLayout.{WorkLayout}
 use Rattle.work_layout.specs.Regions.{max_work, Regions, chains_in}
-use Rattle.entry.specs.declared.Entered.{Entered}
-
--- the answer to a refused job
-abbrev pub no_entry : ℕ → Layout → Entered
-no_entry number lay = record {
-  number = number;
-  lay = lay;
-  wl = record { heads = 0; nexts = 0; mapping = 0; starts = 0; marks = 0; turned = 0 };
-  insts = 0;
-}
 
 -- The job of the bytes s is accepted, and the work words K hold the index of its operands by its n instructions.
 pub record Accepted (s K : List ℕ) (lay : Layout) (wl : WorkLayout) (n : ℕ) : Type 0 where

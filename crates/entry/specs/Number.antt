@@ -1,10 +1,10 @@
 -- The number of a job's entry. Assumes nothing.
-use Rattle.std.specs.Prelude.{ℕ, Bool, true, false, List, [], ◌∷◌}
+use Rattle.std.specs.Prelude.{ℕ, Bool, true, false, Result, Ok, Err, List, [], ◌∷◌}
 use Rattle.std.proofs.Math.Option.{Option, none, some}
 use Rattle.definition.specs.declared.Refusal.{Refusal}
 use Rattle.definition.specs.declared.Refusal.TheVariants.{NotARecord, BadFunction, BadHint, BadSegment, BadUse}
 use Rattle.definition.specs.Types.{Job, number_of}
-use Rattle.definition.specs.Entry.{every, function_ok, hints_ok, segments_ok, uses_ok, lowest_of, entry}
+use Rattle.definition.specs.Entry.{every, function_ok, hints_ok, segments_ok, uses_ok, entry}
 use Rattle.layout.specs.declared.Layout.{Layout}
 use Rattle.job.specs.Job.{raw_job}
 use Rattle.job_shape.specs.Shape.{shape_ok}
@@ -15,10 +15,10 @@ unfoldable pub number_in : Option Refusal → ℕ
 number_in none = 0
 number_in (some r) = number_of r
 
--- that of the first test that fails
-unfoldable pub first_number : List (Bool × Refusal) → ℕ
-unfolding number_in lowest_of
-first_number ts = number_in (lowest_of ts)
+-- the refusal that an entry gave
+abbrev pub refusal_in : {A E : Type 0} → Result A E → Option E
+refusal_in (Ok a) = none
+refusal_in (Err r) = some r
 
 -- the definition's tests from 5 and from 4 on
 abbrev pub list_tests : Job → List (Bool × Refusal)

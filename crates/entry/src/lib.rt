@@ -1,9 +1,9 @@
 // The entry tests on a job of good shape, lowest number first, and the work slice of a job that passes them.
 #![tactic(auto)]
 
-ghost use Rattle.std.specs.Prelude.{◌≡◌, true, ◌≤◌};
+ghost use Rattle.std.specs.Prelude.{◌≡◌, true, ◌≤◌, IfOk};
 ghost use Rattle.words.specs.Words.{word_count, words_of};
-ghost use Rattle.definition.specs.Entry.{limits_ok};
+ghost use Rattle.definition.specs.Entry.{limits_ok, lowest_of, entry};
 ghost use Rattle.layout.specs.Layout.{Fits};
 ghost use Rattle.operands.specs.Chains.{Chained, operands_of};
 ghost use Rattle.job.specs.Job.{raw_job};
@@ -12,95 +12,68 @@ ghost use Rattle.entry_function.specs.Counts.{Indexes};
 ghost use Rattle.entry_kinds.specs.Tests.{Ready};
 ghost use Rattle.entry_uses.specs.Tests.{Rising};
 ghost use Rattle.work_layout.specs.Regions.{max_work};
-ghost use Rattle.entry.specs.Number.{list_tests, table_tests, first_number, number_for};
-ghost use Rattle.entry.specs.Accepted.{no_entry, Accepted, Prepared, prepared};
+ghost use Rattle.entry.specs.Number.{refusal_in, list_tests, table_tests};
+ghost use Rattle.entry.specs.Accepted.{Accepted, Prepared, prepared};
 
+use definition::Refusal;
 use layout::Layout;
 use operands::Chains;
 use work_layout::WorkLayout;
 
-// The answer: 0, or the number of the lowest test that fails. Where it is 0, the job's layout, the parts of the work slice and the number of instructions.
+// Of a job that passes: its layout, the parts of the work slice and the number of instructions.
 #[derive(Clone, Copy)]
 pub struct Entered {
-    pub number: u32,
     pub lay: Layout,
     pub wl: WorkLayout,
     pub insts: usize,
 }
 
-// A refusal: its number alone.
-pub fn refuse(number: u32, lay: Layout) -> Entered
-    ensures { result ≡ no_entry number lay }
-{
-    let wl = WorkLayout {
-        heads: 0,
-        nexts: 0,
-        mapping: 0,
-        starts: 0,
-        marks: 0,
-        turned: 0,
-    };
-    Entered {
-        number,
-        lay,
-        wl,
-        insts: 0,
-    }
-}
-
 // Tests 5 to 7, of a job that passed 1 to 4.
-fn test_lists(job: &[u8], lay: Layout, work: &[u8], c: Chains) -> u32
+fn test_lists(job: &[u8], lay: Layout, work: &[u8], c: Chains) -> Result<(), Refusal>
     requires { Ready (word_count job.now) (word_count work.now) (words_of job.now) (words_of work.now) lay c × Rising (words_of job.now) lay × (limits_ok (raw_job (words_of job.now) lay) ≡ true) }
-    ensures { result ≡ first_number (list_tests (raw_job (words_of job.now) lay)) }
+    ensures { refusal_in result ≡ lowest_of (list_tests (raw_job (words_of job.now) lay)) }
 {
     let count = c.insts;
     if !entry_hints::hints_ok(job, lay, count) {
-        return 5;
+        return Err(Refusal::BadHint);
     }
     if !entry_segments::segments_ok(job, lay, count) {
-        return 6;
+        return Err(Refusal::BadSegment);
     }
     if !entry_uses::uses_ok(job, lay, work, c) {
-        return 7;
+        return Err(Refusal::BadUse);
     }
-    0
+    Ok(())
 }
 
 // Tests 4 to 7, of a job that passed 1 to 3. Test 4 leaves the index of the operands in the work slice.
-fn test_tables(job: &[u8], lay: Layout, work: &mut [u8], c: Chains) -> u32
+fn test_tables(job: &[u8], lay: Layout, work: &mut [u8], c: Chains) -> Result<(), Refusal>
     requires { Fits (word_count job.now) lay × Rising (words_of job.now) lay × (limits_ok (raw_job (words_of job.now) lay) ≡ true) × Indexes (word_count work.old) (words_of job.now) lay c }
-    ensures value { result ≡ first_number (table_tests (raw_job (words_of job.now) lay)) }
-    ensures chained { result ≡ 0 → Chained (words_of work.new) c (operands_of (words_of job.now) c) }
+    ensures value { refusal_in result ≡ lowest_of (table_tests (raw_job (words_of job.now) lay)) }
+    ensures chained { IfOk result (λ u. Chained (words_of work.new) c (operands_of (words_of job.now) c)) }
 {
     if !entry_function::function_ok(job, lay, work, c) {
-        return 4;
+        return Err(Refusal::BadFunction);
     }
     test_lists(job, lay, work, c)
 }
 
 // Tests 2 to 7, of a job that passed 1 with the layout `lay`.
-pub fn enter(job: &[u8], lay: Layout, work: &mut [u8]) -> Entered
+pub fn enter(job: &[u8], lay: Layout, work: &mut [u8]) -> Result<Entered, Refusal>
     requires { Shaped job.now lay × (max_work ≤ word_count work.old) }
-    ensures number_value { (result.number ≡ number_for (words_of job.now) lay) × (result.lay ≡ lay) }
-    ensures accepted { result.number ≡ 0 → Accepted job.now (words_of work.new) result.lay result.wl result.insts }
+    ensures refused { refusal_in result ≡ entry (raw_job (words_of job.now) lay) }
+    ensures accepted { IfOk result (λ e. (e.lay ≡ lay) × Accepted job.now (words_of work.new) e.lay e.wl e.insts) }
 {
     if !entry_book::limits_ok(job, lay) {
-        return refuse(2, lay);
+        return Err(Refusal::OverALimit);
     }
     if !entry_book::book_ok(job, lay) {
-        return refuse(3, lay);
+        return Err(Refusal::BadBook);
     }
-    let at = lay.blocks.at;
-    let blocks = lay.blocks.n;
-    let insts = function::count_insts(job, at, blocks as u32) as usize;
+    let insts = function::count_insts(job, lay.blocks.at, lay.blocks.n as u32) as usize;
     let wl = work_layout::work_layout(lay, insts);
-    let number = test_tables(job, lay, work, work_layout::chains_in(lay, wl));
-    Entered {
-        number,
-        lay,
-        wl,
-        insts,
-    }
+    test_tables(job, lay, work, work_layout::chains_in(lay, wl))?;
+    Ok(Entered { lay, wl, insts })
 }
 
 // The rest of the work slice of an accepted job: no operand is mapped, no use is turned, and the table of block starts is made.
@@ -111,23 +84,18 @@ pub fn prepare(job: &[u8], e: Entered, work: &mut [u8])
 {
     let lay = e.lay;
     let wl = e.wl;
-    let at = lay.blocks.at;
-    let blocks = lay.blocks.n;
     work_layout::clear_words(work, wl.mapping, lay.operands.n);
-    block_starts::put_starts(job, at, blocks as u32, work, wl.starts);
+    block_starts::put_starts(job, lay.blocks.at, lay.blocks.n as u32, work, wl.starts);
     work_layout::clear_words(work, wl.marks, lay.uses.n);
 }
 
 // The tests, and the work slice of a job that passes them.
-pub fn enter_prepared(job: &[u8], lay: Layout, work: &mut [u8]) -> Entered
+pub fn enter_prepared(job: &[u8], lay: Layout, work: &mut [u8]) -> Result<Entered, Refusal>
     requires { Shaped job.now lay × (max_work ≤ word_count work.old) }
-    ensures number_value { (result.number ≡ number_for (words_of job.now) lay) × (result.lay ≡ lay) }
-    ensures accepted { result.number ≡ 0 → Accepted job.now (words_of work.new) result.lay result.wl result.insts × Prepared (words_of job.now) (words_of work.new) result.lay result.wl }
+    ensures refused { refusal_in result ≡ entry (raw_job (words_of job.now) lay) }
+    ensures accepted { IfOk result (λ e. (e.lay ≡ lay) × Accepted job.now (words_of work.new) e.lay e.wl e.insts × Prepared (words_of job.now) (words_of work.new) e.lay e.wl) }
 {
-    let e = enter(job, lay, work);
-    if e.number != 0 {
-        return e;
-    }
+    let e = enter(job, lay, work)?;
     prepare(job, e, work);
-    e
+    Ok(e)
 }

@@ -8,9 +8,8 @@ use lib.ListN.{get_or}
 use lib.Ieee.{binary32, of_bits}
 use Rattle.rows.specs.RowsAt.{length_rows_at}
 use Rattle.definition.specs.declared.ClassData.{ClassData}
-use Rattle.definition.specs.Entry.{conj, every, small, sized, class_ok}
+use Rattle.definition.specs.Entry.{conj, small, sized, class_ok}
 use Rattle.reginfo.specs.Rows.{class_row, classes_at}
-use Rattle.job_shape.proofs.Every.{rows_from, every_first}
 
 -- the tests of a class with mask m, cost of bits w and size z, among the classes cs, n of them
 abbrev pub tests_of : List ClassData → ℕ → ℕ → ℕ → ℕ → List Bool
@@ -20,8 +19,3 @@ pub class_tests : (W : List ℕ) (at n i : ℕ) {m w z : ℕ} → m ≡ get_or W
     → conj (tests_of (classes_at W at n) n m w z) ≡ class_ok (classes_at W at n) (class_row W i)
 unfolding class_ok class_row classes_at
 class_tests W at n i a b c = λ x. conj (tests_of (classes_at W at n) (sym (length_rows_at class_row W at 4 n) x) (a x) (b x) (c x))
-
--- the scan of all classes begins
-pub classes_first : (f : ClassData → Bool) (W : List ℕ) (at n : ℕ) → every f (classes_at W at n) ≡ every f (rows_from f class_row W at 4 n 0)
-unfolding classes_at
-classes_first f W at n = every_first f class_row W at 4 n

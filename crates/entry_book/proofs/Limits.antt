@@ -9,7 +9,7 @@ use borrow.Author.Tests.{leb-true}
 use Rattle.definition.specs.Types.{Job}
 use Rattle.definition.specs.Limits.{max_insts, max_blocks, max_values, max_vgroups, max_operands, max_hints, max_segments, max_uses, max_classes, max_banks, max_regs, max_adjust}
 use Rattle.definition.specs.Entry.{conj, insts_of, insts, limits_ok}
-use Rattle.definition.proofs.Entries.{conj_all}
+use Rattle.definition.proofs.Entries.{and_both, conj_all}
 use Rattle.function.specs.Blocks.{blocks_at}
 use Rattle.layout.specs.declared.Layout.{Layout}
 use Rattle.layout.specs.Layout.{options_row}
@@ -70,13 +70,17 @@ module _ (W : List ℕ) (lay : Layout) (h : counts_ok W lay ≡ true) where
       (conj_append (other_counts lay) (leb (get_or W lay.opts 0) max_adjust ∷ [])
       ∙ ap (λ (b : Bool). conj (other_counts lay) && b) (and_true (leb (get_or W lay.opts 0) max_adjust))))
 
-  pub limits_not : others ≡ false → false ≡ limits_ok (raw_job W lay)
-  limits_not e = sym (raw_limits ∙ split ∙ ap (λ (b : Bool). leb insts_in max_insts && b) e ∙ and_false (leb insts_in max_insts))
-
-  pub limits_insts : others ≡ true → (n : ℕ) → n ≡ insts_in → leb n max_insts ≡ limits_ok (raw_job W lay)
-  limits_insts e n d =
-      ap (λ (k : ℕ). leb k max_insts) d
-      ∙ sym (raw_limits ∙ split ∙ ap (λ (b : Bool). leb insts_in max_insts && b) e ∙ and_true (leb insts_in max_insts))
+  -- the tests in the code's order
+  pub limits_are : ((conj (function_counts lay) && conj (other_counts lay)) && leb (get_or W lay.opts 0) max_adjust) && leb insts_in max_insts ≡ limits_ok (raw_job W lay)
+  limits_are = sym (raw_limits ∙ split ∙ turned (leb insts_in max_insts) (conj (function_counts lay)) (conj (other_counts lay)) (leb (get_or W lay.opts 0) max_adjust))
+    where
+      turned : (i a b k : Bool) → i && (a && (b && k)) ≡ ((a && b) && k) && i
+      turned true true true k = sym (and_true k)
+      turned true true false k = refl
+      turned true false b k = refl
+      turned false true true k = sym (and_false k)
+      turned false true false k = refl
+      turned false false b k = refl
 
   -- what test 2 gives
   pub limited : limits_ok (raw_job W lay) ≡ true → Limited W lay
@@ -97,5 +101,5 @@ module _ (W : List ℕ) (lay : Layout) (h : counts_ok W lay ≡ true) where
         adjust = leb-true _ _ a.1.1.1.1.1.1.1.1.1.1.1.0;
       }
 
-pub few_blocks : (lay : Layout) → conj (function_counts lay) ≡ true → lay.blocks.n ≤ 512
-few_blocks lay e = leb-true _ _ (conj_all (function_counts lay) e).0
+pub few_blocks : (lay : Layout) (b : Bool) → conj (function_counts lay) && b ≡ true → lay.blocks.n ≤ 512
+few_blocks lay b e = leb-true _ _ (conj_all (function_counts lay) (and_both _ b e).0).0

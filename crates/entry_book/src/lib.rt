@@ -1,7 +1,7 @@
 // Entry tests 2 and 3 on a binary job: counts within their limits, and the register book.
 #![tactic(auto)]
 
-ghost use Rattle.std.specs.Prelude.{◌≡◌, ◌||◌, ◌+◌, ◌*◌, ◌%◌, ◌^◌, ◌≤◌, ◌<◌, ltb, eqb, get_or};
+ghost use Rattle.std.specs.Prelude.{◌≡◌, ◌&&◌, ◌||◌, ◌+◌, ◌*◌, ◌%◌, ◌^◌, ◌≤◌, ◌<◌, ltb, eqb, get_or};
 ghost use Rattle.words.specs.Words.{word_count, words_of};
 ghost use Rattle.layout.specs.Layout.{Fits};
 ghost use Rattle.reginfo.specs.Rows.{class_row, classes_at};
@@ -13,42 +13,20 @@ ghost use Rattle.entry_book.specs.Book.{scale_tests};
 
 use layout::{Layout, Table};
 
-// The counts of the function's tables and of the hints.
-fn function_counts_ok(lay: Layout) -> bool
-    ensures { result ≡ conj (function_counts lay) }
+// The counts of all tables, in the order of the definition's tests.
+fn counts_ok(lay: Layout) -> bool
+    ensures { result ≡ conj (function_counts lay) && conj (other_counts lay) }
 {
-    if 512 < lay.blocks.n {
-        return false;
-    }
-    if 1024 < lay.values.n {
-        return false;
-    }
-    if 256 < lay.vgroups.n {
-        return false;
-    }
-    if 1024 < lay.operands.n {
-        return false;
-    }
-    lay.hints.n <= 1024
-}
-
-// The counts of segments, of uses and of the register book.
-fn other_counts_ok(lay: Layout) -> bool
-    ensures { result ≡ conj (other_counts lay) }
-{
-    if 1024 < lay.segments.n {
-        return false;
-    }
-    if 4096 < lay.uses.n {
-        return false;
-    }
-    if 32 < lay.classes.n {
-        return false;
-    }
-    if 8 < lay.banks.n {
-        return false;
-    }
-    lay.regs.n <= 256
+    lay.blocks.n <= 512
+        && lay.values.n <= 1024
+        && lay.vgroups.n <= 256
+        && lay.operands.n <= 1024
+        && lay.hints.n <= 1024
+        && lay.segments.n <= 1024
+        && lay.uses.n <= 4096
+        && lay.classes.n <= 32
+        && lay.banks.n <= 8
+        && lay.regs.n <= 256
 }
 
 // Test 2: no count and no k above its limit.
@@ -56,19 +34,11 @@ pub fn limits_ok(job: &[u8], lay: Layout) -> bool
     requires { Shaped job.now lay }
     ensures { result ≡ limits_ok (raw_job (words_of job.now) lay) }
 {
-    let opts = lay.opts;
-    let at = lay.blocks.at;
-    let blocks = lay.blocks.n;
-    if !function_counts_ok(lay) {
+    if !counts_ok(lay) {
         return false;
     }
-    if !other_counts_ok(lay) {
-        return false;
-    }
-    if 65535 < words::word_at(job, opts) {
-        return false;
-    }
-    function::count_insts(job, at, blocks as u32) <= 4096
+    words::word_at(job, lay.opts) <= 65535
+        && function::count_insts(job, lay.blocks.at, lay.blocks.n as u32) <= 4096
 }
 
 // Whether a mask has no bit from bit n on.
@@ -76,7 +46,7 @@ fn mask_known(mask: u32, n: usize) -> bool
     requires { n ≤ 32 }
     ensures { result ≡ ltb mask (2 ^ n) }
 {
-    (mask as u64) >> (n as u64) == 0
+    u64::from(mask) >> (n as u64) == 0
 }
 
 // A class that is in the mask, whose first bit is its own, has this size: its size is word i.
@@ -84,10 +54,7 @@ fn size_agrees(job: &[u8], i: usize, mask: u32, size: u32) -> bool
     requires { i < word_count job.now }
     ensures { result ≡ (eqb (mask % 2) 0 || eqb (get_or (words_of job.now) i 0) size) }
 {
-    if mask % 2 == 0 {
-        return true;
-    }
-    words::word_at(job, i) == size
+    mask % 2 == 0 || words::word_at(job, i) == size
 }
 
 // All classes in the mask have this size.
@@ -95,16 +62,12 @@ fn sizes_agree(job: &[u8], classes: Table, mask: u32, size: u32) -> bool
     requires { classes.at + classes.n * 4 ≤ word_count job.now }
     ensures { result ≡ sized mask size (classes_at (words_of job.now) classes.at classes.n) }
 {
-    let at = classes.at;
-    let n = classes.n;
-    let mut rest: u32 = mask;
-    let mut i: usize = 0;
-    while i < n {
-        if !size_agrees(job, at + i * 4 + 2, rest, size) {
+    let mut rest = mask;
+    for i in 0..classes.n {
+        if !size_agrees(job, classes.at + i * 4 + 2, rest, size) {
             return false;
         }
-        rest = rest / 2;
-        i += 1;
+        rest /= 2;
     }
     true
 }
@@ -114,41 +77,20 @@ fn class_ok(job: &[u8], classes: Table, i: usize) -> bool
     requires { (classes.at + classes.n * 4 ≤ word_count job.now) × (classes.n ≤ 32) × (i + 4 ≤ word_count job.now) }
     ensures { result ≡ class_ok (classes_at (words_of job.now) classes.at classes.n) (class_row (words_of job.now) i) }
 {
-    let n = classes.n;
     let mask = words::word_at(job, i);
     let size = words::word_at(job, i + 2);
-    if !mask_known(mask, n) {
-        return false;
-    }
-    if !floats::is_small(words::word_at(job, i + 1)) {
-        return false;
-    }
-    if size < 1 {
-        return false;
-    }
-    if 8 < size {
-        return false;
-    }
-    if size < 2 {
-        return true;
-    }
-    sizes_agree(job, classes, mask, size)
+    mask_known(mask, classes.n)
+        && floats::is_small(words::word_at(job, i + 1))
+        && 1 <= size
+        && size <= 8
+        && (size < 2 || sizes_agree(job, classes, mask, size))
 }
 
 fn classes_ok(job: &[u8], classes: Table) -> bool
     requires { (classes.at + classes.n * 4 ≤ word_count job.now) × (classes.n ≤ 32) }
     ensures { result ≡ every (class_ok (classes_at (words_of job.now) classes.at classes.n)) (classes_at (words_of job.now) classes.at classes.n) }
 {
-    let at = classes.at;
-    let n = classes.n;
-    let mut i: usize = 0;
-    while i < n {
-        if !class_ok(job, classes, at + i * 4) {
-            return false;
-        }
-        i += 1;
-    }
-    true
+    (0..classes.n).all(|i| class_ok(job, classes, classes.at + i * 4))
 }
 
 // The three scales of the options that begin at word i.
@@ -156,13 +98,9 @@ fn scales_ok(job: &[u8], i: usize) -> bool
     requires { i + 4 ≤ word_count job.now }
     ensures { result ≡ conj (scale_tests (words_of job.now) i) }
 {
-    if !floats::is_small(words::word_at(job, i + 1)) {
-        return false;
-    }
-    if !floats::is_small(words::word_at(job, i + 2)) {
-        return false;
-    }
-    floats::is_small(words::word_at(job, i + 3))
+    floats::is_small(words::word_at(job, i + 1))
+        && floats::is_small(words::word_at(job, i + 2))
+        && floats::is_small(words::word_at(job, i + 3))
 }
 
 // Test 3: the register book and the scales.
@@ -170,17 +108,8 @@ pub fn book_ok(job: &[u8], lay: Layout) -> bool
     requires { Fits (word_count job.now) lay × Limited (words_of job.now) lay }
     ensures { result ≡ book_ok (raw_job (words_of job.now) lay) }
 {
-    let classes = lay.classes.n;
-    let banks = lay.banks.n;
-    let opts = lay.opts;
-    if !job_shape::all_below(job, lay.banks, 1, 0, classes as u32) {
-        return false;
-    }
-    if !job_shape::all_below(job, lay.values, 3, 0, banks as u32) {
-        return false;
-    }
-    if !classes_ok(job, lay.classes) {
-        return false;
-    }
-    scales_ok(job, opts)
+    job_shape::all_below(job, lay.banks, 1, 0, lay.classes.n as u32)
+        && job_shape::all_below(job, lay.values, 3, 0, lay.banks.n as u32)
+        && classes_ok(job, lay.classes)
+        && scales_ok(job, lay.opts)
 }

@@ -1,75 +1,13 @@
--- Loops that test each row of a table, and each row with the next. Assumes nothing.
-use Prim.Native.Nat.{ℕ, zero, suc, ◌+◌, ◌-◌, ◌≤◌, ◌<◌}
+-- Tests one after the other, and tests over a table. Assumes nothing.
+use Prim.Native.Nat.{ℕ, zero, suc, ◌+◌, ◌<◌}
 use native.Mathlib.Omega.{arith}
-use native.Mathlib.Nat.{sub-zero}
-use mathlib.Core.Path.{◌≡◌, refl, sym, ap, ◌∙◌}
+use mathlib.Core.Path.{◌≡◌, refl}
 use mathlib.Core.Bool.{Bool, true, false, not, ◌&&◌}
 use mathlib.Core.List.{List, [], ◌∷◌}
 use lib.ListN.{length, get_or}
 use borrow.Author.Tests.{not-true, not-false}
-use Rattle.rows.specs.Tab.{tab, tab_more, tab_done}
-use Rattle.definition.specs.Entry.{conj, every, chained}
-
--- all n pass if those from i on do
-pub record Each {A : Type 0} (f : A → Bool) (g : ℕ → A) (n i : ℕ) : Type 0 where
-  pub is : every f (tab g 0 n) ≡ every f (tab g i (n - i))
-
--- the same of each with the next
-pub record Chain {A : Type 0} (f : A → A → Bool) (g : ℕ → A) (n i : ℕ) : Type 0 where
-  pub within : i ≤ n
-  pub is : chained f (tab g 0 n) ≡ chained f (tab g i (n - i))
-
-module _ {A : Type 0} where
-  pub each_start : (f : A → Bool) (g : ℕ → A) (n : ℕ) → Each f g n 0
-  each_start f g n = record { is = ap (λ (k : ℕ). every f (tab g 0 k)) (sym (sub-zero n)) }
-
-  each_true : (f : A → Bool) (g : ℕ → A) (n i : ℕ) → i < n → f (g i) ≡ true → every f (tab g i (n - i)) ≡ every f (tab g (i + 1) (n - (i + 1)))
-  unfolding every
-  each_true f g n i h e = rw (tab_more g i n h, e)
-
-  each_false : (f : A → Bool) (g : ℕ → A) (n i : ℕ) → i < n → f (g i) ≡ false → every f (tab g i (n - i)) ≡ false
-  unfolding every
-  each_false f g n i h e = rw (tab_more g i n h, e)
-
-  each_none : (f : A → Bool) (g : ℕ → A) (n i : ℕ) → n ≤ i → every f (tab g i (n - i)) ≡ true
-  unfolding every
-  each_none f g n i h = rw (tab_done g i n h)
-
-  pub each_next : {f : A → Bool} {g : ℕ → A} {n i : ℕ} (t : Bool) → Each f g n i → i < n → t ≡ f (g i) → not t ≡ false → Each f g n (i + 1)
-  each_next {f} {g} {n} {i} t c h e q = record { is = c.is ∙ each_true f g n i h (sym e ∙ not-false t q) }
-
-  pub each_stop : {f : A → Bool} {g : ℕ → A} {n i : ℕ} (t : Bool) → Each f g n i → i < n → t ≡ f (g i) → not t ≡ true → false ≡ every f (tab g 0 n)
-  each_stop {f} {g} {n} {i} t c h e q = sym (c.is ∙ each_false f g n i h (sym e ∙ not-true t q))
-
-  pub each_done : {f : A → Bool} {g : ℕ → A} {n i : ℕ} → Each f g n i → n ≤ i → true ≡ every f (tab g 0 n)
-  each_done {f} {g} {n} {i} c h = sym (c.is ∙ each_none f g n i h)
-
-  pub chain_start : (f : A → A → Bool) (g : ℕ → A) (n : ℕ) → Chain f g n 0
-  chain_start f g n = record { within = omega arith; is = ap (λ (k : ℕ). chained f (tab g 0 k)) (sym (sub-zero n)) }
-
-  chain_more : (f : A → A → Bool) (g : ℕ → A) (n i : ℕ) → i + 1 < n → chained f (tab g i (n - i)) ≡ f (g i) (g (i + 1)) && chained f (tab g (i + 1) (n - (i + 1)))
-  unfolding chained
-  chain_more f g n i h =
-      let a : n - i ≡ suc (suc (n - (i + 1 + 1))) = omega arith in
-      let b : n - (i + 1) ≡ suc (n - (i + 1 + 1)) = omega arith in
-      rw (a, b)
-
-  pub chain_next : {f : A → A → Bool} {g : ℕ → A} {n i : ℕ} (t : Bool) → Chain f g n i → i + 1 < n → t ≡ f (g i) (g (i + 1)) → not t ≡ false → Chain f g n (i + 1)
-  chain_next {f} {g} {n} {i} t c h e q =
-      record { within = omega arith; is = c.is ∙ chain_more f g n i h ∙ ap (λ (b : Bool). b && chained f (tab g (i + 1) (n - (i + 1)))) (sym e ∙ not-false t q) }
-
-  pub chain_stop : {f : A → A → Bool} {g : ℕ → A} {n i : ℕ} (t : Bool) → Chain f g n i → i + 1 < n → t ≡ f (g i) (g (i + 1)) → not t ≡ true → false ≡ chained f (tab g 0 n)
-  chain_stop {f} {g} {n} {i} t c h e q =
-      sym (c.is ∙ chain_more f g n i h ∙ ap (λ (b : Bool). b && chained f (tab g (i + 1) (n - (i + 1)))) (sym e ∙ not-true t q))
-
-  chain_last : (f : A → A → Bool) (g : ℕ → A) (i k : ℕ) → k ≤ 1 → chained f (tab g i k) ≡ true
-  unfolding chained
-  chain_last f g i zero h = refl
-  chain_last f g i (suc zero) h = refl
-  chain_last f g i (suc (suc k)) h = absurd (omega arith)
-
-  pub chain_done : {f : A → A → Bool} {g : ℕ → A} {n i : ℕ} → Chain f g n i → n ≤ i + 1 → true ≡ chained f (tab g 0 n)
-  chain_done {f} {g} {n} {i} c h = sym (c.is ∙ chain_last f g i (n - i) (omega arith))
+use Rattle.rows.specs.Tab.{tab}
+use Rattle.definition.specs.Entry.{conj, every}
 
 -- ---- tests one after the other
 

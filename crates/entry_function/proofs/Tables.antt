@@ -24,7 +24,6 @@ use Rattle.coalescing.proofs.Values.{values_long}
 use Rattle.coalescing.proofs.Members.{groups_long, group_row_at}
 use Rattle.hints.specs.Hints.{hint_at}
 use Rattle.uses.specs.Rows.{raw_row}
-use Rattle.layout.specs.declared.Table.{Table}
 use Rattle.layout.specs.declared.Layout.{Layout}
 use Rattle.layout.specs.Layout.{segment_of}
 use Rattle.job.specs.Job.{job_by, raw_job}

@@ -1,13 +1,13 @@
 -- One law for each way through the tests of a leader, a value group and an operand, and for the whole of test 4. Assumes nothing.
-use Prim.Native.Nat.{ℕ, ◌+◌, ◌*◌, ◌≤◌, ◌<◌}
+use Prim.Native.Nat.{ℕ, suc, ◌+◌, ◌*◌, ◌≤◌, ◌<◌}
 use native.Mathlib.Omega.{arith}
 use mathlib.Core.Path.{◌≡◌, refl, sym, ap, ap₂, ◌∙◌}
 use mathlib.Core.Bool.{Bool, true, false, not, ◌&&◌}
-use mathlib.Core.List.{List}
+use mathlib.Core.List.{List, [], ◌∷◌}
 use lib.Dec.{eqb}
 use lib.ListN.{length, get_or}
 use borrow.Author.Tests.{lt-ltb, le-ltb, le-leb, lt-leb, not-true, not-false}
-use Rattle.rows.specs.RowsAt.{rows_at, get_or_rows_at, length_rows_at}
+use Rattle.rows.specs.Tab.{tab, tab_ext}
 use Rattle.definition.specs.declared.ValueSet.{ValueSet}
 use Rattle.definition.specs.declared.Value.{Value}
 use Rattle.definition.specs.declared.Operand.{Operand}
@@ -15,19 +15,16 @@ use Rattle.definition.specs.Types.{Job, val}
 use Rattle.definition.specs.RegInfo.{set_of}
 use Rattle.definition.specs.Entry.{conj, every, insts, block_ok, leader_ok, vgroup_ok, operand_ok, apart, same_place, function_ok}
 use Rattle.function.specs.Blocks.{blocks_at}
-use Rattle.coalescing.specs.Rows.{value_row, values_at, member_row, vgroup_row, vgroups_at}
-use Rattle.coalescing.proofs.Members.{group_long}
+use Rattle.coalescing.specs.Rows.{value_row, values_at, vgroup_row, vgroups_at}
 use Rattle.operands.specs.declared.Chains.{Chains}
 use Rattle.operands.specs.Rows.{operand_row, operands_at}
 use Rattle.operands.specs.Chains.{operands_of, Under}
 use Rattle.operands.specs.Chains as operands
 use Rattle.operands.proofs.Only.{under_of}
-use Rattle.layout.specs.declared.Table.{Table}
 use Rattle.layout.specs.declared.Layout.{Layout}
 use Rattle.layout.specs.Layout as layout
 use Rattle.job.specs.Job.{raw_job}
 use Rattle.entry_function.specs.Counts.{known, Within, Indexes}
-use Rattle.entry_function.proofs.Scans.{Each, each_next, each_stop, each_done}
 use Rattle.entry_function.proofs.Tables.{raw_values, raw_vgroups, raw_operands, raw_blocks, values_count, vgroups_count, classes_count, class_size, members_row}
 
 -- ---- a leader
@@ -45,32 +42,17 @@ leads_by W lay i w k s e q h f =
 
 -- ---- a value group
 
-pub member_in : (W : List ℕ) (i k : ℕ) (v : Value) → k < length (vgroup_row W i) → v ≡ get_or (vgroup_row W i) k (val 0) → v ≡ member_row W (i + 1 + k * 1)
-unfolding vgroup_row
-member_in W i k v h e =
-    e ∙ get_or_rows_at member_row W (i + 1) 1 (get_or W i 0) k (val 0) (omega (arith, length_rows_at member_row W (i + 1) 1 (get_or W i 0)))
+-- a list by its places
+by_places : {A : Type 0} (d : A) (xs : List A) → tab (λ k. get_or xs k d) 0 (length xs) ≡ xs
+by_places d [] = refl
+by_places d (x ∷ xs) =
+    ap (λ ys. x ∷ ys) (tab_ext (λ k. get_or (x ∷ xs) k d) (λ k. get_or xs k d) 1 0 (length xs) (λ n l. place n) ∙ by_places d xs)
+  where
+    place : (n : ℕ) → get_or (x ∷ xs) (1 + n) d ≡ get_or xs (0 + n) d
+    place n = let e : 1 + n ≡ suc n = omega arith in let f : 0 + n ≡ n = omega arith in rw (e, f)
 
--- a turn of the loop over the members
-module _ (W : List ℕ) (i values n k x : ℕ) (v : Value) (c : Each (known values) (λ (j : ℕ). member_row W (i + 1 + j * 1)) (get_or W i 0) k) (e : n ≡ length (vgroup_row W i))
-    (h : k < n) (m : v ≡ get_or (vgroup_row W i) k (val 0)) (q : x ≡ v.0) where
-  in_row : k < get_or W i 0
-  in_row = omega (arith, group_long W i)
-
-  tested : known values v ≡ known values (member_row W (i + 1 + k * 1))
-  tested = ap (λ (u : Value). known values u) (member_in W i k v (omega arith) m)
-
-  pub member_bad : values ≤ x → false ≡ every (known values) (vgroup_row W i)
-  unfolding vgroup_row rows_at known
-  member_bad l = let z : values ≤ v.0 = omega arith in each_stop (known values v) c in_row tested (rw (le-ltb _ _ z))
-
-  pub member_next : x < values → Each (known values) (λ (j : ℕ). member_row W (i + 1 + j * 1)) (get_or W i 0) (k + 1)
-  unfolding known
-  member_next l = let z : v.0 < values = omega arith in each_next (known values v) c in_row tested (rw (lt-ltb _ _ z))
-
-pub members_done : (W : List ℕ) (i values n k : ℕ) → Each (known values) (λ (j : ℕ). member_row W (i + 1 + j * 1)) (get_or W i 0) k → n ≡ length (vgroup_row W i) → n ≤ k
-    → true ≡ every (known values) (vgroup_row W i)
-unfolding vgroup_row rows_at
-members_done W i values n k c e h = each_done c (omega (arith, length_rows_at member_row W (i + 1) 1 (get_or W i 0)))
+pub every_member : (f : Value → Bool) (W : List ℕ) (i n : ℕ) → n ≡ length (vgroup_row W i) → every f (tab (λ k. get_or (vgroup_row W i) k (val 0)) 0 n) ≡ every f (vgroup_row W i)
+every_member f W i n e = ap (λ m. every f (tab (λ k. get_or (vgroup_row W i) k (val 0)) 0 m)) e ∙ ap (every f) (by_places (val 0) (vgroup_row W i))
 
 module _ (W : List ℕ) (lay : Layout) (i n : ℕ) (e : n ≡ length (vgroup_row W i)) where
   pub group_few : n < 2 → false ≡ vgroup_ok (raw_job W lay) (vgroup_row W i)

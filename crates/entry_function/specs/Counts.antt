@@ -3,7 +3,6 @@ use Rattle.std.specs.Prelude.{ℕ, ◌+◌, ◌≤◌, ◌≡◌, Bool, List, lt
 use Rattle.definition.specs.declared.Value.{Value}
 use Rattle.definition.specs.Entry.{insts}
 use Rattle.operands.specs.declared.Chains.{Chains}
-use Rattle.layout.specs.declared.Table.{Table}
 use Rattle.layout.specs.declared.Layout.{Layout}
 use Rattle.job.specs.Job.{raw_job}
 

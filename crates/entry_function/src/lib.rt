@@ -11,7 +11,7 @@ ghost use Rattle.layout.specs.Layout.{Fits};
 ghost use Rattle.job.specs.Job.{raw_job};
 ghost use Rattle.entry_function.specs.Counts.{known, Within, Indexes};
 
-use definition::Value;
+use definition::{Value, ValueSet};
 use layout::Layout;
 use operands::Chains;
 
@@ -26,22 +26,14 @@ fn leads_at(job: &[u8], lay: Layout, i: usize) -> bool
     if n <= leader as usize {
         return false;
     }
-    coalescing::set_for_value(job, at, n, Value(leader)).0 == leader
+    coalescing::set_for_value(job, at, n, Value(leader)) == ValueSet(leader)
 }
 
 fn leaders_ok(job: &[u8], lay: Layout) -> bool
     requires { Fits (word_count job.now) lay }
     ensures { result ≡ every (leader_ok (raw_job (words_of job.now) lay)) (values_at (words_of job.now) lay.values.at lay.values.n) }
 {
-    let n = lay.values.n;
-    let mut i: usize = 0;
-    while i < n {
-        if !leads_at(job, lay, i) {
-            return false;
-        }
-        i += 1;
-    }
-    true
+    (0..lay.values.n).all(|i| leads_at(job, lay, i))
 }
 
 // Whether the members of the value group at word `at` are among the first `values` values.
@@ -49,15 +41,8 @@ fn members_known(job: &[u8], at: usize, values: usize) -> bool
     requires { (at + 9 ≤ word_count job.now) × (length (vgroup_row (words_of job.now) at) ≤ 8) }
     ensures { result ≡ every (known values) (vgroup_row (words_of job.now) at) }
 {
-    let n = coalescing::group_len(job, at);
-    let mut k: usize = 0;
-    while k < n {
-        if values <= coalescing::member_at(job, at, k).0 as usize {
-            return false;
-        }
-        k += 1;
-    }
-    true
+    (0..coalescing::group_len(job, at)).all(|k| (coalescing::member_at(job, at, k).0 as usize)
+        < values)
 }
 
 // Whether value group i has 2 to 8 members, all known. One with more is refused before its members are read.
@@ -80,15 +65,7 @@ fn vgroups_ok(job: &[u8], lay: Layout) -> bool
     requires { Fits (word_count job.now) lay }
     ensures { result ≡ every (vgroup_ok (raw_job (words_of job.now) lay)) (vgroups_at (words_of job.now) lay.vgroups.at lay.vgroups.n) }
 {
-    let n = lay.vgroups.n;
-    let mut i: usize = 0;
-    while i < n {
-        if !vgroup_ok(job, lay, i) {
-            return false;
-        }
-        i += 1;
-    }
-    true
+    (0..lay.vgroups.n).all(|i| vgroup_ok(job, lay, i))
 }
 
 // Whether operand i is within the tables, and its class is as wide as its value group.
@@ -121,15 +98,7 @@ fn operands_ok(job: &[u8], lay: Layout, count: usize) -> bool
     requires { Fits (word_count job.now) lay × (count ≡ insts (raw_job (words_of job.now) lay)) }
     ensures { result ≡ every (operand_ok (raw_job (words_of job.now) lay)) (operands_at (words_of job.now) lay.operands.at lay.operands.n) }
 {
-    let n = lay.operands.n;
-    let mut i: usize = 0;
-    while i < n {
-        if !operand_ok(job, lay, count, i) {
-            return false;
-        }
-        i += 1;
-    }
-    true
+    (0..lay.operands.n).all(|i| operand_ok(job, lay, count, i))
 }
 
 // Test 4. Where it passes, the work slice has the index c of the operands, and the rest of it is as it was.

@@ -18,40 +18,22 @@ fn hint_known(job: &[u8], lay: Layout, count: usize, i: usize) -> bool
     requires { Fits (word_count job.now) lay × (count ≡ insts (raw_job (words_of job.now) lay)) × (i < lay.hints.n) }
     ensures { result ≡ hint_known (raw_job (words_of job.now) lay) (hint_at (words_of job.now) (lay.hints.at + i * 3)) }
 {
-    let values = lay.values.n;
-    let at = lay.hints.at + i * 3;
-    if values <= words::word_at(job, at) as usize {
-        return false;
-    }
-    words::word_at(job, at + 1) as usize <= count
+    let h = hints::hint_at(job, lay.hints.at + i * 3);
+    (h.value.0 as usize) < lay.values.n && h.inst.0 as usize <= count
 }
 
 fn hints_known(job: &[u8], lay: Layout, count: usize) -> bool
     requires { Fits (word_count job.now) lay × (count ≡ insts (raw_job (words_of job.now) lay)) }
     ensures { result ≡ every (hint_known (raw_job (words_of job.now) lay)) (rows_at hint_at (words_of job.now) lay.hints.at 3 lay.hints.n) }
 {
-    let n = lay.hints.n;
-    let mut i: usize = 0;
-    while i < n {
-        if !hint_known(job, lay, count, i) {
-            return false;
-        }
-        i += 1;
-    }
-    true
+    (0..lay.hints.n).all(|i| hint_known(job, lay, count, i))
 }
 
 // Whether hint b is not sorted before hint a.
 fn not_after(a: Hint, b: Hint) -> bool
     ensures { result ≡ not_after a b }
 {
-    if a.value.0 < b.value.0 {
-        return true;
-    }
-    if a.value.0 != b.value.0 {
-        return false;
-    }
-    hints::key(a) <= hints::key(b)
+    a.value < b.value || (a.value == b.value && hints::key(a) <= hints::key(b))
 }
 
 fn hints_sorted(job: &[u8], lay: Layout) -> bool
@@ -59,17 +41,10 @@ fn hints_sorted(job: &[u8], lay: Layout) -> bool
     ensures { result ≡ chained not_after (rows_at hint_at (words_of job.now) lay.hints.at 3 lay.hints.n) }
 {
     let at = lay.hints.at;
-    let n = lay.hints.n;
-    let mut i: usize = 0;
-    while i + 1 < n {
-        let h = hints::hint_at(job, at + i * 3);
-        let next = hints::hint_at(job, at + (i + 1) * 3);
-        if !not_after(h, next) {
-            return false;
-        }
-        i += 1;
-    }
-    true
+    (1..lay.hints.n).all(|i| {
+        let h = hints::hint_at(job, at + (i - 1) * 3);
+        not_after(h, hints::hint_at(job, at + i * 3))
+    })
 }
 
 // Test 5, with the number of instructions.
@@ -77,8 +52,5 @@ pub fn hints_ok(job: &[u8], lay: Layout, count: usize) -> bool
     requires { Fits (word_count job.now) lay × (count ≡ insts (raw_job (words_of job.now) lay)) }
     ensures { result ≡ hints_ok (raw_job (words_of job.now) lay) }
 {
-    if !hints_known(job, lay, count) {
-        return false;
-    }
-    hints_sorted(job, lay)
+    hints_known(job, lay, count) && hints_sorted(job, lay)
 }

@@ -1,7 +1,7 @@
 // Entry test 6: the segments of a job are within its function, and sorted by set and place.
 #![tactic(auto)]
 
-ghost use Rattle.std.specs.Prelude.{◌≡◌, ◌+◌, ◌*◌, ◌≤◌, ◌<◌};
+ghost use Rattle.std.specs.Prelude.{◌≡◌, ◌-◌, ◌*◌, ◌≤◌, ◌<◌};
 ghost use Rattle.rows.specs.Tab.{tab};
 ghost use Rattle.words.specs.Words.{word_count, words_of};
 ghost use Rattle.definition.specs.Entry.{every, chained, insts, segment_ok, in_order, segments_ok};
@@ -19,16 +19,7 @@ fn span_ok(p: LiveRangePoint, q: LiveRangePoint, count: usize) -> bool
     requires { count ≤ 4096 }
     ensures { result ≡ span_ok p q count }
 {
-    if q.0 <= p.0 {
-        return false;
-    }
-    if 3 <= p.0 % 4 {
-        return false;
-    }
-    if 3 <= q.0 % 4 {
-        return false;
-    }
-    q.0 as usize <= 4 * count
+    p < q && p.0 % 4 < 3 && q.0 % 4 < 3 && q.0 as usize <= 4 * count
 }
 
 // Whether segment i is within the function, and its value known.
@@ -36,61 +27,35 @@ fn segment_ok(job: &[u8], lay: Layout, count: usize, i: usize) -> bool
     requires { Fits (word_count job.now) lay × Within (words_of job.now) lay × (count ≡ insts (raw_job (words_of job.now) lay)) × (i < lay.segments.n) }
     ensures { result ≡ segment_ok (raw_job (words_of job.now) lay) (segment_of raw_row (words_of job.now) lay i) }
 {
-    let values = lay.values.n;
     let s = layout::seg_at(job, lay.segments.at + i * 5);
-    if values <= s.value.0 as usize {
-        return false;
-    }
-    span_ok(s.from, s.to, count)
+    (s.value.0 as usize) < lay.values.n && span_ok(s.from, s.to, count)
 }
 
 fn segments_within(job: &[u8], lay: Layout, count: usize) -> bool
     requires { Fits (word_count job.now) lay × Within (words_of job.now) lay × (count ≡ insts (raw_job (words_of job.now) lay)) }
     ensures { result ≡ every (segment_ok (raw_job (words_of job.now) lay)) (tab (segment_of raw_row (words_of job.now) lay) 0 lay.segments.n) }
 {
-    let n = lay.segments.n;
-    let mut i: usize = 0;
-    while i < n {
-        if !segment_ok(job, lay, count, i) {
-            return false;
-        }
-        i += 1;
-    }
-    true
+    (0..lay.segments.n).all(|i| segment_ok(job, lay, count, i))
 }
 
-// Whether segment i + 1 is of a later set than segment i, or behind it in its set.
-fn next_behind(job: &[u8], lay: Layout, i: usize) -> bool
-    requires { Fits (word_count job.now) lay × (i + 1 < lay.segments.n) }
-    ensures { result ≡ in_order (raw_job (words_of job.now) lay) (segment_of raw_row (words_of job.now) lay i) (segment_of raw_row (words_of job.now) lay (i + 1)) }
+// Whether segment i is of a later set than the one before it, or behind it in its set.
+fn is_behind(job: &[u8], lay: Layout, i: usize) -> bool
+    requires { Fits (word_count job.now) lay × (0 < i) × (i < lay.segments.n) }
+    ensures { result ≡ in_order (raw_job (words_of job.now) lay) (segment_of raw_row (words_of job.now) lay (i - 1)) (segment_of raw_row (words_of job.now) lay i) }
 {
     let at = lay.segments.at;
-    let s = layout::seg_at(job, at + i * 5);
-    let t = layout::seg_at(job, at + (i + 1) * 5);
+    let s = layout::seg_at(job, at + (i - 1) * 5);
+    let t = layout::seg_at(job, at + i * 5);
     let a = coalescing::set_for_value(job, lay.values.at, lay.values.n, s.value);
     let b = coalescing::set_for_value(job, lay.values.at, lay.values.n, t.value);
-    if a.0 < b.0 {
-        return true;
-    }
-    if a.0 != b.0 {
-        return false;
-    }
-    s.to.0 <= t.from.0
+    a < b || (a == b && s.to <= t.from)
 }
 
 fn segments_sorted(job: &[u8], lay: Layout) -> bool
     requires { Fits (word_count job.now) lay }
     ensures { result ≡ chained (in_order (raw_job (words_of job.now) lay)) (tab (segment_of raw_row (words_of job.now) lay) 0 lay.segments.n) }
 {
-    let n = lay.segments.n;
-    let mut i: usize = 0;
-    while i + 1 < n {
-        if !next_behind(job, lay, i) {
-            return false;
-        }
-        i += 1;
-    }
-    true
+    (1..lay.segments.n).all(|i| is_behind(job, lay, i))
 }
 
 // Test 6, with the number of instructions.
@@ -98,8 +63,5 @@ pub fn segments_ok(job: &[u8], lay: Layout, count: usize) -> bool
     requires { Fits (word_count job.now) lay × Within (words_of job.now) lay × (count ≡ insts (raw_job (words_of job.now) lay)) }
     ensures { result ≡ segments_ok (raw_job (words_of job.now) lay) }
 {
-    if !segments_within(job, lay, count) {
-        return false;
-    }
-    segments_sorted(job, lay)
+    segments_within(job, lay, count) && segments_sorted(job, lay)
 }

@@ -12,7 +12,6 @@ use Rattle.definition.specs.Types.{Segment}
 use Rattle.definition.specs.Place.{total}
 use Rattle.definition.specs.Entry.{limit_tests, limits_ok}
 use Rattle.uses.specs.Rows.{raw_row}
-use Rattle.layout.specs.declared.Table.{Table}
 use Rattle.layout.specs.declared.Layout.{Layout}
 use Rattle.layout.specs.Layout.{seg_row, seg_at, next_use, job_uses, segment_of}
 use Rattle.job.specs.Job.{raw_job}

@@ -6,7 +6,7 @@ use mathlib.Core.Bool.{Bool, true, false, not, ◌&&◌}
 use mathlib.Core.List.{List, [], ◌∷◌}
 use lib.Dec.{leb, eqb}
 use lib.ListN.{get_or}
-use borrow.Author.Tests.{lt-ltb, le-ltb, le-leb, lt-leb, not-true, not-false}
+use borrow.Author.Tests.{lt-ltb, le-ltb, not-true, not-false}
 use Rattle.rows.specs.Tab.{tab}
 use Rattle.rows.specs.RowsAt.{rows_at}
 use Rattle.definition.specs.declared.LiveRangePoint.{LiveRangePoint}
@@ -17,12 +17,10 @@ use Rattle.definition.specs.Types.{Segment, point, cls}
 use Rattle.definition.specs.Uses.{end_slot, end_point}
 use Rattle.definition.specs.Entry.{conj, every, chained, insts, kind_ok, use_ok, uses_ok}
 use Rattle.uses.specs.Rows.{pick_k, reg, raw_kind, kind_of, raw_row, use_row}
-use Rattle.layout.specs.declared.Table.{Table}
 use Rattle.layout.specs.declared.Layout.{Layout}
 use Rattle.layout.specs.declared.SegRow.{SegRow}
 use Rattle.layout.specs.Layout.{seg_row, seg_at, next_use, job_uses, segment_of}
 use Rattle.job.specs.Job.{raw_job}
-use Rattle.entry_function.proofs.Scans.{Chain, chain_next, chain_stop, and_false, and_next}
 use Rattle.entry_function.proofs.Tables.{raw_segments}
 use Rattle.entry_uses.specs.Tests.{seg_of, not_falling, Rising}
 
@@ -83,20 +81,6 @@ module _ (W : List ℕ) (lay : Layout) (s : SegRow) (i n pos : ℕ) (e : pos ≡
           last true = refl
           last false = refl
 
--- ---- positions in turn
-
-module _ (W : List ℕ) (at i pos next : ℕ) (e : pos ≡ get_or W (at + i * 6 + 1) 0) (f : next ≡ get_or W (at + (i + 1) * 6 + 1) 0) where
-  falling : (t : Bool) → leb pos next ≡ t → t ≡ not_falling (raw_row W (at + i * 6)) (raw_row W (at + (i + 1) * 6))
-  unfolding not_falling
-  falling t q = sym (rw (raw_pos W (at + i * 6), raw_pos W (at + (i + 1) * 6), ← e, ← f) q)
-
-  pub rise_stop : (n : ℕ) → Chain not_falling (λ (k : ℕ). raw_row W (at + k * 6)) n i → i + 1 < n → next < pos → false ≡ chained not_falling (rows_at raw_row W at 6 n)
-  unfolding rows_at
-  rise_stop n c h l = chain_stop false c h (falling false (lt-leb pos next l)) refl
-
-  pub rise_next : (n : ℕ) → Chain not_falling (λ (k : ℕ). raw_row W (at + k * 6)) n i → i + 1 < n → pos ≤ next → Chain not_falling (λ (k : ℕ). raw_row W (at + k * 6)) n (i + 1)
-  rise_next n c h l = chain_next true c h (falling true (le-leb pos next l)) refl
-
 -- ---- the uses of one segment
 
 every_same : {A : Type 0} (f g : A → Bool) → ((x : A) → f x ≡ g x) → (xs : List A) → every f xs ≡ every g xs
@@ -113,7 +97,7 @@ module _ (W : List ℕ) (lay : Layout) (k : ℕ) (s : SegRow) (r : s ≡ seg_row
   unfolding segment_of seg_at job_uses
   same_uses = rw (r, e)
 
-  uses_is : uses_ok (raw_job W lay) (segment_of raw_row W lay k)
+  pub uses_is : uses_ok (raw_job W lay) (segment_of raw_row W lay k)
       ≡ every (use_ok (raw_job W lay) (seg_of s)) (rows_at raw_row W (lay.uses.at + s.first * 6) 6 (next - s.first))
       && chained not_falling (rows_at raw_row W (lay.uses.at + s.first * 6) 6 (next - s.first))
   unfolding uses_ok not_falling
@@ -121,14 +105,6 @@ module _ (W : List ℕ) (lay : Layout) (k : ℕ) (s : SegRow) (r : s ≡ seg_row
       rw same_uses
       (ap (λ (b : Bool). b && chained not_falling (rows_at raw_row W (lay.uses.at + s.first * 6) 6 (next - s.first)))
       (every_same _ _ same_test (rows_at raw_row W (lay.uses.at + s.first * 6) 6 (next - s.first))))
-
-  pub uses_no : (t : Bool) → t ≡ every (use_ok (raw_job W lay) (seg_of s)) (rows_at raw_row W (lay.uses.at + s.first * 6) 6 (next - s.first)) → not t ≡ true
-      → false ≡ uses_ok (raw_job W lay) (segment_of raw_row W lay k)
-  uses_no t f h = and_false _ (chained not_falling (rows_at raw_row W (lay.uses.at + s.first * 6) 6 (next - s.first))) t f h ∙ sym uses_is
-
-  pub uses_by : (t u : Bool) → t ≡ every (use_ok (raw_job W lay) (seg_of s)) (rows_at raw_row W (lay.uses.at + s.first * 6) 6 (next - s.first)) → not t ≡ false
-      → u ≡ chained not_falling (rows_at raw_row W (lay.uses.at + s.first * 6) 6 (next - s.first)) → u ≡ uses_ok (raw_job W lay) (segment_of raw_row W lay k)
-  uses_by t u f h g = and_next _ _ t u f h g ∙ sym uses_is
 
   -- its uses lie in the use table
   pub uses_lie : Rising W lay → k < lay.segments.n → (s.first ≤ next) × (next ≤ lay.uses.n)

@@ -16,14 +16,12 @@ use Rattle.definition.specs.declared.RegClass.{RegClass}
 use Rattle.definition.specs.declared.Use.{Use}
 use Rattle.definition.specs.Types.{Job, Segment, cls}
 use Rattle.definition.specs.Entry.{every, vgroup_values, function_ok, group_use_ok, kind_ok, use_tests, use_ok, uses_ok}
-use Rattle.operands.specs.declared.FoundOperand.{FoundOperand}
-use Rattle.operands.specs.declared.FoundOperand.TheVariants.{At, Nothing}
+use Rattle.std.specs.Prelude.{Option, Some, None}
 use Rattle.operands.specs.Rows.{op_at, last_place, fits_found}
 use Rattle.operands.proofs.Twice.{never}
 use Rattle.operands.proofs.Only.{found_at, group_use_found}
 use Rattle.uses.specs.Rows.{raw_kind, raw_row, use_row, fit, typed_kind, typed_row}
 use Rattle.uses.proofs.Typed.{typed_row_lem}
-use Rattle.layout.specs.declared.Table.{Table}
 use Rattle.layout.specs.declared.Layout.{Layout}
 use Rattle.layout.specs.Layout.{seg_at, next_use, job_uses, segment_of}
 use Rattle.job.specs.Job.{job_by, raw_job, job_of}
@@ -46,8 +44,8 @@ module _ (job : Job) (p : function_ok job ≡ true) (v : Value) (q : Inst) where
   group_typed : (s : ℕ) (c : RegClass) (i : ℕ) → group_use_ok job v q s c i ≡ true → (s < 65536) × (i < 256)
   group_typed s c i e = go (last_place job.operands (length job.operands) q.0 s) refl (sym (group_use_found job v q s c i (passed_apart job p)) ∙ e)
     where
-      go : (f : FoundOperand) → last_place job.operands (length job.operands) q.0 s ≡ f → fits_found job v c i f ≡ true → (s < 65536) × (i < 256)
-      go (At k) g h =
+      go : (f : Option ℕ) → last_place job.operands (length job.operands) q.0 s ≡ f → fits_found job v c i f ≡ true → (s < 65536) × (i < 256)
+      go (Some k) g h =
           let a = found_at job.operands (length job.operands) q.0 s k g in
           let o = op_at job.operands k in
           let w = operand_fits job p k a.0 in
@@ -55,7 +53,7 @@ module _ (job : Job) (p : function_ok job ≡ true) (v : Value) (q : Inst) where
             omega (arith, w.slot, eqb-true o.slot s (and_both (eqb o.inst.0 q.0) (eqb o.slot s) a.1).1),
             omega (arith, ltb-true i (length (vgroup_values job o.vgroup)) m, members_few job p o.vgroup w.vgroup),
           )
-      go Nothing g h = never (sym h)
+      go None g h = never (sym h)
 
   tied : (a b c d : ℕ) → kind_ok job v q (raw_kind 2 a b c d) ≡ true → typed_kind 2 a b c d ≡ true
   unfolding kind_ok raw_kind typed_kind fit

@@ -30,7 +30,7 @@ fn use_ok(job: &[u8], lay: Layout, work: &[u8], c: Chains, s: SegRow, i: usize) 
     if 4 * pos + 4 <= s.from.0 {
         return false;
     }
-    uses::end_point(uses::use_at(job, i)).0 <= s.to.0
+    uses::end_point(uses::use_at(job, i)) <= s.to
 }
 
 // The same of the n uses from word `at` on.
@@ -46,14 +46,7 @@ fn each_use_ok(
     requires { Ready (word_count job.now) (word_count work.now) (words_of job.now) (words_of work.now) lay c × (at + n * 6 ≤ word_count job.now) }
     ensures { result ≡ every (use_ok (raw_job (words_of job.now) lay) (seg_of s)) (rows_at raw_row (words_of job.now) at 6 n) }
 {
-    let mut i: usize = 0;
-    while i < n {
-        if !use_ok(job, lay, work, c, s, at + i * 6) {
-            return false;
-        }
-        i += 1;
-    }
-    true
+    (0..n).all(|i| use_ok(job, lay, work, c, s, at + i * 6))
 }
 
 // Whether the positions of the n uses from word `at` on do not fall.
@@ -61,31 +54,19 @@ fn uses_rise(job: &[u8], at: usize, n: usize) -> bool
     requires { at + n * 6 ≤ word_count job.now }
     ensures { result ≡ chained not_falling (rows_at raw_row (words_of job.now) at 6 n) }
 {
-    let mut i: usize = 0;
-    while i + 1 < n {
-        let pos = words::word_at(job, at + i * 6 + 1);
-        let next = words::word_at(job, at + (i + 1) * 6 + 1);
-        if next < pos {
-            return false;
-        }
-        i += 1;
-    }
-    true
+    (1..n).all(|i| words::word_at(job, at + (i - 1) * 6 + 1) <= words::word_at(job, at + i * 6 + 1))
 }
 
 // Test 7 of segment k.
 fn segment_uses_ok(job: &[u8], lay: Layout, work: &[u8], c: Chains, k: usize) -> bool
-    requires { Ready (word_count job.now) (word_count work.now) (words_of job.now) (words_of work.now) lay c × Rising (words_of job.now) lay × (lay.uses.n ≤ 4096) × (k < lay.segments.n) }
+    requires { Ready (word_count job.now) (word_count work.now) (words_of job.now) (words_of work.now) lay c × Rising (words_of job.now) lay × (limits_ok (raw_job (words_of job.now) lay) ≡ true) × (k < lay.segments.n) }
     ensures { result ≡ uses_ok (raw_job (words_of job.now) lay) (segment_of raw_row (words_of job.now) lay k) }
 {
     let s = layout::seg_at(job, lay.segments.at + k * 5);
     let next = layout::next_use(job, lay, k);
     let at = lay.uses.at + s.first as usize * 6;
     let n = (next - s.first) as usize;
-    if !each_use_ok(job, lay, work, c, s, at, n) {
-        return false;
-    }
-    uses_rise(job, at, n)
+    each_use_ok(job, lay, work, c, s, at, n) && uses_rise(job, at, n)
 }
 
 // Test 7. The use table is walked from the first segment's uses to the last one's.
@@ -93,13 +74,5 @@ pub fn uses_ok(job: &[u8], lay: Layout, work: &[u8], c: Chains) -> bool
     requires { Ready (word_count job.now) (word_count work.now) (words_of job.now) (words_of work.now) lay c × Rising (words_of job.now) lay × (limits_ok (raw_job (words_of job.now) lay) ≡ true) }
     ensures { result ≡ every (uses_ok (raw_job (words_of job.now) lay)) (raw_job (words_of job.now) lay).segments }
 {
-    let n = lay.segments.n;
-    let mut k: usize = 0;
-    while k < n {
-        if !segment_uses_ok(job, lay, work, c, k) {
-            return false;
-        }
-        k += 1;
-    }
-    true
+    (0..lay.segments.n).all(|k| segment_uses_ok(job, lay, work, c, k))
 }

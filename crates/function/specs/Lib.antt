@@ -2,3 +2,4 @@ pub mod Bools
 pub mod Blocks
 pub mod BlockLaws
 pub mod Every
+pub mod Chained

@@ -1,5 +1,5 @@
 -- Rows of hints, and the search by key. Assumes nothing.
-use Rattle.std.specs.Prelude.{◌≡◌, ℕ, suc, ◌+◌, ◌<◌, Bool, true, false, ◌&&◌, ◌||◌, List, [], ◌∷◌, ltb, eqb, get_or}
+use Rattle.std.specs.Prelude.{◌≡◌, ℕ, suc, ◌+◌, Bool, true, false, ◌&&◌, ◌||◌, List, [], ◌∷◌, ltb, eqb, get_or}
 use Rattle.std.proofs.Common.{add-zero, arith}
 use Rattle.rows.specs.RowsAt.{Reads}
 use Rattle.definition.specs.declared.Value.{Value}

@@ -30,31 +30,21 @@ pub fn hint_at(t: &[u8], i: usize) -> Hint
 fn outgoing(p: Inst) -> u64
     ensures { (result ≡ 2 * p.0) × (result ≤ 8589934590) }
 {
-    2 * (p.0 as u64)
+    2 * u64::from(p.0)
 }
 
 // A hint's key within its value.
 pub fn key(h: Hint) -> u64
     ensures { result ≡ as_key h }
 {
-    let k = outgoing(h.inst);
-    if h.incoming {
-        return k + 1;
-    }
-    k
+    outgoing(h.inst) + u64::from(h.incoming)
 }
 
 // Whether a hint is sorted before key k of value v.
 fn key_below(h: Hint, v: Value, k: u64) -> bool
     ensures { result ≡ key_below v k h }
 {
-    if h.value.0 < v.0 {
-        return true;
-    }
-    if h.value.0 != v.0 {
-        return false;
-    }
-    key(h) < k
+    h.value < v || (h.value == v && key(h) < k)
 }
 
 // How many of n sorted hints, the first at word `at`, are before key k of value v.
@@ -62,15 +52,16 @@ fn first_hint(t: &[u8], at: usize, n: usize, v: Value, k: u64) -> usize
     requires { (at + n * 3 ≤ word_count t.now) × (chained not_after (rows_at hint_at (words_of t.now) at 3 n) ≡ true) }
     ensures { (result ≡ first_hint v k (rows_at hint_at (words_of t.now) at 3 n)) × (result ≤ n) }
 {
+    // `partition_point` needs a slice of rows, and the table is words in a lent byte slice.
     let mut low: usize = 0;
     let mut high = n;
     while low < high {
         let mid = low + (high - low) / 2;
         if key_below(hint_at(t, at + mid * 3), v, k) {
             low = mid + 1;
-            continue;
+        } else {
+            high = mid;
         }
-        high = mid;
     }
     low
 }
@@ -85,8 +76,5 @@ pub fn hint_between(t: &[u8], at: usize, n: usize, v: Value, a: Inst, b: Inst) -
         return false;
     }
     let h = hint_at(t, at + i * 3);
-    if h.value.0 != v.0 {
-        return false;
-    }
-    key(h) <= outgoing(b)
+    h.value == v && key(h) <= outgoing(b)
 }

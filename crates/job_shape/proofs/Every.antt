@@ -1,36 +1,14 @@
--- A test of every row of a table: one turn of its scan, and what it says of each row. Assumes nothing.
-use Prim.Native.Nat.{ℕ, zero, suc, ◌+◌, ◌-◌, ◌*◌, ◌≤◌, ◌<◌}
+-- A test of every row of a table: what it says of each row. Assumes nothing.
+use Prim.Native.Nat.{ℕ, zero, suc, ◌+◌, ◌*◌, ◌<◌}
 use native.Mathlib.Omega.{arith}
 use native.Mathlib.Nat.{zero-add, add-zero}
-use mathlib.Core.Path.{◌≡◌, refl, sym, ap}
-use mathlib.Core.Bool.{Bool, true, false, ◌&&◌}
+use mathlib.Core.Path.{◌≡◌, refl}
+use mathlib.Core.Bool.{Bool, true, ◌&&◌}
 use mathlib.Core.List.{List}
 use Rattle.rows.specs.Tab.{tab}
-use Rattle.rows.specs.RowsAt.{rows_at, rows_at_start, rows_at_more, rows_at_done}
+use Rattle.rows.specs.RowsAt.{rows_at}
 use Rattle.definition.specs.Entry.{every}
 use Rattle.definition.proofs.Entries.{and_both}
-
--- ---- the scan: it stands before row i
-
-module _ {A : Type 0} (f : A → Bool) (row : List ℕ → ℕ → A) (W : List ℕ) (at s n : ℕ) where
-  -- the rows from row i on
-  abbrev pub rows_from : ℕ → List A
-  rows_from i = rows_at row W (at + i * s) s (n - i)
-
-  pub every_first : every f (rows_at row W at s n) ≡ every f (rows_from 0)
-  every_first = ap (λ (xs : List A). every f xs) (sym (rows_at_start row W at s n))
-
-  pub every_next : (i : ℕ) → i < n → f (row W (at + i * s)) ≡ true → every f (rows_from i) ≡ every f (rows_from (i + 1))
-  unfolding every
-  every_next i h e = rw (rows_at_more row W at s n i h, e)
-
-  pub every_not : (i : ℕ) → i < n → f (row W (at + i * s)) ≡ false → every f (rows_from i) ≡ false
-  unfolding every
-  every_not i h e = rw (rows_at_more row W at s n i h, e)
-
-  pub every_last : (i : ℕ) → n ≤ i → every f (rows_from i) ≡ true
-  unfolding every
-  every_last i h = rw (rows_at_done row W at s n i h)
 
 -- ---- each row of a table that passes
 

@@ -2,7 +2,7 @@
 use Prim.Native.Nat.{ℕ, zero, suc, ◌+◌, ◌-◌, ◌*◌, ◌≤◌, ◌<◌}
 use native.Mathlib.Omega.{arith}
 use mathlib.Core.Path.{◌≡◌, refl, sym}
-use mathlib.Core.Bool.{true, false, ◌&&◌}
+use mathlib.Core.Bool.{true, false}
 use mathlib.Core.List.{List}
 use lib.Dec.{leb, eqb}
 use lib.ListN.{length, get_or}
@@ -13,7 +13,7 @@ use Rattle.words.specs.Words.{word_count, words_of}
 use Rattle.definition.specs.declared.Use.{Use}
 use Rattle.definition.specs.declared.Refusal.TheVariants.{NotARecord}
 use Rattle.definition.specs.Types.{Segment, Job, Room, refused}
-use Rattle.definition.specs.Entry.{conj, answer}
+use Rattle.definition.specs.Entry.{answer}
 use Rattle.definition.proofs.Entries.{and_both, conj_all}
 use Rattle.definition.specs.Place.{total}
 use Rattle.reginfo.specs.Rows.{bank_row, memory_row, class_row, classes_at}
@@ -25,23 +25,8 @@ use Rattle.uses.specs.Rows.{use_row, raw_row}
 use Rattle.layout.specs.declared.Layout.{Layout}
 use Rattle.layout.specs.Layout.{Fits, seg_row, seg_at, next_use, job_uses, segment_of}
 use Rattle.job.specs.Job.{job_by, raw_job, job_of}
-use Rattle.job_shape.specs.Shape.{layout_of, end_of, use_counts, rises, choice_tests, choices_ok, counts_ok, table_tests, tables_ok, shape_tests, shape_ok, Shaped}
+use Rattle.job_shape.specs.Shape.{layout_of, end_of, use_counts, rises, counts_ok, table_tests, tables_ok, shape_tests, shape_ok, Shaped}
 use Rattle.job_shape.specs.Answer.{binary_job, answer_if, binary_answer}
-
--- ---- the tests, by their lists
-
-pub choices_are : (W : List ℕ) (lay : Layout) → conj (choice_tests W lay) ≡ choices_ok W lay
-unfolding choices_ok
-choices_are W lay = refl
-
-pub counts_are : (W : List ℕ) (lay : Layout)
-    → eqb (get_or (use_counts W lay) 0 lay.uses.n) 0 && rises 0 (use_counts W lay) lay.uses.n ≡ counts_ok W lay
-unfolding counts_ok
-counts_are W lay = refl
-
-pub tables_are : (W : List ℕ) (lay : Layout) → conj (table_tests W lay) ≡ tables_ok W lay
-unfolding tables_ok
-tables_are W lay = refl
 
 -- ---- what test 1 gives
 

@@ -1,12 +1,11 @@
 -- Entry test 1 on a binary job: the layout that a header gives, and what a slice of that shape is. Assumes nothing.
-use Rattle.std.specs.Prelude.{ℕ, ◌+◌, ◌*◌, ◌≤◌, ◌<◌, ◌≡◌, Bool, true, ◌&&◌, List, [], ◌∷◌, leb, ltb, eqb, length, get_or}
+use Rattle.std.specs.Prelude.{ℕ, ◌+◌, ◌*◌, ◌≤◌, ◌<◌, ◌≡◌, Bool, true, ◌&&◌, Option, is_some, IfSome, List, [], ◌∷◌, leb, ltb, eqb, length, get_or}
 use Rattle.rows.specs.RowsAt.{rows_at}
 use Rattle.words.specs.Words.{word_count, words_of}
 use Rattle.definition.specs.Entry.{conj, every}
 use Rattle.layout.specs.declared.Table.{Table}
 use Rattle.layout.specs.declared.Layout.{Layout}
 use Rattle.layout.specs.Layout.{Fits}
-use Rattle.job_shape.specs.declared.Shape.{Shape}
 
 abbrev pub table : ℕ → ℕ → Table
 table at n = record { at = at; n = n }
@@ -116,7 +115,7 @@ pub record Shaped (s : List ℕ) (lay : Layout) : Type 0 where
   pub counts : counts_ok (words_of s) lay ≡ true
 
 -- the code's answer to test 1
-pub record Formed (s : List ℕ) (r : Shape) : Type 0 where
-  pub is : r.ok ≡ shape_ok s
-  pub found : r.ok ≡ true → r.lay ≡ layout_of (words_of s)
-  pub shaped : r.ok ≡ true → Shaped s r.lay
+pub record Formed (s : List ℕ) (r : Option Layout) : Type 0 where
+  pub is : is_some r ≡ shape_ok s
+  pub found : IfSome r (λ lay. lay ≡ layout_of (words_of s))
+  pub shaped : IfSome r (λ lay. Shaped s lay)

@@ -8,13 +8,6 @@ ghost use Rattle.job_shape.specs.Shape.{Placed, table_behind, layout_of, all_bel
 
 use layout::{Layout, Table};
 
-// The answer to test 1: whether it is passed, and then the layout.
-#[derive(Clone, Copy)]
-pub struct Shape {
-    pub ok: bool,
-    pub lay: Layout,
-}
-
 // Word i as a number of rows or uses.
 fn count(job: &[u8], i: usize) -> usize
     requires { i < word_count job.now }
@@ -28,12 +21,9 @@ fn table_behind(job: &[u8], k: usize, t: Table, stride: usize) -> Table
     requires { (14 ≤ word_count job.now) × (k ≤ 8) × (stride ≤ 9) × Placed k t }
     ensures { (result ≡ table_behind t stride (get_or (words_of job.now) (k + 1) 0)) × Placed (k + 1) result }
 {
-    let at = t.at;
-    let rows = t.n;
-    let n = count(job, k + 1);
     Table {
-        at: at + rows * stride,
-        n,
+        at: t.at + t.n * stride,
+        n: count(job, k + 1),
     }
 }
 
@@ -75,16 +65,7 @@ pub fn all_below(job: &[u8], t: Table, stride: usize, col: usize, bound: u32) ->
     requires { (col < stride) × (t.at + t.n * stride ≤ word_count job.now) }
     ensures { result ≡ all_below (words_of job.now) t stride col bound }
 {
-    let at = t.at;
-    let n = t.n;
-    let mut i: usize = 0;
-    while i < n {
-        if bound <= words::word_at(job, at + i * stride + col) {
-            return false;
-        }
-        i += 1;
-    }
-    true
+    (0..t.n).all(|i| words::word_at(job, t.at + i * stride + col) < bound)
 }
 
 // Every choice is on its list: spillslots, memory, remat, incoming, flags, kind.
@@ -92,22 +73,12 @@ fn choices_ok(job: &[u8], lay: Layout) -> bool
     requires { Fits (word_count job.now) lay }
     ensures { result ≡ choices_ok (words_of job.now) lay }
 {
-    if !all_below(job, lay.classes, 4, 3, 2) {
-        return false;
-    }
-    if !all_below(job, lay.regs, 1, 0, 2) {
-        return false;
-    }
-    if !all_below(job, lay.values, 3, 2, 4) {
-        return false;
-    }
-    if !all_below(job, lay.hints, 3, 2, 2) {
-        return false;
-    }
-    if !all_below(job, lay.segments, 5, 3, 16) {
-        return false;
-    }
-    all_below(job, lay.uses, 6, 0, 10)
+    all_below(job, lay.classes, 4, 3, 2)
+        && all_below(job, lay.regs, 1, 0, 2)
+        && all_below(job, lay.values, 3, 2, 4)
+        && all_below(job, lay.hints, 3, 2, 2)
+        && all_below(job, lay.segments, 5, 3, 16)
+        && all_below(job, lay.uses, 6, 0, 10)
 }
 
 // The first segment's use count is 0; without a segment there is no use.
@@ -115,11 +86,11 @@ fn counts_begin(job: &[u8], lay: Layout) -> bool
     requires { Fits (word_count job.now) lay }
     ensures { result ≡ eqb (get_or (use_counts (words_of job.now) lay) 0 lay.uses.n) 0 }
 {
-    let at = lay.segments.at;
     if lay.segments.n == 0 {
-        return lay.uses.n == 0;
+        lay.uses.n == 0
+    } else {
+        words::word_at(job, lay.segments.at + 4) == 0
     }
-    words::word_at(job, at + 4) == 0
 }
 
 // The use counts do not fall, nor does the number of uses behind them.
@@ -127,17 +98,13 @@ fn counts_rise(job: &[u8], lay: Layout) -> bool
     requires { Fits (word_count job.now) lay }
     ensures { result ≡ rises 0 (use_counts (words_of job.now) lay) lay.uses.n }
 {
-    let at = lay.segments.at;
-    let n = lay.segments.n;
     let mut last: usize = 0;
-    let mut i: usize = 0;
-    while i < n {
-        let next = count(job, at + i * 5 + 4);
+    for i in 0..lay.segments.n {
+        let next = count(job, lay.segments.at + i * 5 + 4);
         if next < last {
             return false;
         }
         last = next;
-        i += 1;
     }
     last <= lay.uses.n
 }
@@ -147,60 +114,24 @@ fn tables_ok(job: &[u8], lay: Layout) -> bool
     requires { Fits (word_count job.now) lay }
     ensures { result ≡ tables_ok (words_of job.now) lay }
 {
-    let banks = lay.banks.n;
-    let classes = lay.classes.n;
-    let blocks = lay.blocks.n;
-    if banks < 1 {
-        return false;
-    }
-    if classes < 1 {
-        return false;
-    }
-    if blocks < 1 {
-        return false;
-    }
-    if !choices_ok(job, lay) {
-        return false;
-    }
-    if !counts_begin(job, lay) {
-        return false;
-    }
-    counts_rise(job, lay)
-}
-
-fn no_layout() -> Layout {
-    let none = Table { at: 0, n: 0 };
-    Layout {
-        opts: 0,
-        banks: none,
-        classes: none,
-        regs: none,
-        blocks: none,
-        values: none,
-        vgroups: none,
-        operands: none,
-        hints: none,
-        segments: none,
-        uses: none,
-    }
+    1 <= lay.banks.n
+        && 1 <= lay.classes.n
+        && 1 <= lay.blocks.n
+        && choices_ok(job, lay)
+        && counts_begin(job, lay)
+        && counts_rise(job, lay)
 }
 
 // Test 1: the layout of a slice that is exactly as long as its header says and whose tables pass.
-pub fn find_layout(job: &[u8]) -> Shape
+pub fn find_layout(job: &[u8]) -> Option<Layout>
     ensures { Formed job.now result }
 {
     if job.len() < 56 {
-        return Shape {
-            ok: false,
-            lay: no_layout(),
-        };
+        return None;
     }
     let lay = layout_of(job);
-    let at = lay.uses.at;
-    let uses = lay.uses.n;
-    if job.len() != (at + uses * 6) * 4 {
-        return Shape { ok: false, lay };
+    if job.len() != (lay.uses.at + lay.uses.n * 6) * 4 {
+        return None;
     }
-    let ok = tables_ok(job, lay);
-    Shape { ok, lay }
+    tables_ok(job, lay).then_some(lay)
 }

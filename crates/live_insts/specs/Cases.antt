@@ -1,5 +1,5 @@
 -- Case H of document 01, read off tables: [2,4),[4,6) gives 2; [0,1),[1,2) gives 1. Assumes nothing.
-use Rattle.std.specs.Prelude.{◌≡◌, refl, List, [], ◌∷◌, ℕ}
+use Rattle.std.specs.Prelude.{◌≡◌, refl, [], ◌∷◌, ℕ}
 use Rattle.rows.specs.RowsAt.{rows_at}
 use Rattle.live_insts.specs.Ranges.{range_at, range_insts}
 

@@ -30,23 +30,12 @@ pub fn range_at(t: &[u8], i: usize) -> LiveRangeSegment
     }
 }
 
-// a - b, or 0 where that is less.
-fn minus(a: u32, b: u32) -> u32
-    ensures { result ≡ a - b }
-{
-    if b < a { a - b } else { 0 }
-}
-
 // The instructions that a range touches, those below `counted` left out.
 pub fn new_insts(counted: Inst, s: LiveRangeSegment) -> u32
     ensures { result ≡ new_insts counted.0 s }
 {
-    let first = inst_of(s.from).0;
-    let end = next_inst(s.to).0;
-    if first < counted.0 {
-        return minus(end, counted.0);
-    }
-    minus(end, first)
+    let first = counted.0.max(inst_of(s.from).0);
+    next_inst(s.to).0.saturating_sub(first)
 }
 
 // The different instructions that n rows touch, the first at word `at`: what an earlier row touches is counted already.
@@ -56,12 +45,10 @@ pub fn live_insts(t: &[u8], at: usize, n: usize) -> u32
 {
     let mut sum: u32 = 0;
     let mut counted = Inst(0);
-    let mut i: usize = 0;
-    while i < n {
+    for i in 0..n {
         let s = range_at(t, at + i * 7);
         sum += new_insts(counted, s);
         counted = next_inst(s.to);
-        i += 1;
     }
     sum
 }

@@ -1,5 +1,5 @@
 -- Where the fields fit their types, a row read modulo them is the row as it stands. Assumes nothing.
-use mathlib.Core.Path.{◌≡◌, refl, sym, ap, ap₂, ◌∙◌}
+use mathlib.Core.Path.{◌≡◌, refl, sym, ap, ◌∙◌}
 use mathlib.Core.Bool.{Bool, true, false, ◌&&◌}
 use mathlib.Core.List.{List}
 use Prim.Native.Nat.{ℕ, ◌+◌, ◌%◌, ◌≤◌, ◌<◌}
@@ -12,7 +12,7 @@ use Rattle.definition.specs.declared.UseKind.{UseKind}
 use Rattle.definition.specs.declared.UseKind.TheVariants.{FixedDef, FixedUse, TiedUse, ConstraintConflict, ClassUse, ClassDef, GroupClassUse, GroupClassDef, BlockparamIn, BlockparamOut}
 use Rattle.definition.specs.declared.Use.{Use}
 use Rattle.definition.specs.Types.{inst, cls}
-use Rattle.uses.specs.declared.Decoded.TheVariants.{One, Bad}
+use Rattle.std.specs.Prelude.{Some, None}
 use Rattle.uses.specs.Rows.{pick_k, pick_b, reg, raw_kind, kind_of, fit, typed_kind, use_row, raw_row, typed_row, decoded_row}
 
 both : (p q : Bool) → p && q ≡ true → (p ≡ true) × (q ≡ true)
@@ -61,18 +61,18 @@ typed_row_lem W i e = ap (λ (k : UseKind). record { pos = inst (get_or W (i + 1
 -- ---- a row decoded
 
 module _ (W : List ℕ) (i : ℕ) where
-  pub decoded_kind : (k : ℕ) → k ≡ get_or W i 0 → 10 ≤ k → Bad ≡ decoded_row W i
+  pub decoded_kind : (k : ℕ) → k ≡ get_or W i 0 → 10 ≤ k → None ≡ decoded_row W i
   unfolding decoded_row
   decoded_kind k e h = let l : 10 ≤ get_or W i 0 = omega (arith, e) in rw (le-ltb _ _ l)
 
   module _ (k : ℕ) (e : k ≡ get_or W i 0) (h : k < 10) (t : Bool) (f : t ≡ typed_row W i) where
-    pub decoded_field : t ≡ false → Bad ≡ decoded_row W i
+    pub decoded_field : t ≡ false → None ≡ decoded_row W i
     unfolding decoded_row
     decoded_field n = let l : get_or W i 0 < 10 = omega (arith, e) in rw (lt-ltb _ _ l, sym f ∙ n)
 
-    pub decoded_one : (u : Use) → t ≡ true → u ≡ use_row W i → One u ≡ decoded_row W i
+    pub decoded_one : (u : Use) → t ≡ true → u ≡ use_row W i → Some u ≡ decoded_row W i
     unfolding decoded_row
-    decoded_one u y q = let l : get_or W i 0 < 10 = omega (arith, e) in rw (lt-ltb _ _ l, sym f ∙ y) (ap One (q ∙ typed_row_lem W i (sym f ∙ y)))
+    decoded_one u y q = let l : get_or W i 0 < 10 = omega (arith, e) in rw (lt-ltb _ _ l, sym f ∙ y) (ap Some (q ∙ typed_row_lem W i (sym f ∙ y)))
 
   -- the test on the words that were read
   pub typed_words : (k a b c d : ℕ) → k ≡ get_or W i 0 → a ≡ get_or W (i + 2) 0 → b ≡ get_or W (i + 3) 0 → c ≡ get_or W (i + 4) 0 → d ≡ get_or W (i + 5) 0 → typed_kind k a b c d ≡ typed_row W i

@@ -1,14 +1,11 @@
 -- The rows of a use table. Assumes nothing.
-use Rattle.std.specs.Prelude.{ℕ, ◌+◌, ◌%◌, Bool, true, false, ◌&&◌, List, eqb, ltb, get_or}
+use Rattle.std.specs.Prelude.{ℕ, ◌+◌, ◌%◌, Bool, true, false, ◌&&◌, Option, Some, None, List, eqb, ltb, get_or}
 use Rattle.rows.specs.RowsAt.{rows_at}
 use Rattle.definition.specs.declared.PhysReg.{PhysReg}
-use Rattle.definition.specs.declared.RegClass.{RegClass}
 use Rattle.definition.specs.declared.Use.{Use}
 use Rattle.definition.specs.declared.UseKind.{UseKind}
 use Rattle.definition.specs.declared.UseKind.TheVariants.{FixedDef, FixedUse, TiedUse, ConstraintConflict, ClassUse, ClassDef, GroupClassUse, GroupClassDef, BlockparamIn, BlockparamOut}
 use Rattle.definition.specs.Types.{inst, cls}
-use Rattle.uses.specs.declared.Decoded.{Decoded}
-use Rattle.uses.specs.declared.Decoded.TheVariants.{One, Bad}
 
 abbrev pub pick_k : Bool → UseKind → UseKind → UseKind
 pick_k true x y = x
@@ -69,13 +66,13 @@ raw_row W i = record { pos = inst (get_or W (i + 1) 0); kind = raw_kind (get_or 
 unfoldable pub typed_row : List ℕ → ℕ → Bool
 typed_row W i = typed_kind (get_or W i 0) (get_or W (i + 2) 0) (get_or W (i + 3) 0) (get_or W (i + 4) 0) (get_or W (i + 5) 0)
 
-abbrev pub pick_d : Bool → Decoded → Decoded → Decoded
+abbrev pub pick_d : Bool → Option Use → Option Use → Option Use
 pick_d true x y = x
 pick_d false x y = y
 
 -- a use as it stands, if its kind is one and its fields fit their types
-unfoldable pub decoded_row : List ℕ → ℕ → Decoded
-decoded_row W i = pick_d (ltb (get_or W i 0) 10) (pick_d (typed_row W i) (One (raw_row W i)) Bad) Bad
+unfoldable pub decoded_row : List ℕ → ℕ → Option Use
+decoded_row W i = pick_d (ltb (get_or W i 0) 10) (pick_d (typed_row W i) (Some (raw_row W i)) None) None
 
 -- n uses from word `at` on
 unfoldable pub uses_at : List ℕ → ℕ → ℕ → List Use

@@ -69,13 +69,7 @@ pub fn use_at(t: &[u8], i: usize) -> Use
 fn within(a: u32, b: u32, i: u32) -> bool
     ensures { result ≡ fit a b i }
 {
-    if 65536 <= a {
-        return false;
-    }
-    if 65536 <= b {
-        return false;
-    }
-    i < 256
+    a < 65536 && b < 65536 && i < 256
 }
 
 // Whether a kind's fields fit their UseKind types.
@@ -84,29 +78,20 @@ pub fn fields_fit(kind: u32, a: u32, b: u32, c: u32, d: u32) -> bool
 {
     match kind {
         2 => within(a, b, d),
-        4 => within(a, 0, 0),
-        5 => within(a, 0, 0),
-        6 => within(a, 0, c),
-        7 => within(a, 0, c),
+        4 | 5 => within(a, 0, 0),
+        6 | 7 => within(a, 0, c),
         _ => true,
     }
 }
 
-// What stands at a row of a use table.
-#[derive(Clone, Copy)]
-pub enum Decoded {
-    One(Use),
-    Bad,
-}
-
-// The use whose row begins at word i; Bad where its kind is none or a field is beyond its UseKind type.
-pub fn decode(t: &[u8], i: usize) -> Decoded
+// The use whose row begins at word i; None where its kind is none or a field is beyond its UseKind type.
+pub fn decode(t: &[u8], i: usize) -> Option<Use>
     requires { i + 6 ≤ word_count t.now }
     ensures { result ≡ decoded_row (words_of t.now) i }
 {
     let kind = words::word_at(t, i);
     if 10 <= kind {
-        return Decoded::Bad;
+        return None;
     }
     let fits = fields_fit(
         kind,
@@ -115,44 +100,31 @@ pub fn decode(t: &[u8], i: usize) -> Decoded
         words::word_at(t, i + 4),
         words::word_at(t, i + 5),
     );
-    if fits {
-        return Decoded::One(use_at(t, i));
-    }
-    Decoded::Bad
+    if fits { Some(use_at(t, i)) } else { None }
 }
 
 pub fn is_def(kind: UseKind) -> bool
     ensures { result ≡ is_def kind }
 {
-    match kind {
-        UseKind::FixedDef { .. } => true,
-        UseKind::FixedUse { .. } => false,
-        UseKind::TiedUse { .. } => false,
-        UseKind::ConstraintConflict => false,
-        UseKind::ClassUse { .. } => false,
-        UseKind::ClassDef { .. } => true,
-        UseKind::GroupClassUse { .. } => false,
-        UseKind::GroupClassDef { .. } => true,
-        UseKind::BlockparamIn { .. } => true,
-        UseKind::BlockparamOut => false,
-    }
+    matches!(
+        kind,
+        UseKind::FixedDef { .. }
+            | UseKind::ClassDef { .. }
+            | UseKind::GroupClassDef { .. }
+            | UseKind::BlockparamIn { .. }
+    )
 }
 
 pub fn is_class_use(kind: UseKind) -> bool
     ensures { result ≡ is_class_use kind }
 {
-    match kind {
-        UseKind::FixedDef { .. } => false,
-        UseKind::FixedUse { .. } => false,
-        UseKind::TiedUse { .. } => false,
-        UseKind::ConstraintConflict => false,
-        UseKind::ClassUse { .. } => true,
-        UseKind::ClassDef { .. } => true,
-        UseKind::GroupClassUse { .. } => true,
-        UseKind::GroupClassDef { .. } => true,
-        UseKind::BlockparamIn { .. } => false,
-        UseKind::BlockparamOut => false,
-    }
+    matches!(
+        kind,
+        UseKind::ClassUse { .. }
+            | UseKind::ClassDef { .. }
+            | UseKind::GroupClassUse { .. }
+            | UseKind::GroupClassDef { .. }
+    )
 }
 
 // How many points past its instruction's Boundary a use of the kind ends.
@@ -160,16 +132,15 @@ fn end_slot(kind: UseKind) -> u32
     ensures { (result ≡ end_slot kind) × (result ≤ 4) }
 {
     match kind {
-        UseKind::FixedDef { .. } => 4,
-        UseKind::FixedUse { .. } => 0,
-        UseKind::TiedUse { .. } => 0,
-        UseKind::ConstraintConflict => 0,
-        UseKind::ClassUse { .. } => 2,
-        UseKind::ClassDef { .. } => 4,
-        UseKind::GroupClassUse { .. } => 2,
-        UseKind::GroupClassDef { .. } => 4,
-        UseKind::BlockparamIn { .. } => 0,
-        UseKind::BlockparamOut => 4,
+        UseKind::ClassDef { .. }
+        | UseKind::FixedDef { .. }
+        | UseKind::GroupClassDef { .. }
+        | UseKind::BlockparamOut => 4,
+        UseKind::ClassUse { .. } | UseKind::GroupClassUse { .. } => 2,
+        UseKind::FixedUse { .. }
+        | UseKind::TiedUse { .. }
+        | UseKind::ConstraintConflict
+        | UseKind::BlockparamIn { .. } => 0,
     }
 }
 
@@ -178,9 +149,7 @@ pub fn end_point(u: Use) -> LiveRangePoint
     requires { u.pos.0 < 4096 }
     ensures { result ≡ end_point u }
 {
-    let kind = u.kind;
-    let off = end_slot(kind);
-    LiveRangePoint(4 * u.pos.0 + off)
+    LiveRangePoint(4 * u.pos.0 + end_slot(u.kind))
 }
 
 // How many of the n uses from word `at` on come before instruction p: these go left at a cut, the rest right.
@@ -188,12 +157,10 @@ pub fn count_before(t: &[u8], at: usize, n: usize, p: Inst) -> usize
     requires { at + n * 6 ≤ word_count t.now }
     ensures { (result ≡ length (uses_before p (uses_at (words_of t.now) at n))) × (result ≤ n) }
 {
-    let mut i: usize = 0;
-    while i < n {
+    for i in 0..n {
         if p.0 <= words::word_at(t, at + i * 6 + 1) {
             return i;
         }
-        i += 1;
     }
     n
 }

@@ -1,5 +1,5 @@
 -- From the verdict on a sheet to its answer. Assumes nothing.
-use Rattle.std.specs.Prelude.{◌≡◌, refl, List, ℕ, length, replicate}
+use Rattle.std.specs.Prelude.{◌≡◌, refl, Ok, Err, List, ℕ, length, replicate}
 use Rattle.std.proofs.Common.{sym, ap, subst, ◌∙◌, arith}
 use Rattle.std.proofs.Math.Option.{Option, none, some}
 use Rattle.std.proofs.lemmas.List.{length-replicate}
@@ -8,7 +8,7 @@ use Rattle.definition.specs.Build.{Result, build}
 use Rattle.definition.specs.Limits.{vregs_room}
 use Rattle.definition.specs.declared.SheetRefusal.{SheetRefusal}
 use Rattle.definition.specs.declared.SheetRefusal.TheVariants.{By, WrittenDiffers}
-use Rattle.definition.specs.SheetForms.{SheetOut, verdict, answer_to_sheet}
+use Rattle.definition.specs.SheetForms.{SheetOut, sheet_number_of, answer_to_sheet}
 use Rattle.definition.proofs.Forms.{not_zero, answer_refused, answer_passed}
 use Rattle.job.specs.Job.{raw_job}
 use Rattle.virt_regs.specs.declared.OutLayout.{OutLayout}
@@ -46,31 +46,27 @@ cleared_tables ol n x e h z =
 
 -- ---- by the verdict
 
+-- a verdict without a number is none
 none_by : (v : Option SheetRefusal) → verdict_number v ≡ 0 → v ≡ none
 none_by none e = refl
 none_by (some (By r)) e = absurd (not_zero r e)
 none_by (some WrittenDiffers) e = absurd (omega (arith, e))
 
-module _ (n : ℕ) (cur : Reading) (T Y K : List ℕ) (e : Entered) (j : Judged cur T Y K e) where
+module _ (n : ℕ) (cur : Reading) (T Y K : List ℕ) where
   -- a refusal, by its number alone
-  pub answers_refused : (e.number ≡ 0 → ⊥) → (r : BuildEnd) → r ≡ refusal e.number → (x : List ℕ)
-      → x ≡ replicate n 0 → Answers n cur (words_of T) Y r x
-  answers_refused h r d x z sheet s = go (verdict sheet) refl (j.number sheet s)
-    where
-      go : (v : Option SheetRefusal) → verdict sheet ≡ v → e.number ≡ verdict_number v
-          → SheetAnswered n vregs_tables (answer_to_sheet sheet vregs_room) r x
-      go none f q = absurd (h q)
-      go (some k) f q = sheet_refused n vregs_tables (answer_to_sheet sheet vregs_room) k r x
-          (answer_refused sheet vregs_room k f) (d ∙ ap refusal q) z
+  pub answers_refused : (f : SheetRefusal) → Judged cur T Y K (Err f) → (k : ℕ) → k ≡ sheet_number_of f → (r : BuildEnd)
+      → r ≡ refusal k → (x : List ℕ) → x ≡ replicate n 0 → Answers n cur (words_of T) Y r x
+  answers_refused f j k e r d x z sheet s =
+      sheet_refused n vregs_tables (answer_to_sheet sheet vregs_room) f r x
+      (answer_refused sheet vregs_room f (sym (j.refused sheet s))) (d ∙ ap refusal e) z
 
   -- the build of a sheet that passes
-  pub answers_built : e.number ≡ 0 → (m : ℕ) → m ≡ n → (ol : OutLayout) → ol ≡ vregs_tables
+  pub answers_built : (e : Entered) → Judged cur T Y K (Ok e) → (m : ℕ) → m ≡ n → (ol : OutLayout) → ol ≡ vregs_tables
       → (r : BuildEnd) (x : List ℕ)
       → Answered m ol (build (raw_job (words_of T) e.lay) (room_of ol)) r x → Answers n cur (words_of T) Y r x
-  answers_built z m l ol d r x a sheet s =
+  answers_built e j m l ol d r x a sheet s =
       subst (λ (o : SheetOut Result). SheetAnswered n vregs_tables o r x)
-      (sym (answer_passed sheet vregs_room (raw_job (words_of T) e.lay)
-      (none_by (verdict sheet) (sym (j.number sheet s) ∙ z)) (j.job z sheet s)))
+      (sym (answer_passed sheet vregs_room (raw_job (words_of T) e.lay) (sym (j.refused sheet s)) (j.job sheet s)))
       (answered_lift
       (subst (λ (k : ℕ). Answered k vregs_tables (build (raw_job (words_of T) e.lay) vregs_room) r x) l
       (subst (λ (t : OutLayout). Answered m t (build (raw_job (words_of T) e.lay) (room_of t)) r x) d a)))

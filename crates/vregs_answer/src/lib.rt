@@ -7,9 +7,9 @@ ghost use Rattle.work_layout.specs.Regions.{max_work};
 ghost use Rattle.sheet_places.specs.Places.{table_words};
 ghost use Rattle.sheet_form.specs.Front.{formed, open_form};
 ghost use Rattle.sheet_form.specs.Stream.{Streamed};
-ghost use Rattle.vregs_answer.specs.Sheet.{vregs_tables, refusal, Answers};
+ghost use Rattle.vregs_answer.specs.Sheet.{vregs_tables, Answers};
 
-use build_answer::BuildEnd;
+use build_answer::{BuildEnd, refuse, sheet_number_of};
 use sheet_form::Reading;
 use virt_regs::OutLayout;
 
@@ -25,17 +25,6 @@ pub fn vregs_tables() -> OutLayout
     }
 }
 
-// A refusal: its number alone.
-fn refuse(number: u32) -> BuildEnd
-    ensures { result ≡ refusal number }
-{
-    BuildEnd {
-        number,
-        registers: 0,
-        groups: 0,
-    }
-}
-
 // The definition's answer to every sheet that leads the reader to this state and these tables.
 pub fn answer_table(
     cur: Reading,
@@ -48,10 +37,8 @@ pub fn answer_table(
     ensures { Answers (length out.old) cur (words_of table.now) (words_of written.now) result out.new }
 {
     spans::clear(out);
-    let e = sheet_verdict::judge(cur, table, written, work);
-    let number = e.number;
-    if number != 0 {
-        return refuse(number);
+    match sheet_verdict::judge(cur, table, written, work) {
+        Ok(e) => build::build_entered(table, e, out, vregs_tables(), work),
+        Err(r) => refuse(sheet_number_of(r)),
     }
-    build::build_entered(table, e, out, vregs_tables(), work)
 }

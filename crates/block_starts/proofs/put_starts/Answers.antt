@@ -1,4 +1,3 @@
-use Prim.Native.Nat.{◌-◌}
 use native.Mathlib.Omega.{arith}
 use Rattle.block_starts.proofs.Loops.{put_first, put_fits, put_next, put_last}
 use Rattle.block_starts.proofs.put_starts.Goals as goal

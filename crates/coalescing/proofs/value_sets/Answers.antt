@@ -1,5 +1,4 @@
 use native.Mathlib.Omega.{arith}
-use Prim.Native.Nat.{◌-◌}
 use Rattle.coalescing.proofs.Members.{fill_start, fill_next, fill_done}
 use Rattle.coalescing.proofs.value_sets.Goals as goal
 

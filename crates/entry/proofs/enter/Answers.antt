@@ -1,31 +1,26 @@
 use native.Mathlib.Omega.{arith}
 use mathlib.Core.Path.{refl, sym, ◌∙◌}
 use Rattle.job_shape.proofs.Tests.{passed}
-use Rattle.entry.proofs.Numbers.{number_limits, number_book, number_tables}
+use Rattle.entry.proofs.Numbers.{entry_limits, entry_book, entry_tables}
 use Rattle.entry.proofs.Counts.{rising}
-use Rattle.entry.proofs.Entering.{no_entry_lem, few, indexes, accepted}
+use Rattle.entry.proofs.Entering.{err_kept, few, indexes, accepted}
 use Rattle.entry.proofs.enter.Goals as goal
 
 pub limits_ok-requires : goal.limits_ok-requires
 limits_ok-requires c = c.requires.0
 
 pub returns-then-not-limits_ok : goal.returns-then-not-limits_ok
-returns-then-not-limits_ok c =
-    let both = no_entry_lem _ 1 _ _ c.refuse.ensures (number_limits _ _ c.if-not-limits_ok.true-raw c.limits_ok.ensures) in
-    record { number_value = both.0; accepted = both.1 }
+returns-then-not-limits_ok c = record { refused = entry_limits _ _ c.if-not-limits_ok.true-raw c.limits_ok.ensures; accepted = tt }
 
 pub book_ok-requires : goal.book_ok-requires
 book_ok-requires c = let b = c.requires.0 in
     (b.fits, few b c.if-not-limits_ok.false-raw c.limits_ok.ensures)
 
 pub returns-then-not-book_ok : goal.returns-then-not-book_ok
-returns-then-not-book_ok c =
-    let both = no_entry_lem _ 2 _ _ c.refuse-then-not-book_ok.ensures
-    (number_book _ _ c.if-not-limits_ok.false-raw c.limits_ok.ensures c.if-not-book_ok.true-raw c.book_ok.ensures) in
-    record { number_value = both.0; accepted = both.1 }
+returns-then-not-book_ok c = record { refused = entry_book _ _ c.if-not-limits_ok.false-raw c.limits_ok.ensures c.if-not-book_ok.true-raw c.book_ok.ensures; accepted = tt }
 
-pub overflow_cast-blocks : goal.overflow_cast-blocks
-overflow_cast-blocks c = let l = few c.requires.0 c.if-not-limits_ok.false-raw c.limits_ok.ensures in
+pub overflow_cast-lay : goal.overflow_cast-lay
+overflow_cast-lay c = let l = few c.requires.0 c.if-not-limits_ok.false-raw c.limits_ok.ensures in
     record { fits = omega (arith, l.blocks) }
 
 pub count_insts-insts-requires : goal.count_insts-insts-requires
@@ -38,13 +33,22 @@ work_layout-wl-requires c = let l = few c.requires.0 c.if-not-limits_ok.false-ra
 pub chains_in-requires : goal.chains_in-requires
 chains_in-requires c = omega (arith, c.work_layout-wl.ensures.1.heads)
 
-pub test_tables-number-requires : goal.test_tables-number-requires
-test_tables-number-requires c = let p = c.requires in (
+pub test_tables-requires : goal.test_tables-requires
+test_tables-requires c = let p = c.requires in (
   p.0.fits,
   rising _ _ p.0.counts,
   passed c.if-not-limits_ok.false-raw c.limits_ok.ensures,
   indexes p.1 c.count_insts-insts.ensures c.work_layout-wl.ensures.1 c.chains_in.ensures,
 )
 
+pub returns-in_err-test_tables-clause-refused : goal.returns-in_err-test_tables-clause-refused
+returns-in_err-test_tables-clause-refused c =
+    entry_tables _ _ c.if-not-limits_ok.false-raw c.limits_ok.ensures c.if-not-book_ok.false-raw c.book_ok.ensures (err_kept _ _ c.from_residual.ensures.1 ∙ c.in_err-test_tables.ensures.value)
+
 pub returns : goal.returns
-returns c = let n = number_tables _ _ c.if-not-limits_ok.false-raw c.limits_ok.ensures c.if-not-book_ok.false-raw c.book_ok.ensures c.test_tables-number.ensures.value in record { number_value = (n, refl); accepted = λ e. accepted _ _ c.requires.0 (sym n ∙ e) _ _ _ (λ i. omega (arith, c.shared_slice_known-1.given i)) c.count_insts-insts.ensures c.work_layout-wl.ensures.1 _ c.chains_in.ensures (c.test_tables-number.ensures.chained e) }
+returns c = let t = c.in_ok-test_tables.ensures in
+    let n = entry_tables _ _ c.if-not-limits_ok.false-raw c.limits_ok.ensures c.if-not-book_ok.false-raw c.book_ok.ensures t.value in
+    record {
+      refused = n;
+      accepted = (refl, accepted _ _ c.requires.0 (sym n) _ _ _ (λ i. omega (arith, c.shared_slice_known-1.given i)) c.count_insts-insts.ensures c.work_layout-wl.ensures.1 _ c.chains_in.ensures t.chained);
+    }

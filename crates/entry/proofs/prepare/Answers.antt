@@ -8,8 +8,8 @@ clear_words-requires c = let p = c.requires in
     let r = p.0.regions in
     omega (arith, p.1, r.mapping, r.starts, r.marks, r.turned)
 
-pub overflow_cast-blocks : goal.overflow_cast-blocks
-overflow_cast-blocks c = let p = c.requires in
+pub overflow_cast-lay : goal.overflow_cast-lay
+overflow_cast-lay c = let p = c.requires in
     record { fits = omega (arith, p.0.limited.blocks) }
 
 pub put_starts-requires : goal.put_starts-requires

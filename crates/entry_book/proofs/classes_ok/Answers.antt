@@ -1,20 +1,11 @@
-use mathlib.Core.Path.{sym, ◌∙◌}
-use Prim.Native.Nat.{◌-◌}
+use Rattle.std.proofs.Common.{rules, tests}
+use Rattle.words.specs.Words.{words_of}
 use Rattle.definition.specs.Entry.{class_ok}
-use Rattle.reginfo.specs.Rows.{class_row}
-use Rattle.job_shape.proofs.Every.{every_next, every_not, every_last}
-use Rattle.job_shape.proofs.Tests.{passed, failed}
-use Rattle.entry_book.proofs.Classes.{classes_first}
+use Rattle.reginfo.specs.Rows.{class_row, classes_at}
+use Rattle.function.specs.Every.{every_row_from_all}
 use Rattle.entry_book.proofs.classes_ok.Goals as goal
 
-pub loop-i-init : goal.loop-i-init
-loop-i-init c = classes_first _ _ _ _
-
-pub returns-then-not-class_ok : goal.returns-then-not-class_ok
-returns-then-not-class_ok c = sym (c.loop-i.invariant ∙ every_not _ class_row _ _ 4 _ _ c.loop-i-test.true (failed c.if-not-class_ok.true-raw c.class_ok.ensures))
-
-pub loop-i-preserved : goal.loop-i-preserved
-loop-i-preserved c = c.loop-i.invariant ∙ every_next _ class_row _ _ 4 _ _ c.loop-i-test.true (passed c.if-not-class_ok.false-raw c.class_ok.ensures)
-
 pub returns : goal.returns
-returns c = sym (c.loop-i.invariant ∙ every_last _ class_row _ _ 4 _ _ c.loop-i-test.false)
+unfolding classes_at
+returns c = let cs = classes_at (words_of c.args.job.now) c.args.classes.at c.args.classes.n in
+    every_row_from_all (class_ok cs) class_row (words_of c.args.job.now) c.args.classes.at 4 c.args.classes.n c.all.ensures.ran (λ x b q k. search (rules, tests))

@@ -1,5 +1,4 @@
 use mathlib.Core.Path.{sym, ◌∙◌}
-use Prim.Native.Nat.{◌-◌}
 use Rattle.job_shape.proofs.Tests.{passed, failed}
 use Rattle.entry_book.proofs.Sizes.{sized_first, sized_next, sized_not, sized_last}
 use Rattle.entry_book.proofs.sizes_agree.Goals as goal

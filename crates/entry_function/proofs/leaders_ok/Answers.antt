@@ -1,20 +1,12 @@
-use native.Mathlib.Omega.{arith}
-use Prim.Native.Nat.{◌-◌}
-use Rattle.entry_function.proofs.Scans.{each_start, each_next, each_stop, each_done}
-use Rattle.rows.specs.RowsAt.{rows_at}
-use Rattle.coalescing.specs.Rows.{values_at}
+use Rattle.std.proofs.Common.{rules, tests}
+use Rattle.words.specs.Words.{words_of}
+use Rattle.definition.specs.Entry.{leader_ok}
+use Rattle.coalescing.specs.Rows.{value_row, values_at}
+use Rattle.job.specs.Job.{raw_job}
+use Rattle.function.specs.Every.{every_row_from_all}
 use Rattle.entry_function.proofs.leaders_ok.Goals as goal
 
-pub loop-i-init : goal.loop-i-init
-loop-i-init c = each_start _ _ _
-
-pub returns-then-not-leads_at : goal.returns-then-not-leads_at
-unfolding values_at rows_at
-returns-then-not-leads_at c = each_stop _ c.loop-i.invariant (omega arith) c.leads_at.ensures c.if-not-leads_at.true-raw
-
-pub loop-i-preserved : goal.loop-i-preserved
-loop-i-preserved c = each_next _ c.loop-i.invariant (omega arith) c.leads_at.ensures c.if-not-leads_at.false-raw
-
 pub returns : goal.returns
-unfolding values_at rows_at
-returns c = each_done c.loop-i.invariant (omega arith)
+unfolding values_at
+returns c = let W = words_of c.args.job.now in
+    every_row_from_all (leader_ok (raw_job W c.args.lay)) value_row W c.args.lay.values.at 3 c.args.lay.values.n c.all.ensures.ran (λ x b q k. search (rules, tests))

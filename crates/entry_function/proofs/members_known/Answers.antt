@@ -1,17 +1,16 @@
-use mathlib.Core.Path.{refl}
-use Prim.Native.Nat.{◌-◌}
-use Rattle.entry_function.proofs.Scans.{each_start}
-use Rattle.entry_function.proofs.Tests.{member_bad, member_next, members_done}
+use mathlib.Core.Path.{◌∙◌}
+use lib.ListN.{get_or}
+use Rattle.std.proofs.Common.{rules, tests}
+use Rattle.words.specs.Words.{words_of}
+use Rattle.definition.specs.Types.{val}
+use Rattle.coalescing.specs.Rows.{vgroup_row}
+use Rattle.function.specs.Every.{every_from_all}
+use Rattle.entry_function.specs.Counts.{known}
+use Rattle.entry_function.proofs.Tests.{every_member}
 use Rattle.entry_function.proofs.members_known.Goals as goal
 
-pub loop-k-init : goal.loop-k-init
-loop-k-init c = each_start _ _ _
-
-pub returns-then-values-member_at : goal.returns-then-values-member_at
-returns-then-values-member_at c = member_bad _ _ _ _ _ _ _ c.loop-k.invariant c.group_len-n.ensures c.loop-k-test.true c.member_at.ensures refl c.if-values-member_at.true
-
-pub loop-k-preserved : goal.loop-k-preserved
-loop-k-preserved c = member_next _ _ _ _ _ _ _ c.loop-k.invariant c.group_len-n.ensures c.loop-k-test.true c.member_at.ensures refl c.if-values-member_at.false
-
 pub returns : goal.returns
-returns c = members_done _ _ _ _ _ c.loop-k.invariant c.group_len-n.ensures c.loop-k-test.false
+unfolding known
+returns c = let W = words_of c.args.job.now in
+    every_from_all (known c.args.values) (λ k. get_or (vgroup_row W c.args.at) k (val 0)) _ c.all.ensures.ran (λ x b q k. search (rules, tests))
+    ∙ every_member (known c.args.values) W c.args.at _ c.group_len.ensures

@@ -1,21 +1,12 @@
-use native.Mathlib.Omega.{arith}
-use Prim.Native.Nat.{◌-◌}
-use Rattle.entry_function.proofs.Scans.{each_start, each_next, each_stop, each_done}
-use Rattle.rows.specs.RowsAt.{rows_at}
+use Rattle.std.proofs.Common.{rules, tests}
+use Rattle.words.specs.Words.{words_of}
 use Rattle.definition.specs.Entry.{vgroup_ok}
-use Rattle.coalescing.specs.Rows.{vgroups_at}
+use Rattle.coalescing.specs.Rows.{vgroup_row, vgroups_at}
+use Rattle.job.specs.Job.{raw_job}
+use Rattle.function.specs.Every.{every_row_from_all}
 use Rattle.entry_function.proofs.vgroups_ok.Goals as goal
 
-pub loop-i-init : goal.loop-i-init
-loop-i-init c = each_start _ _ _
-
-pub returns-then-not-vgroup_ok : goal.returns-then-not-vgroup_ok
-unfolding vgroups_at rows_at
-returns-then-not-vgroup_ok c = each_stop _ c.loop-i.invariant (omega arith) c.vgroup_ok.ensures c.if-not-vgroup_ok.true-raw
-
-pub loop-i-preserved : goal.loop-i-preserved
-loop-i-preserved c = each_next _ c.loop-i.invariant (omega arith) c.vgroup_ok.ensures c.if-not-vgroup_ok.false-raw
-
 pub returns : goal.returns
-unfolding vgroups_at rows_at
-returns c = each_done c.loop-i.invariant (omega arith)
+unfolding vgroups_at
+returns c = let W = words_of c.args.job.now in
+    every_row_from_all (vgroup_ok (raw_job W c.args.lay)) vgroup_row W c.args.lay.vgroups.at 9 c.args.lay.vgroups.n c.all.ensures.ran (λ x b q k. search (rules, tests))

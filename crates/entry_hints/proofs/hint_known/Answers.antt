@@ -1,8 +1,10 @@
-use Rattle.entry_hints.proofs.Tests.{known_no, known_by}
+use Rattle.std.proofs.Common.{rules, tests}
+use Rattle.words.specs.Words.{words_of}
+use Rattle.entry_hints.proofs.Tests.{known_is}
 use Rattle.entry_hints.proofs.hint_known.Goals as goal
 
-pub returns-then-values-word_at : goal.returns-then-values-word_at
-returns-then-values-word_at c = known_no _ _ _ _ c.word_at.ensures c.if-values-word_at.true
+pub returns-then-h-lay : goal.returns-then-h-lay
+returns-then-h-lay c = rw (← c.hint_at-h.ensures, known_is (words_of c.args.job.now) c.args.lay _ _ c.requires.1) (search (rules, tests))
 
-pub returns : goal.returns
-returns c = known_by _ _ _ _ _ _ c.word_at.ensures c.if-values-word_at.false c.word_at-2.ensures c.requires.1
+pub returns-else-h-lay : goal.returns-else-h-lay
+returns-else-h-lay c = rw (← c.hint_at-h.ensures, known_is (words_of c.args.job.now) c.args.lay _ _ c.requires.1) (search (rules, tests))

@@ -1,20 +1,11 @@
-use native.Mathlib.Omega.{arith}
-use Prim.Native.Nat.{◌-◌}
-use Rattle.entry_function.proofs.Scans.{each_start, each_next, each_stop, each_done}
-use Rattle.rows.specs.RowsAt.{rows_at}
+use Rattle.std.proofs.Common.{rules, tests}
+use Rattle.words.specs.Words.{words_of}
+use Rattle.hints.specs.Hints.{hint_at}
+use Rattle.job.specs.Job.{raw_job}
+use Rattle.function.specs.Every.{every_row_from_all}
 use Rattle.entry_hints.specs.Tests.{hint_known}
 use Rattle.entry_hints.proofs.hints_known.Goals as goal
 
-pub loop-i-init : goal.loop-i-init
-loop-i-init c = each_start _ _ _
-
-pub returns-then-not-hint_known : goal.returns-then-not-hint_known
-unfolding rows_at
-returns-then-not-hint_known c = each_stop _ c.loop-i.invariant (omega arith) c.hint_known.ensures c.if-not-hint_known.true-raw
-
-pub loop-i-preserved : goal.loop-i-preserved
-loop-i-preserved c = each_next _ c.loop-i.invariant (omega arith) c.hint_known.ensures c.if-not-hint_known.false-raw
-
 pub returns : goal.returns
-unfolding rows_at
-returns c = each_done c.loop-i.invariant (omega arith)
+returns c = let W = words_of c.args.job.now in
+    every_row_from_all (hint_known (raw_job W c.args.lay)) hint_at W c.args.lay.hints.at 3 c.args.lay.hints.n c.all.ensures.ran (λ x b q k. search (rules, tests))

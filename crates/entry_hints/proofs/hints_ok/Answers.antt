@@ -1,8 +1,10 @@
-use Rattle.entry_hints.proofs.Tests.{hints_no, hints_by}
+use Rattle.std.proofs.Common.{rules, tests}
+use Rattle.words.specs.Words.{words_of}
+use Rattle.entry_hints.proofs.Tests.{hints_is}
 use Rattle.entry_hints.proofs.hints_ok.Goals as goal
 
-pub returns-then-not-hints_known : goal.returns-then-not-hints_known
-returns-then-not-hints_known c = hints_no _ _ _ c.hints_known.ensures c.if-not-hints_known.true-raw
+pub returns-then-hints_known : goal.returns-then-hints_known
+returns-then-hints_known c = rw (hints_is (words_of c.args.job.now) c.args.lay) (search (rules, tests))
 
-pub returns : goal.returns
-returns c = hints_by _ _ _ _ c.hints_known.ensures c.if-not-hints_known.false-raw c.hints_sorted.ensures
+pub returns-else-hints_known : goal.returns-else-hints_known
+returns-else-hints_known c = rw (hints_is (words_of c.args.job.now) c.args.lay) (search (rules, tests))

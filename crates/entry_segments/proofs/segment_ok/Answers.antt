@@ -1,8 +1,10 @@
-use Rattle.entry_segments.proofs.Tests.{segment_no, segment_by}
+use Rattle.std.proofs.Common.{rules, tests}
+use Rattle.words.specs.Words.{words_of}
+use Rattle.entry_segments.proofs.Tests.{segment_is}
 use Rattle.entry_segments.proofs.segment_ok.Goals as goal
 
-pub returns-then-values-s : goal.returns-then-values-s
-returns-then-values-s c = segment_no _ _ _ _ c.seg_at-s.ensures _ c.requires.2 c.if-values-s.true
+pub returns-then-s-lay : goal.returns-then-s-lay
+returns-then-s-lay c = rw (segment_is (words_of c.args.job.now) c.args.lay c.args.i _ c.seg_at-s.ensures _ c.requires.2) (search (rules, tests))
 
-pub returns : goal.returns
-returns c = segment_by _ _ _ _ c.seg_at-s.ensures _ c.requires.2 c.if-values-s.false _ c.span_ok.ensures
+pub returns-else-s-lay : goal.returns-else-s-lay
+returns-else-s-lay c = rw (segment_is (words_of c.args.job.now) c.args.lay c.args.i _ c.seg_at-s.ensures _ c.requires.2) (search (rules, tests))

@@ -1,8 +1,10 @@
-use Rattle.entry_segments.proofs.Tests.{segments_no, segments_by}
+use Rattle.std.proofs.Common.{rules, tests}
+use Rattle.words.specs.Words.{words_of}
+use Rattle.entry_segments.proofs.Tests.{segments_is}
 use Rattle.entry_segments.proofs.segments_ok.Goals as goal
 
-pub returns-then-not-segments_within : goal.returns-then-not-segments_within
-returns-then-not-segments_within c = segments_no _ _ _ c.segments_within.ensures c.if-not-segments_within.true-raw
+pub returns-then-segments_within : goal.returns-then-segments_within
+returns-then-segments_within c = rw (segments_is (words_of c.args.job.now) c.args.lay) (search (rules, tests))
 
-pub returns : goal.returns
-returns c = segments_by _ _ _ _ c.segments_within.ensures c.if-not-segments_within.false-raw c.segments_sorted.ensures
+pub returns-else-segments_within : goal.returns-else-segments_within
+returns-else-segments_within c = rw (segments_is (words_of c.args.job.now) c.args.lay) (search (rules, tests))

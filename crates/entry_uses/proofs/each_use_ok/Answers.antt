@@ -1,20 +1,12 @@
-use native.Mathlib.Omega.{arith}
-use Prim.Native.Nat.{◌-◌}
-use Rattle.entry_function.proofs.Scans.{each_start, each_next, each_stop, each_done}
-use Rattle.rows.specs.RowsAt.{rows_at}
+use Rattle.std.proofs.Common.{rules, tests}
+use Rattle.words.specs.Words.{words_of}
 use Rattle.definition.specs.Entry.{use_ok}
+use Rattle.uses.specs.Rows.{raw_row}
+use Rattle.job.specs.Job.{raw_job}
+use Rattle.function.specs.Every.{every_row_from_all}
+use Rattle.entry_uses.specs.Tests.{seg_of}
 use Rattle.entry_uses.proofs.each_use_ok.Goals as goal
 
-pub loop-i-init : goal.loop-i-init
-loop-i-init c = each_start _ _ _
-
-pub returns-then-not-use_ok : goal.returns-then-not-use_ok
-unfolding rows_at
-returns-then-not-use_ok c = each_stop _ c.loop-i.invariant (omega arith) c.use_ok.ensures c.if-not-use_ok.true-raw
-
-pub loop-i-preserved : goal.loop-i-preserved
-loop-i-preserved c = each_next _ c.loop-i.invariant (omega arith) c.use_ok.ensures c.if-not-use_ok.false-raw
-
 pub returns : goal.returns
-unfolding rows_at
-returns c = each_done c.loop-i.invariant (omega arith)
+returns c = let W = words_of c.args.job.now in
+    every_row_from_all (use_ok (raw_job W c.args.lay) (seg_of c.args.s)) raw_row W c.args.at 6 c.args.n c.all.ensures.ran (λ x b q k. search (rules, tests))

@@ -1,3 +1,5 @@
+use Rattle.std.proofs.Common.{rules, tests}
+use Rattle.words.specs.Words.{words_of}
 use native.Mathlib.Omega.{arith}
 use Rattle.entry_uses.proofs.Tests.{use_pos, end_raw, use_far, use_kind, use_from, use_by}
 use Rattle.entry_uses.proofs.use_ok.Goals as goal
@@ -15,4 +17,5 @@ pub end_point-requires : goal.end_point-requires
 end_point-requires c = omega (arith, use_pos _ _ _ c.use_at.ensures, c.word_at-pos.ensures, c.if-count-pos.false, c.requires.0.index.insts, c.requires.0.within.insts)
 
 pub returns : goal.returns
-returns c = use_by _ _ _ _ _ _ c.word_at-pos.ensures c.requires.0.index.insts c.if-count-pos.false _ c.kind_ok.ensures c.if-not-kind_ok.false-raw c.if-pos-s.false _ (end_raw _ _ _ _ c.use_at.ensures c.end_point.ensures)
+returns c = let e = use_by (words_of c.args.job.now) c.args.lay c.args.s c.args.i _ _ c.word_at-pos.ensures c.requires.0.index.insts c.if-count-pos.false _ c.kind_ok.ensures c.if-not-kind_ok.false-raw c.if-pos-s.false _ (end_raw _ _ _ _ c.use_at.ensures c.end_point.ensures) in
+    rw (← e) (search (rules, tests))

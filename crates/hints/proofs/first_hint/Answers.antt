@@ -1,4 +1,3 @@
-use Prim.Native.Nat.{◌-◌}
 use native.Mathlib.Omega.{arith}
 use Rattle.hints.proofs.Searching.{search_start, search_up, search_down, search_done}
 use Rattle.hints.proofs.first_hint.Goals as goal

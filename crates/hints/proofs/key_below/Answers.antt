@@ -1,13 +1,15 @@
-use Rattle.hints.proofs.Steps.{below_value, above_value, same_value}
+use Rattle.std.proofs.Common.{rules, tests}
+use Rattle.hints.specs.Hints.{key_below}
 use Rattle.hints.proofs.key_below.Goals as goal
 
-pub returns-then-h-v : goal.returns-then-h-v
-returns-then-h-v c = let a = c.args in below_value a.v a.k a.h c.if-h-v.true
+pub returns-then-lt : goal.returns-then-lt
+unfolding key_below
+returns-then-lt c = search (rules, tests)
 
-pub returns-then-h-v-2 : goal.returns-then-h-v-2
-returns-then-h-v-2 c = let a = c.args in
-    above_value a.v a.k a.h c.if-h-v.false c.if-h-v-2.true
+pub returns-then-eq : goal.returns-then-eq
+unfolding key_below
+returns-then-eq c = search (rules, tests)
 
-pub returns : goal.returns
-returns c = let a = c.args in
-    same_value a.v a.k a.h _ c.key.ensures c.if-h-v-2.false
+pub returns-else-eq : goal.returns-else-eq
+unfolding key_below
+returns-else-eq c = search (rules, tests)

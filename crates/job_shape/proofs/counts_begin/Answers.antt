@@ -7,5 +7,5 @@ use Rattle.job_shape.proofs.counts_begin.Goals as goal
 pub returns-then-lay-eq0 : goal.returns-then-lay-eq0
 returns-then-lay-eq0 c = ap (λ (k : ℕ). eqb k 0) (sym (begins_none _ _ c.if-lay-eq0.true))
 
-pub returns : goal.returns
-returns c = ap (λ (k : ℕ). eqb k 0) (sym (begins_at _ _ _ c.if-lay-eq0.false c.word_at.ensures))
+pub returns-else-lay-eq0 : goal.returns-else-lay-eq0
+returns-else-lay-eq0 c = ap (λ (k : ℕ). eqb k 0) (sym (begins_at _ _ _ c.if-lay-eq0.false c.word_at.ensures))

@@ -1,5 +1,4 @@
 use mathlib.Core.Path.{sym, ◌∙◌}
-use Prim.Native.Nat.{◌-◌}
 use Rattle.job_shape.proofs.Rising.{rise_first, rise_next, rise_not, rise_last}
 use Rattle.job_shape.proofs.counts_rise.Goals as goal
 

@@ -1,5 +1,4 @@
 use mathlib.Core.Path.{◌≡◌}
-use Prim.Native.Nat.{◌-◌}
 use Rattle.words.specs.Words.{words_of}
 use Rattle.job_shape.specs.Shape.{rises, use_counts}
 use Rattle.job_shape.proofs.Rising.{from}
@@ -7,6 +6,3 @@ use Rattle.job_shape.proofs.counts_rise.Given as goal
 
 abbrev pub invariant-loop-i : goal.invariant-loop-i
 invariant-loop-i l = rises 0 (use_counts (words_of l.job) l.lay) l.lay.uses.n ≡ rises l.last (from (words_of l.job) l.lay l.i) l.lay.uses.n
-
-abbrev pub decreases-loop-i : goal.decreases-loop-i
-decreases-loop-i l = l.n - l.i

@@ -12,4 +12,4 @@ pub overflow_add-result : goal.overflow_add-result
 overflow_add-result c = let r = nine c.args.t.n c.args.stride c.requires.3.rows c.requires.2 in search rules
 
 pub returns : goal.returns
-returns c = (ap (λ (n : ℕ). table_behind c.args.t c.args.stride n) c.count-n.ensures.0, placed_behind _ _ c.requires.3 c.requires.2 c.count-n.ensures.1)
+returns c = (ap (λ (n : ℕ). table_behind c.args.t c.args.stride n) c.count.ensures.0, placed_behind _ _ c.requires.3 c.requires.2 c.count.ensures.1)

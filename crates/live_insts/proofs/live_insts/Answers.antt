@@ -1,5 +1,4 @@
 use native.Mathlib.Omega.{arith}
-use Prim.Native.Nat.{◌-◌}
 use Rattle.live_insts.proofs.Counting.{count_start, count_room, count_next, count_done}
 use Rattle.live_insts.proofs.live_insts.Goals as goal
 
