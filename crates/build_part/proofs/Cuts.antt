@@ -1,6 +1,6 @@
 -- A part is cut, and the part before the cut is placed. Assumes nothing.
 use mathlib.Core.Path.{◌≡◌, sym, ap, subst, ◌∙◌}
-use mathlib.Core.Bool.{Bool, true, not}
+use mathlib.Core.Bool.{true}
 use mathlib.Core.List.{List}
 use Prim.Native.Nat.{ℕ, ◌*◌, ◌≤◌, ◌<◌}
 use native.Mathlib.Omega.{arith}
@@ -34,26 +34,23 @@ use Rattle.constraints.specs.Ready.{Ready}
 use Rattle.part_maps.specs.Maps.{Outside}
 use Rattle.conflict_piece.specs.Conflict.{turned_rows_of}
 use Rattle.vreg_weight.specs.Fair.{Fair}
-use Rattle.place_end.specs.declared.Ended.TheVariants as ended
-use Rattle.place_end.specs.declared.PlaceEnd.{PlaceEnd}
-use Rattle.place_end.specs.Ends.{Answers, Ends}
+use Rattle.std.specs.Prelude.{Result, Ok, Err}
+use Rattle.place_end.specs.declared.NotPlaced.{NotPlaced}
+use Rattle.place_end.specs.Ends.{Placed, placed_state, Answers, Ends}
 use Rattle.place_part.specs.Asked.{new_pieces, Asked}
 use Rattle.place_laws.specs.Held.{HeldFits}
 use Rattle.build_state.specs.Builds.{Builds}
 use Rattle.build_state.specs.Fits.{StandsAs}
 use Rattle.steps.specs.Laid.{uses_left, Laid}
-use Rattle.steps.specs.Built.{is_done}
 use Rattle.steps.proofs.Run.{run_cut}
 use Rattle.steps.proofs.Cut.{rows_kept, rows_ok_kept, cut_bounds, cut_parts, left_segs, left_kinds, fair_left, right_kept, right_left, laid_right}
-use Rattle.steps.proofs.Ways.{done_is, done_not, placed_state}
 use Rattle.steps.proofs.Changed.{changed_none, changed_cut}
 use Rattle.build_part.specs.declared.Step.{Step}
-use Rattle.build_part.specs.Steps.{step_end, BuiltFit, Stepped, GoesOn, StepTo}
+use Rattle.build_part.specs.declared.Step.TheVariants.{On}
+use Rattle.build_part.specs.Steps.{BuiltFit, OnwardBy, Stepped, StepTo}
+use Rattle.steps.specs.Built.{Changed}
+use Rattle.conflict_piece.specs.Conflict.{RowsOk}
 use Rattle.build_part.proofs.Parts.{held_ok, state_ok, asked_ok}
-
--- a step that cuts: it goes on with the part q behind the cut if the part before it is placed
-abbrev pub cut_step : Bool → SetPart → PlaceEnd → ℕ → Step
-cut_step g q r n = record { go = g; part = q; end = r.end; counts = r.counts; turned = n }
 
 module _ {t w n : ℕ} {W K : List ℕ} {lay : Layout} {wl : WorkLayout} {sp : SetPart} (l : Laid t w W K lay wl sp n) (st : State) (top : RegClass) (p : Inst)
     (m : move (job_of W lay) st top (uses_of (part_segs K wl.marks W lay sp)) ≡ cut p) where
@@ -100,12 +97,19 @@ module _ {t w n : ℕ} {W K : List ℕ} {lay : Layout} {wl : WorkLayout} {sp : S
     last : q.end ≡ sp.end
     last = ap (λ (x : SetPart). x.end) eq ∙ parts.end
 
-    pub cut_stepped : (g : Bool) (r : PlaceEnd) → Stepped t w W K K' lay wl sp n (cut_step g q r n)
-    cut_stepped g r = record {
-      changed = changed_cut W lay wl sp n K K' K' sides l.mapping parts o (changed_none lay wl sides.right n K');
-      rows = rows_ok_kept lay wl K K' o l.mapping W w 0 n l.rows;
-      goes = λ _. record { laid = on; less = less; first = first; end = last; more = omega arith };
-    }
+    changed : Changed lay wl sp n K K'
+    changed = changed_cut W lay wl sp n K K' K' sides l.mapping parts o (changed_none lay wl sides.right n K')
+
+    rows : RowsOk w K' wl.turned lay 0 n
+    rows = rows_ok_kept lay wl K K' o l.mapping W w 0 n l.rows
+
+    -- the part before it is placed, or not
+    pub cut_stepped : (c : Counts) → Stepped t w W K K' lay wl sp n (Ok (On q c n))
+    unfolding OnwardBy
+    cut_stepped c = record { changed = changed; rows = rows; goes = record { laid = on; less = less; first = first; end = last; more = omega arith } }
+
+    pub stop_stepped : (v : NotPlaced) (x : Result Step NotPlaced) → x ≡ Err v → Stepped t w W K K' lay wl sp n x
+    stop_stepped v x e = subst (λ (y : Result Step NotPlaced). Stepped t w W K K' lay wl sp n y) (sym e) (record { changed = changed; rows = tt; goes = tt })
 
   -- the state
   module _ {o : ℕ} {O : List ℕ} {ol : OutLayout} {c : Counts} (b : Builds o W lay ol) (s : StandsAs (job_of W lay) ol O W K lay wl c st) (h : Held)
@@ -117,7 +121,7 @@ module _ {t w n : ℕ} {W K : List ℕ} {lay : Layout} {wl : WorkLayout} {sp : S
     place_asked q e =
         asked_ok l b s top before h (left_kinds t w W K lay wl sp n l st top p m) sc q (subst (λ (x : SetPart). PartOk W lay x) (sym e) parts.left_side) (front_fair q e)
 
-    module _ (vs : ValueSet) (r : PlaceEnd) (O' K' : List ℕ) (a q : SetPart) (ea : a ≡ (cut_part (job_of W lay).hints W lay p sp).left) (eq : q ≡ (cut_part (job_of W lay).hints W lay p sp).right)
+    module _ (vs : ValueSet) (r : Placed) (O' K' : List ℕ) (a q : SetPart) (ea : a ≡ (cut_part (job_of W lay).hints W lay p sp).left) (eq : q ≡ (cut_part (job_of W lay).hints W lay p sp).right)
         (d : Ends (job_of W lay) ol W lay wl K O' K' r (place (job_of W lay) (room_of ol) vs (held_of h) (new_pieces K wl W lay a) st)) where
       abbrev front : Out State
       front = place (job_of W lay) (room_of ol) vs (held_of h) (as_own (left_cut (job_of W lay).hints p (part_segs K wl.marks W lay sp))) st
@@ -133,33 +137,32 @@ module _ {t w n : ℕ} {W K : List ℕ} {lay : Layout} {wl : WorkLayout} {sp : S
           >>= λ st'. run (job_of W lay) (room_of ol) vs top st' (right_cut (job_of W lay).hints p (part_segs K wl.marks W lay sp)) (turned_rows_of K wl.turned W lay 0 n))
       step = run_cut J (room_of ol) vs top st ss ts 0 l.fair.fit p (held_of h) m sc
 
-      refusal : (g : Bool) → (r.end ≡ ended.Done → ⊥)
-          → BuiltFit (job_of W lay) ol W lay wl O' K' (step_end (cut_step g q r n)) (run (job_of W lay) (room_of ol) vs top st (part_segs K wl.marks W lay sp) (turned_rows_of K wl.turned W lay 0 n))
-      unfolding BuiltFit Answers
-      refusal g nd = subst (λ (y : Out Built). BuiltFit J ol W lay wl O' K' (step_end (cut_step g q r n)) y) (sym step) (go front placed)
+      pub stop_to : (v : NotPlaced) → r ≡ Err v → (x : Result Step NotPlaced) → x ≡ Err v
+          → StepTo W lay ol wl vs top O' K' x (run (job_of W lay) (room_of ol) vs top st (part_segs K wl.marks W lay sp) (turned_rows_of K wl.turned W lay 0 n))
+      unfolding StepTo BuiltFit Answers
+      stop_to v er x e =
+          subst (λ (y : Result Step NotPlaced). StepTo W lay ol wl vs top O' K' y (run J (room_of ol) vs top st ss ts)) (sym e)
+          (subst (λ (y : Out Built). BuiltFit J ol W lay wl O' K' (Err v) y) (sym step) (go front (subst (λ (y : Placed). Answers J ol W lay wl O' K' y front) er placed)))
         where
-          go : (y : Out State) → Answers (job_of W lay) ol W lay wl O' K' r y
-              → BuiltFit (job_of W lay) ol W lay wl O' K' (step_end (cut_step g q r n))
+          go : (y : Out State) → Answers (job_of W lay) ol W lay wl O' K' (Err v) y
+              → BuiltFit (job_of W lay) ol W lay wl O' K' (Err v)
               (y >>= λ st'. run (job_of W lay) (room_of ol) vs top st' (right_cut (job_of W lay).hints p (part_segs K wl.marks W lay sp)) (turned_rows_of K wl.turned W lay 0 n))
-          go (done st') x = absurd (nd x.end)
+          go (done st') x = absurd x
           go (refused f) x = x
 
-      behind : r.end ≡ ended.Done → (g : Bool)
-          → GoesOn W lay ol wl vs top O' K' (cut_step g q r n) (run (job_of W lay) (room_of ol) vs top st (part_segs K wl.marks W lay sp) (turned_rows_of K wl.turned W lay 0 n))
-      behind ed g =
-          let x = placed_state J ol W lay wl O' K' r front placed ed in
+      pub cut_to : (c' : Counts) → r ≡ Ok c'
+          → StepTo W lay ol wl vs top O' K' (Ok (On q c' n)) (run (job_of W lay) (room_of ol) vs top st (part_segs K wl.marks W lay sp) (turned_rows_of K wl.turned W lay 0 n))
+      unfolding StepTo
+      cut_to c' ed =
+          let x = placed_state J ol W lay wl O' K' r front c' placed ed in
           let rest : part_segs K' wl.marks W lay q ≡ right_cut (job_of W lay).hints p ss =
           ap (λ (y : SetPart). part_segs K' wl.marks W lay y) eq ∙ right_kept t w W K lay wl sp n l st top p m K' d.outside in
           record {
             state = x.0;
-            stands = state_ok l b s top before h (left_kinds t w W K lay wl sp n l st top p m) sc vs r O' K' x.0 x.1 x.2;
+            stands = state_ok l b s top before h (left_kinds t w W K lay wl sp n l st top p m) sc vs c' O' K' x.0 x.1 x.2;
             same =
                 step
                 ∙ ap (λ (y : Out State). y >>= λ st'. run J (room_of ol) vs top st' (right_cut (job_of W lay).hints p ss) ts) x.1
                 ∙ ap (λ (y : List Segment). run J (room_of ol) vs top x.0 y ts) (sym rest)
                 ∙ ap (λ (y : List Turned). run J (room_of ol) vs top x.0 (part_segs K' wl.marks W lay q) y) (sym (rows_kept lay wl K K' d.outside l.mapping W 0 n));
           }
-
-      pub cut_to : (g : Bool) → g ≡ is_done r.end
-          → StepTo W lay ol wl vs top O' K' (cut_step g q r n) (run (job_of W lay) (room_of ol) vs top st (part_segs K wl.marks W lay sp) (turned_rows_of K wl.turned W lay 0 n))
-      cut_to g e = record { ends = λ f. refusal g (done_not r.end g e (ap not f)); goes = λ f. behind (done_is r.end g e (ap not f)) g }

@@ -30,9 +30,11 @@ use Rattle.steps.specs.Laid.{Laid}
 use Rattle.steps.proofs.Run.{run_turn}
 use Rattle.steps.proofs.Turn.{row_number, once_stands, turn_inside, turn_number, turn_rows, turn_segs, turn_left, turn_room, laid_turn}
 use Rattle.steps.proofs.Changed.{changed_none, changed_turn}
+use Rattle.std.specs.Prelude.{Result, Ok}
+use Rattle.place_end.specs.declared.NotPlaced.{NotPlaced}
 use Rattle.build_part.specs.declared.Step.{Step}
-use Rattle.build_part.specs.Steps.{on_step, Stepped, StepTo}
-use Rattle.build_part.proofs.Parts.{not_last}
+use Rattle.build_part.specs.declared.Step.TheVariants.{On}
+use Rattle.build_part.specs.Steps.{OnwardBy, Stepped, StepTo}
 
 module _ {t w n : ℕ} {W K : List ℕ} {lay : Layout} {wl : WorkLayout} {sp : SetPart} (l : Laid t w W K lay wl sp n) (ew : w ≡ length K) (st : State) (top : RegClass) (i : ℕ)
     (m : move (job_of W lay) st top (uses_of (part_segs K wl.marks W lay sp)) ≡ turn i) where
@@ -69,7 +71,8 @@ module _ {t w n : ℕ} {W K : List ℕ} {lay : Layout} {wl : WorkLayout} {sp : S
   pub turn_asked : Fits t lay × PartOk W lay sp × TurnRoom w lay wl × (sp.first + i < sp.end) × (n < lay.uses.n)
   turn_asked = (l.ready.fits, l.ok, l.turns, inside, few)
 
-  once : (c : Counts) → Stepped t w W K (turned_once K wl n (turned_row K wl.marks W lay sp i)) lay wl sp n (on_step sp c (n + 1))
+  once : (c : Counts) → Stepped t w W K (turned_once K wl n (turned_row K wl.marks W lay sp i)) lay wl sp n (Ok (On sp c (n + 1)))
+  unfolding OnwardBy
   once c =
       let on : Laid t w W K₁ lay wl sp (n + 1) = laid_turn t w W K lay wl sp n i ew l few picked in
       let num : row.number ≡ sp.first + i = row_number K wl.marks W lay sp i in
@@ -78,13 +81,13 @@ module _ {t w n : ℕ} {W K : List ℕ} {lay : Layout} {wl : WorkLayout} {sp : S
             changed_turn lay wl sp n K K₁ K₁ row l.mapping room few number (omega (arith, num)) (omega (arith, num, inside)) refl
             (changed_none lay wl sp (n + 1) K₁);
         rows = on.rows;
-        goes = λ _. record { laid = on; less = omega (arith, turn_left K W lay wl sp n i l.mapping room l.ok few picked); first = omega arith; end = refl; more = omega arith };
+        goes = record { laid = on; less = omega (arith, turn_left K W lay wl sp n i l.mapping room l.ok few picked); first = omega arith; end = refl; more = omega arith };
       }
 
-  pub turn_stepped : (K' : List ℕ) → K' ≡ turned_once K wl n (turned_row K wl.marks W lay sp i) → (c : Counts) (x : Step) → x ≡ on_step sp c (n + 1) → Stepped t w W K K' lay wl sp n x
+  pub turn_stepped : (K' : List ℕ) → K' ≡ turned_once K wl n (turned_row K wl.marks W lay sp i) → (c : Counts) (x : Result Step NotPlaced) → x ≡ Ok (On sp c (n + 1)) → Stepped t w W K K' lay wl sp n x
   turn_stepped K' e c x ex =
-      subst (λ (y : Step). Stepped t w W K K' lay wl sp n y) (sym ex)
-      (subst (λ (k : List ℕ). Stepped t w W K k lay wl sp n (on_step sp c (n + 1))) (sym e) (once c))
+      subst (λ (y : Result Step NotPlaced). Stepped t w W K K' lay wl sp n y) (sym ex)
+      (subst (λ (k : List ℕ). Stepped t w W K k lay wl sp n (Ok (On sp c (n + 1)))) (sym e) (once c))
 
   same : (ol : OutLayout) (vs : ValueSet)
       → run (job_of W lay) (room_of ol) vs top st (part_segs K wl.marks W lay sp) (turned_rows_of K wl.turned W lay 0 n)
@@ -95,12 +98,10 @@ module _ {t w n : ℕ} {W K : List ℕ} {lay : Layout} {wl : WorkLayout} {sp : S
       ∙ ap (λ (y : List Segment). run J (room_of ol) vs top st y (turned_rows_of K₁ wl.turned W lay 0 (n + 1))) (sym (turn_segs K W lay wl sp n i l.mapping room l.ok few picked))
 
   pub turn_to : (ol : OutLayout) (vs : ValueSet) (O : List ℕ) (c : Counts) → StandsAs (job_of W lay) ol O W K lay wl c st → (K' : List ℕ) → K' ≡ turned_once K wl n (turned_row K wl.marks W lay sp i)
-      → (x : Step) → x ≡ on_step sp c (n + 1)
+      → (x : Result Step NotPlaced) → x ≡ Ok (On sp c (n + 1))
       → StepTo W lay ol wl vs top O K' x (run (job_of W lay) (room_of ol) vs top st (part_segs K wl.marks W lay sp) (turned_rows_of K wl.turned W lay 0 n))
+  unfolding StepTo
   turn_to ol vs O c s K' e x ex =
-      subst (λ (y : Step). StepTo W lay ol wl vs top O K' y (run J (room_of ol) vs top st ss ts)) (sym ex)
-      (subst (λ (k : List ℕ). StepTo W lay ol wl vs top O k (on_step sp c (n + 1)) (run J (room_of ol) vs top st ss ts)) (sym e)
-      (record {
-        ends = λ q. not_last (sym q);
-        goes = λ _. record { state = st; stands = record { stands = once_stands K lay wl n row l.mapping room few number ol O W st s.stands; counts = s.counts; fits = s.fits }; same = same ol vs };
-      }))
+      subst (λ (y : Result Step NotPlaced). StepTo W lay ol wl vs top O K' y (run J (room_of ol) vs top st ss ts)) (sym ex)
+      (subst (λ (k : List ℕ). StepTo W lay ol wl vs top O k (Ok (On sp c (n + 1))) (run J (room_of ol) vs top st ss ts)) (sym e)
+      (record { state = st; stands = record { stands = once_stands K lay wl n row l.mapping room few number ol O W st s.stands; counts = s.counts; fits = s.fits }; same = same ol vs }))

@@ -1,6 +1,5 @@
 -- Each way through a step, for every state that the slices stand for. Assumes nothing.
 use mathlib.Core.Path.{◌≡◌}
-use mathlib.Core.Bool.{Bool}
 use mathlib.Core.List.{List}
 use Prim.Native.Nat.{ℕ, ◌+◌}
 use lib.ListN.{length}
@@ -29,36 +28,37 @@ use Rattle.constraints.specs.Held.{held_of}
 use Rattle.constraints.specs.Ready.{Stands}
 use Rattle.conflict_piece.specs.Conflict.{turned_rows_of}
 use Rattle.vreg_weight.specs.Fair.{Fair}
-use Rattle.place_end.specs.declared.Ended.TheVariants as ended
-use Rattle.place_end.specs.declared.PlaceEnd.{PlaceEnd}
-use Rattle.place_end.specs.Ends.{Ends}
+use Rattle.std.specs.Prelude.{Result, Ok, Err}
+use Rattle.place_end.specs.declared.NotPlaced.{NotPlaced}
+use Rattle.place_end.specs.declared.NotPlaced.TheVariants as not_placed
+use Rattle.place_end.specs.Ends.{Placed, Ends}
 use Rattle.place_part.specs.Asked.{new_pieces, Standing}
 use Rattle.place_laws.specs.Held.{HeldFits}
 use Rattle.build_state.specs.Fits.{StandsAs}
 use Rattle.steps.specs.Turns.{turned_once}
-use Rattle.steps.specs.Built.{is_done}
 use Rattle.build_part.specs.declared.Step.{Step}
-use Rattle.build_part.specs.Steps.{over_step, on_step, StepReady, Moves, Stepped, StepTo}
-use Rattle.build_part.proofs.Parts.{standing, whole_held, whole_fair, whole_to, whole_stepped, halt_to, halt_stepped}
+use Rattle.build_part.specs.declared.Step.TheVariants.{On}
+use Rattle.build_part.specs.Steps.{StepReady, Moves, Stepped, StepTo}
+use Rattle.build_part.proofs.Parts.{OverBy, standing, whole_held, whole_fair, whole_to, whole_stepped, halt_to, halt_stepped}
 use Rattle.build_part.proofs.Turns.{turn_stepped, turn_to}
-use Rattle.build_part.proofs.Cuts.{cut_step, front_held, front_fair, cut_stepped, cut_to}
+use Rattle.build_part.proofs.Cuts.{front_held, front_fair, cut_stepped, stop_stepped, cut_to, stop_to}
 
 -- what a step does to the work slice, and what it answers for every state that the slices stand for
-abbrev pub Steps : ℕ → ℕ → List ℕ → List ℕ → List ℕ → Layout → OutLayout → WorkLayout → SetPart → Counts → ℕ → RegClass → ValueSet → List ℕ → List ℕ → Step → Type 0
+abbrev pub Steps : ℕ → ℕ → List ℕ → List ℕ → List ℕ → Layout → OutLayout → WorkLayout → SetPart → Counts → ℕ → RegClass → ValueSet → List ℕ → List ℕ → Result Step NotPlaced → Type 0
 Steps t w W K O lay ol wl sp c n top vs O' K' x =
     Stepped t w W K K' lay wl sp n x
     × ((st : State) → StandsAs (job_of W lay) ol O W K lay wl c st
     → StepTo W lay ol wl vs top O' K' x (run (job_of W lay) (room_of ol) vs top st (part_segs K wl.marks W lay sp) (turned_rows_of K wl.turned W lay 0 n)))
 
 -- what placing the part q answers
-abbrev pub Places : List ℕ → List ℕ → List ℕ → Layout → OutLayout → WorkLayout → Counts → ValueSet → SetPart → Held → List ℕ → List ℕ → PlaceEnd → Type 0
+abbrev pub Places : List ℕ → List ℕ → List ℕ → Layout → OutLayout → WorkLayout → Counts → ValueSet → SetPart → Held → List ℕ → List ℕ → Placed → Type 0
 Places W K O lay ol wl c vs q h O' K' r =
     (st : State) → Standing (job_of W lay) ol O W K lay wl c st → HeldFits (job_of W lay) st h → Fair (job_of W lay) 4096 (new_pieces K wl W lay q)
     → Ends (job_of W lay) ol W lay wl K O' K' r (place (job_of W lay) (room_of ol) vs (held_of h) (new_pieces K wl W lay q) st)
 
 module _ {t w o n : ℕ} {W K O : List ℕ} {lay : Layout} {ol : OutLayout} {wl : WorkLayout} {sp : SetPart} {c : Counts} (g : StepReady t w o W K O lay ol wl sp c n) (top : RegClass) (vs : ValueSet) where
   -- all is placed
-  pub step_whole : (h : Held) → Moves W K O lay ol wl top sp (whole (held_of h)) → (r : PlaceEnd) (O' K' : List ℕ) → Places W K O lay ol wl c vs sp h O' K' r → (x : Step) → x ≡ over_step sp r n
+  pub step_whole : (h : Held) → Moves W K O lay ol wl top sp (whole (held_of h)) → (r : Placed) (O' K' : List ℕ) → Places W K O lay ol wl c vs sp h O' K' r → (x : Result Step NotPlaced) → OverBy r n x
       → Steps t w W K O lay ol wl sp c n top vs O' K' x
   step_whole h m r O' K' p x e =
       (whole_stepped g.laid K' (d g.state g.stands).outside r x e, λ st s. whole_to g.laid g.builds s top h (m st s.stands) vs r O' K' (d st s) x e)
@@ -67,31 +67,38 @@ module _ {t w o n : ℕ} {W K O : List ℕ} {lay : Layout} {ol : OutLayout} {wl 
       d st s = p st (standing s) (whole_held g.laid g.builds s top h (m st s.stands)) (whole_fair g.laid g.builds s top h (m st s.stands))
 
   -- a use is turned
-  pub step_turn : (i : ℕ) → Moves W K O lay ol wl top sp (turn i) → w ≡ length K → (K' : List ℕ) → K' ≡ turned_once K wl n (turned_row K wl.marks W lay sp i) → (x : Step) → x ≡ on_step sp c (n + 1)
+  pub step_turn : (i : ℕ) → Moves W K O lay ol wl top sp (turn i) → w ≡ length K → (K' : List ℕ) → K' ≡ turned_once K wl n (turned_row K wl.marks W lay sp i) → (x : Result Step NotPlaced) → x ≡ Ok (On sp c (n + 1))
       → Steps t w W K O lay ol wl sp c n top vs O K' x
   step_turn i m ew K' e x ex = (
     turn_stepped g.laid ew g.state top i (m g.state g.stands.stands) K' e c x ex,
     λ st s. turn_to g.laid ew st top i (m st s.stands) ol vs O c s K' e x ex,
   )
 
-  -- the part before a cut is placed
-  pub step_cuts : (p : Inst) → Moves W K O lay ol wl top sp (cut p) → (a q : SetPart) (h : Held) → a ≡ (cut_part (job_of W lay).hints W lay p sp).left → q ≡ (cut_part (job_of W lay).hints W lay p sp).right
-      → ((st : State) → Stands ol O W K lay wl st → SegsFit 0 (part_segs K wl.marks W lay sp) → move (job_of W lay) st top (uses_of (part_segs K wl.marks W lay sp)) ≡ cut p
+  -- the part before a cut is placed: the steps go on behind it, or they end
+  module _ (p : Inst) (m : Moves W K O lay ol wl top sp (cut p)) (a q : SetPart) (h : Held) (ea : a ≡ (cut_part (job_of W lay).hints W lay p sp).left) (eq : q ≡ (cut_part (job_of W lay).hints W lay p sp).right)
+      (f : (st : State) → Stands ol O W K lay wl st → SegsFit 0 (part_segs K wl.marks W lay sp) → move (job_of W lay) st top (uses_of (part_segs K wl.marks W lay sp)) ≡ cut p
       → scan (job_of W lay) st (uses_of (left_cut (job_of W lay).hints p (part_segs K wl.marks W lay sp))) (fresh top) ≡ through (held_of h))
-      → (r : PlaceEnd) (O' K' : List ℕ) → Places W K O lay ol wl c vs a h O' K' r → (b : Bool) → b ≡ is_done r.end → Steps t w W K O lay ol wl sp c n top vs O' K' (cut_step b q r n)
-  step_cuts p m a q h ea eq f r O' K' k b eb = (
-    cut_stepped g.laid g.state top p (m g.state g.stands.stands) K' (d g.state g.stands).outside q eq b r,
-    λ st s. cut_to g.laid st top p (m st s.stands) g.builds s h (scanned st s) vs r O' K' a q ea eq (d st s) b eb,
-  )
-    where
-      scanned : (st : State) → StandsAs (job_of W lay) ol O W K lay wl c st → scan (job_of W lay) st (uses_of (left_cut (job_of W lay).hints p (part_segs K wl.marks W lay sp))) (fresh top) ≡ through (held_of h)
-      scanned st s = f st s.stands g.laid.fair.fit (m st s.stands)
+      (r : Placed) (O' K' : List ℕ) (k : Places W K O lay ol wl c vs a h O' K' r) where
+    scanned : (st : State) → StandsAs (job_of W lay) ol O W K lay wl c st → scan (job_of W lay) st (uses_of (left_cut (job_of W lay).hints p (part_segs K wl.marks W lay sp))) (fresh top) ≡ through (held_of h)
+    scanned st s = f st s.stands g.laid.fair.fit (m st s.stands)
 
-      d : (st : State) → StandsAs (job_of W lay) ol O W K lay wl c st → Ends (job_of W lay) ol W lay wl K O' K' r (place (job_of W lay) (room_of ol) vs (held_of h) (new_pieces K wl W lay a) st)
-      d st s =
-          k st (standing s) (front_held g.laid st top p (m st s.stands) g.builds s h (scanned st s)) (front_fair g.laid st top p (m st s.stands) a ea)
+    d : (st : State) → StandsAs (job_of W lay) ol O W K lay wl c st → Ends (job_of W lay) ol W lay wl K O' K' r (place (job_of W lay) (room_of ol) vs (held_of h) (new_pieces K wl W lay a) st)
+    d st s =
+        k st (standing s) (front_held g.laid st top p (m st s.stands) g.builds s h (scanned st s)) (front_fair g.laid st top p (m st s.stands) a ea)
+
+    pub step_cuts : (c' : Counts) → r ≡ Ok c' → Steps t w W K O lay ol wl sp c n top vs O' K' (Ok (On q c' n))
+    step_cuts c' z = (
+      cut_stepped g.laid g.state top p (m g.state g.stands.stands) K' (d g.state g.stands).outside q eq c',
+      λ st s. cut_to g.laid st top p (m st s.stands) g.builds s h (scanned st s) vs r O' K' a q ea eq (d st s) c' z,
+    )
+
+    pub step_stops : (v : NotPlaced) → r ≡ Err v → (x : Result Step NotPlaced) → x ≡ Err v → Steps t w W K O lay ol wl sp c n top vs O' K' x
+    step_stops v z x e = (
+      stop_stepped g.laid g.state top p (m g.state g.stands.stands) K' (d g.state g.stands).outside q eq v x e,
+      λ st s. stop_to g.laid st top p (m st s.stands) g.builds s h (scanned st s) vs r O' K' a q ea eq (d st s) v z x e,
+    )
 
   -- a stop
-  pub step_halt : (z : Stop) → Moves W K O lay ol wl top sp (halt z) → (x : Step) → x ≡ over_step sp (record { end = ended.Stopped z; counts = c }) n → Steps t w W K O lay ol wl sp c n top vs O K x
+  pub step_halt : (z : Stop) → Moves W K O lay ol wl top sp (halt z) → (x : Result Step NotPlaced) → x ≡ Err (not_placed.Stopped z) → Steps t w W K O lay ol wl sp c n top vs O K x
   step_halt z m x e =
-      (halt_stepped g.laid (record { end = ended.Stopped z; counts = c }) x e, λ st s. halt_to g.laid g.builds s top vs z (m st s.stands) x e)
+      (halt_stepped g.laid (not_placed.Stopped z) x e, λ st s. halt_to g.laid g.builds s top vs z (m st s.stands) x e)

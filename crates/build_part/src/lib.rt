@@ -1,7 +1,7 @@
 // The steps over the working part of a set (builder.rs `compute_constraints`): uses are turned, cuts are made and the parts before them placed, until all is placed or there is a stop.
 #![tactic(auto)]
 
-ghost use Rattle.std.specs.Prelude.{◌≡◌, ℕ, ◌+◌, ◌≤◌, ◌<◌, length};
+ghost use Rattle.std.specs.Prelude.{IfOk, ◌+◌, ◌≤◌, length};
 ghost use Rattle.words.specs.Words.{word_count, words_of};
 ghost use Rattle.definition.specs.Types.{State};
 ghost use Rattle.definition.specs.Admit.{cut};
@@ -15,55 +15,35 @@ ghost use Rattle.build_state.specs.Fits.{StandsAs};
 ghost use Rattle.steps.specs.Laid.{Laid};
 ghost use Rattle.steps.specs.Built.{Changed};
 ghost use Rattle.part_frame.specs.Frame.{layout_in, out_in, work_in};
-ghost use Rattle.build_part.specs.Steps.{over_step, on_step, BuiltFit, BuildsTo, StepReady, Moves, Stepped, StepTo, StepsTo};
+ghost use Rattle.build_part.specs.Steps.{BuiltFit, BuildsTo, StepReady, Moves, Stepped, StepTo, StepsTo};
 
 use definition::{Inst, RegClass, ValueSet};
 use layout::Layout;
 use part_frame::{frame_of, layout_in, out_in, work_in};
-use place_end::{Ended, PlaceEnd};
+use place_end::NotPlaced;
 use place_part::place_part;
-use scans::{MoveKind, next_move};
+use scans::{Move, next_move};
 use set_part::SetPart;
-use steps::{StepsEnd, cut_front, is_done, saturating_sub, turn_one};
+use steps::{cut_front, turn_one};
 use virt_regs::{Counts, OutLayout};
 use work_layout::WorkLayout;
 
-// One step. `go`: the steps go on with `part`, `counts` and `turned`; else they ended with `end`.
+// All steps are done: the rows in use then, and how many uses are turned.
 #[derive(Clone, Copy)]
-pub struct Step {
-    pub go: bool,
-    pub part: SetPart,
-    pub end: Ended,
+pub struct StepsEnd {
     pub counts: Counts,
     pub turned: usize,
 }
 
-// The steps end as placing does.
-fn over(part: SetPart, r: PlaceEnd, turned: usize) -> Step
-    ensures { result ≡ over_step part r turned }
-{
-    let end = r.end;
-    let counts = r.counts;
-    Step {
-        go: false,
-        part,
-        end,
-        counts,
-        turned,
-    }
-}
-
-// The steps go on.
-fn go_on(part: SetPart, counts: Counts, turned: usize) -> Step
-    ensures { result ≡ on_step part counts turned }
-{
-    Step {
-        go: true,
-        part,
-        end: Ended::Done,
-        counts,
-        turned,
-    }
+// One step: the steps go on with a part, behind `turned` turned uses, or all are done.
+#[derive(Clone, Copy)]
+pub enum Step {
+    On {
+        part: SetPart,
+        counts: Counts,
+        turned: usize,
+    },
+    Over(StepsEnd),
 }
 
 // A part is cut at p, and the part before the cut is placed.
@@ -80,7 +60,7 @@ fn step_cut(
     p: Inst,
     c: Counts,
     n: usize,
-) -> Step
+) -> Result<Step, NotPlaced>
     requires { StepReady (word_count job.now) (word_count work.old) (word_count out.old) (words_of job.now) (words_of work.old) (words_of out.old) lay ol wl sp c n
         × Moves (words_of job.now) (words_of work.old) (words_of out.old) lay ol wl top sp (cut p) }
     ensures stepped { Stepped (word_count job.now) (word_count work.old) (words_of job.now) (words_of work.old) (words_of work.new) lay wl sp n result }
@@ -91,18 +71,13 @@ fn step_cut(
     let f = cut_front(job, lay, out, ol, work, wl, top, sp, p);
     let left = f.left;
     let held = f.held;
-    let r = place_part(job, lay, out, ol, work, wl, left, set, held, c);
-    let end = r.end;
-    let counts = r.counts;
-    let part = f.right;
-    let go = is_done(end);
-    Step {
-        go,
-        part,
-        end,
+    let counts = place_part(job, lay, out, ol, work, wl, left, set, held, c)?;
+    let step = Step::On {
+        part: f.right,
         counts,
         turned: n,
-    }
+    };
+    Ok(step)
 }
 
 // The step that the scans over a part lead to.
@@ -118,32 +93,29 @@ fn one_step(
     sp: SetPart,
     c: Counts,
     n: usize,
-) -> Step
+) -> Result<Step, NotPlaced>
     requires { StepReady (word_count job.now) (word_count work.old) (word_count out.old) (words_of job.now) (words_of work.old) (words_of out.old) lay ol wl sp c n }
     ensures stepped { Stepped (word_count job.now) (word_count work.old) (words_of job.now) (words_of work.old) (words_of work.new) lay wl sp n result }
     ensures step_to { (st : State) → StandsAs (job_of (words_of job.now) lay) ol (words_of out.old) (words_of job.now) (words_of work.old) lay wl c st
         → StepTo (words_of job.now) lay ol wl set top (words_of out.new) (words_of work.new) result
         (run (job_of (words_of job.now) lay) (room_of ol) set top st (part_segs (words_of work.old) wl.marks (words_of job.now) lay sp) (turned_rows_of (words_of work.old) wl.turned (words_of job.now) lay 0 n)) }
 {
-    let a = sp.first;
-    let m = next_move(job, lay, out, ol, work, wl, top, a, sp.end);
-    let kind = m.kind;
-    match kind {
-        MoveKind::Whole => {
-            let held = m.held;
-            let r = place_part(job, lay, out, ol, work, wl, sp, set, held, c);
-            over(sp, r, n)
+    match next_move(job, lay, out, ol, work, wl, top, sp.first, sp.end) {
+        Move::Whole(held) => {
+            let counts = place_part(job, lay, out, ol, work, wl, sp, set, held, c)?;
+            Ok(Step::Over(StepsEnd { counts, turned: n }))
         }
-        MoveKind::Turn(k) => {
-            let i = saturating_sub(k, a);
+        Move::Turn(k) => {
+            let i = k.saturating_sub(sp.first);
             turn_one(job, lay, work, wl, sp, i, n);
-            go_on(sp, c, n + 1)
+            Ok(Step::On {
+                part: sp,
+                counts: c,
+                turned: n + 1,
+            })
         }
-        MoveKind::Cut(p) => step_cut(job, lay, out, ol, work, wl, set, top, sp, p, c, n),
-        MoveKind::Halt(s) => {
-            let end = Ended::Stopped(s);
-            over(sp, PlaceEnd { end, counts: c }, n)
-        }
+        Move::Cut(p) => step_cut(job, lay, out, ol, work, wl, set, top, sp, p, c, n),
+        Move::Halt(s) => Err(NotPlaced::Stopped(s)),
     }
 }
 
@@ -158,7 +130,7 @@ fn step_in(
     sp: SetPart,
     c: Counts,
     n: usize,
-) -> Step
+) -> Result<Step, NotPlaced>
     requires { (31 ≤ length frame.now) × StepReady (word_count job.now) (word_count work.old) (word_count out.old) (words_of job.now) (words_of work.old) (words_of out.old) (layout_in frame.now) (out_in frame.now) (work_in frame.now) sp c n }
     ensures stepped { Stepped (word_count job.now) (word_count work.old) (words_of job.now) (words_of work.old) (words_of work.new) (layout_in frame.now) (work_in frame.now) sp n result }
     ensures steps_to { StepsTo (words_of job.now) (layout_in frame.now) (out_in frame.now) (work_in frame.now) set top (words_of out.old) (words_of work.old) sp c n (words_of out.new) (words_of work.new) result }
@@ -180,24 +152,19 @@ fn build_behind(
     sp: SetPart,
     c: Counts,
     n: usize,
-) -> StepsEnd
+) -> Result<StepsEnd, NotPlaced>
     requires { (31 ≤ length frame.now) × StepReady (word_count job.now) (word_count work.old) (word_count out.old) (words_of job.now) (words_of work.old) (words_of out.old) (layout_in frame.now) (out_in frame.now) (work_in frame.now) sp c n }
-    ensures changed { Changed (layout_in frame.now) (work_in frame.now) sp n (words_of work.old) (words_of work.new) × RowsOk (word_count work.new) (words_of work.new) (work_in frame.now).turned (layout_in frame.now) 0 result.turned }
+    ensures changed { Changed (layout_in frame.now) (work_in frame.now) sp n (words_of work.old) (words_of work.new) × IfOk result (λ r. RowsOk (word_count work.new) (words_of work.new) (work_in frame.now).turned (layout_in frame.now) 0 r.turned) }
     ensures builds_to { BuildsTo (words_of job.now) (layout_in frame.now) (out_in frame.now) (work_in frame.now) set top (words_of out.old) (words_of work.old) sp c n (words_of out.new) (words_of work.new) result }
 {
-    let s = step_in(job, frame, out, work, set, top, sp, c, n);
-    let counts = s.counts;
-    let turned = s.turned;
-    if !s.go {
-        let end = s.end;
-        return StepsEnd {
-            end,
+    match step_in(job, frame, out, work, set, top, sp, c, n)? {
+        Step::On {
+            part,
             counts,
             turned,
-        };
+        } => build_behind(job, frame, out, work, set, top, part, counts, turned),
+        Step::Over(end) => Ok(end),
     }
-    let part = s.part;
-    build_behind(job, frame, out, work, set, top, part, counts, turned)
 }
 
 // All steps over a part, behind n turned uses.
@@ -213,10 +180,10 @@ pub fn build_part(
     sp: SetPart,
     c: Counts,
     n: usize,
-) -> StepsEnd
+) -> Result<StepsEnd, NotPlaced>
     requires { Laid (word_count job.now) (word_count work.old) (words_of job.now) (words_of work.old) lay wl sp n × Builds (word_count out.old) (words_of job.now) lay ol
         × ((st : State) × StandsAs (job_of (words_of job.now) lay) ol (words_of out.old) (words_of job.now) (words_of work.old) lay wl c st) }
-    ensures changed { Changed lay wl sp n (words_of work.old) (words_of work.new) × RowsOk (word_count work.new) (words_of work.new) wl.turned lay 0 result.turned }
+    ensures changed { Changed lay wl sp n (words_of work.old) (words_of work.new) × IfOk result (λ r. RowsOk (word_count work.new) (words_of work.new) wl.turned lay 0 r.turned) }
     ensures built_fit { (st : State) → StandsAs (job_of (words_of job.now) lay) ol (words_of out.old) (words_of job.now) (words_of work.old) lay wl c st
         → BuiltFit (job_of (words_of job.now) lay) ol (words_of job.now) lay wl (words_of out.new) (words_of work.new) result
         (run (job_of (words_of job.now) lay) (room_of ol) set top st (part_segs (words_of work.old) wl.marks (words_of job.now) lay sp) (turned_rows_of (words_of work.old) wl.turned (words_of job.now) lay 0 n)) }

@@ -1,13 +1,21 @@
 -- Runs of rows of one instruction, and whether they are of one value. Assumes nothing.
-use mathlib.Core.Path.{◌≡◌, refl, sym, ap, ◌∙◌}
+use mathlib.Core.Path.{◌≡◌, refl, sym, ap, ap₂, subst, ◌∙◌}
 use mathlib.Core.Bool.{Bool, true, false, ◌&&◌}
 use mathlib.Core.List.{List, ◌∷◌}
-use Prim.Native.Nat.{ℕ, ◌+◌, ◌-◌, ◌*◌, ◌≤◌, ◌<◌}
+use Prim.Native.Nat.{ℕ, zero, suc, ◌+◌, ◌-◌, ◌*◌, ◌≤◌, ◌<◌}
 use native.Mathlib.Omega.{arith}
 use lib.Dec.{eqb}
 use lib.ListN.{get_or}
-use borrow.Author.Tests.{eq-eqb, ne_eqb}
-use Rattle.rows.specs.Tab.{tab, tab_more, tab_done}
+use borrow.Author.Tests.{eqb-true, eqb-false}
+use Rattle.std.proofs.iter.Yields.{nat_range_steps}
+use Rattle.std.proofs.lemmas.Iterator.{YieldsList-from_range}
+use Rattle.std.proofs.lemmas.Iterator.Search.{all_from_yields_List}
+use Rattle.std.specs.Fn.{Called}
+use Rattle.std.specs.Iterator.{ChecksAll}
+use Rattle.std.specs.List.{list_all, range_with_len}
+use Rattle.std.specs.declared.ops.Range.{Range}
+use denote.Param.Members.{Mut}
+use Rattle.rows.specs.Tab.{tab}
 use Rattle.definition.specs.declared.Value.{Value}
 use Rattle.definition.specs.declared.Use.{Use}
 use Rattle.definition.specs.Types.{Turned, val}
@@ -34,57 +42,40 @@ module _ (K : List ℕ) (turned : ℕ) (W : List ℕ) (lay : Layout) (a n : ℕ)
   run_start x ex l = running_start (inst_at K turned W lay) a n x.pos.0 (ap (λ (u : Use). u.pos.0) ex) l
 
   module _ (p e : ℕ) (v : Running (inst_at K turned W lay) a n p e) where
-    pub run_next : (u : Use) → u ≡ row_use K turned W lay e → u.pos.0 ≡ p → e < n → Running (inst_at K turned W lay) a n p (e + 1)
-    run_next u eu q l = running_next (inst_at K turned W lay) a n p e v u.pos.0 (ap (λ (x : Use). x.pos.0) eu) q l
+    pub run_next : (u : Use) → u ≡ row_use K turned W lay e → eqb u.pos.0 p ≡ true → e < n → Running (inst_at K turned W lay) a n p (e + 1)
+    run_next u eu q l = running_next (inst_at K turned W lay) a n p e v u.pos.0 (ap (λ (x : Use). x.pos.0) eu) (eqb-true _ _ q) l
 
-    pub run_stop : (u : Use) → u ≡ row_use K turned W lay e → (u.pos.0 ≡ p → ⊥)
+    pub run_stop : (u : Use) → u ≡ row_use K turned W lay e → eqb u.pos.0 p ≡ false
         → (a < e) × (e ≤ n) × (runs same_inst (turned_rows_of K turned W lay a n) ≡ turned_rows_of K turned W lay a e ∷ runs same_inst (turned_rows_of K turned W lay e n))
     unfolding turned_rows_of
-    run_stop u eu q = running_stop (inst_at K turned W lay) a n p e v inst_of (turned_row_at K turned W lay) (inst_is K turned W lay) u.pos.0 (ap (λ (x : Use). x.pos.0) eu) q
+    run_stop u eu q = running_stop (inst_at K turned W lay) a n p e v inst_of (turned_row_at K turned W lay) (inst_is K turned W lay) u.pos.0 (ap (λ (x : Use). x.pos.0) eu) (eqb-false _ _ q)
 
-    pub run_done : n ≤ e → (a < e) × (e ≤ n) × (runs same_inst (turned_rows_of K turned W lay a n) ≡ turned_rows_of K turned W lay a e ∷ runs same_inst (turned_rows_of K turned W lay e n))
+    pub run_done : n ≤ e → e ≤ n → (a < n) × (n ≤ n) × (runs same_inst (turned_rows_of K turned W lay a n) ≡ turned_rows_of K turned W lay a n ∷ runs same_inst (turned_rows_of K turned W lay n n))
     unfolding turned_rows_of
-    run_done l = running_end (inst_at K turned W lay) a n p e v inst_of (turned_row_at K turned W lay) (inst_is K turned W lay) l
+    run_done l h =
+        let q : e ≡ n = omega arith in
+        subst (λ (m : ℕ). (a < m) × (m ≤ n) × (runs same_inst (tab (turned_row_at K turned W lay) a (n - a)) ≡ tab (turned_row_at K turned W lay) a (m - a) ∷ runs same_inst (tab (turned_row_at K turned W lay) m (n - m)))) q
+        (running_end (inst_at K turned W lay) a n p e v inst_of (turned_row_at K turned W lay) (inst_is K turned W lay) l)
 
 -- ---- one value
-
--- rows i to b - 1 decide
-pub record Deciding (K : List ℕ) (turned : ℕ) (v : ℕ) (a b i : ℕ) : Type 0 where
-  pub low : a ≤ i
-  pub is : (W : List ℕ) (lay : Layout) → all_of (turned_row_at K turned W lay a).value (turned_rows_of K turned W lay (a + 1) b) ≡ all_of (val v) (turned_rows_of K turned W lay i b)
 
 row_value : (K : List ℕ) (turned : ℕ) (W : List ℕ) (lay : Layout) (k : ℕ) → (turned_row_at K turned W lay k).value ≡ val (get_or K (turned + k * 4) 0)
 unfolding turned_row_at
 row_value K turned W lay k = refl
 
-pub deciding_start : (K : List ℕ) (turned v a b : ℕ) → v ≡ get_or K (turned + a * 4) 0 → Deciding K turned v a b (a + 1)
-deciding_start K turned v a b e =
-    record {
-      low = omega arith;
-      is = λ W lay. ap (λ (x : Value). all_of x (turned_rows_of K turned W lay (a + 1) b)) (row_value K turned W lay a ∙ ap val (sym e));
-    }
+all_of_range : (K : List ℕ) (turned v : ℕ) (W : List ℕ) (lay : Layout) (i k : ℕ)
+    → list_all (λ j. eqb (get_or K (turned + j * 4) 0) v) (range_with_len i k) ≡ all_of (val v) (tab (turned_row_at K turned W lay) i k)
+all_of_range K turned v W lay i zero = refl
+all_of_range K turned v W lay i (suc k) =
+    ap₂ (λ (x : Value) (b : Bool). eqb x.0 v && b) (sym (row_value K turned W lay i)) (all_of_range K turned v W lay (i + 1) k)
 
-module _ (K : List ℕ) (turned v a b i : ℕ) (d : Deciding K turned v a b i) where
-  here : i < b → (W : List ℕ) (lay : Layout) → all_of (val v) (turned_rows_of K turned W lay i b) ≡ eqb (get_or K (turned + i * 4) 0) v && all_of (val v) (turned_rows_of K turned W lay (i + 1) b)
-  unfolding turned_rows_of
-  here l W lay =
-      ap (λ (ts : List Turned). all_of (val v) ts) (tab_more (turned_row_at K turned W lay) i b l)
-      ∙ ap (λ (x : Value). eqb x.0 v && all_of (val v) (tab (turned_row_at K turned W lay) (i + 1) (b - (i + 1)))) (row_value K turned W lay i)
-
-  pub deciding_next : i < b → (w : ℕ) → w ≡ get_or K (turned + i * 4) 0 → w ≡ v → Deciding K turned v a b (i + 1)
-  deciding_next l w e q =
-      record {
-        low = omega (arith, d.low);
-        is =
-            λ W lay.
-            d.is W lay ∙ here l W lay ∙ ap (λ (x : Bool). x && all_of (val v) (turned_rows_of K turned W lay (i + 1) b)) (eq-eqb (get_or K (turned + i * 4) 0) v (sym e ∙ q));
-      }
-
-  pub deciding_stop : i < b → (w : ℕ) → w ≡ get_or K (turned + i * 4) 0 → (w ≡ v → ⊥)
-      → (W : List ℕ) (lay : Layout) → false ≡ all_of (turned_row_at K turned W lay a).value (turned_rows_of K turned W lay (a + 1) b)
-  deciding_stop l w e q W lay =
-      sym (d.is W lay ∙ here l W lay ∙ ap (λ (x : Bool). x && all_of (val v) (turned_rows_of K turned W lay (i + 1) b)) (ne_eqb (get_or K (turned + i * 4) 0) v (λ z. q (e ∙ z))))
-
-  pub deciding_end : b ≤ i → (W : List ℕ) (lay : Layout) → true ≡ all_of (turned_row_at K turned W lay a).value (turned_rows_of K turned W lay (a + 1) b)
-  unfolding turned_rows_of
-  deciding_end l W lay = sym (d.is W lay ∙ ap (λ (ts : List Turned). all_of (val v) ts) (tab_done (turned_row_at K turned W lay) i b l))
+-- the closure h says of number x whether row x has value v
+pub one_value_is : {F : Type 0} {g : Mut F (ℕ × Unit {0}) Bool} (K : List ℕ) (turned v a b : ℕ) {u : Range ℕ} {h : F} {r : Bool} → v ≡ get_or K (turned + a * 4) 0
+    → ChecksAll nat_range_steps g (record { start = a + 1; end = b }) h r u
+    → ((x : ℕ) (t : Bool) (q : F) → Called g h (x, tt) t q → (q ≡ h) × (t ≡ eqb (get_or K (turned + x * 4) 0) v))
+    → (W : List ℕ) (lay : Layout) → r ≡ all_of (turned_row_at K turned W lay a).value (turned_rows_of K turned W lay (a + 1) b)
+unfolding turned_rows_of
+one_value_is K turned v a b {u} {h} {r} e ran is W lay =
+    all_from_yields_List (λ x. eqb (get_or K (turned + x * 4) 0) v) u h r ran (YieldsList-from_range (a + 1) b (b - (a + 1)) refl refl) is
+    ∙ all_of_range K turned v W lay (a + 1) (b - (a + 1))
+    ∙ ap (λ (x : Value). all_of x (tab (turned_row_at K turned W lay) (a + 1) (b - (a + 1)))) (ap val e ∙ sym (row_value K turned W lay a))

@@ -1,6 +1,5 @@
 -- The rows tried one after the other, in place. Assumes nothing.
 use mathlib.Core.Path.{◌≡◌, refl, sym, ap, ◌∙◌, subst}
-use mathlib.Core.Bool.{true, false}
 use mathlib.Core.Option.{Option, none, some}
 use mathlib.Core.List.{List, [], ◌∷◌, ◌++◌, reverse-append, reverse-reverse}
 use Prim.Native.Nat.{ℕ, zero, suc, ◌+◌, ◌-◌, ◌*◌, ◌≤◌, ◌<◌}
@@ -18,13 +17,13 @@ use Rattle.definition.specs.Build as build
 use Rattle.layout.specs.declared.Layout.{Layout}
 use Rattle.job.specs.Job.{job_of}
 use Rattle.constraints.specs.declared.Held.{Held}
-use Rattle.constraints.specs.declared.Admission.{Admission}
+use Rattle.std.specs.Prelude.{Some, None}
+use Rattle.std.specs.Prelude as code
 use Rattle.work_layout.specs.declared.WorkLayout.{WorkLayout}
 use Rattle.constraints.specs.Held.{held_of, admission_of}
 use Rattle.constraints.specs.Ready.{Backed, Ready}
 use Rattle.constraints.proofs.Admitted.{answer_yes, answer_no}
 use Rattle.conflict_piece.proofs.Going.{backed_row}
-use Rattle.conflict_round.specs.declared.Round.{Round}
 use Rattle.conflict_piece.specs.Conflict.{row_use, turned_row_at, turned_rows_of, RowsOk}
 use Rattle.conflict_round.specs.Rounds.{swap_rows, Elsewhere, try_from, try_all, Tried}
 use Rattle.conflict_round.proofs.Kept.{row_use_lem, rows_equal, elsewhere_none}
@@ -159,12 +158,12 @@ module _ (S : State → Type 0) (J : Job) (w : ℕ) (K₀ : List ℕ) (turned : 
     trying_end top e l st s =
         subst (λ (g : types.Held). Tried K turned W lay a b (record { end = i; held = h }) (try_from J st g (turned_rows_of K₀ turned W lay a b))) e (all_tried l st s)
 
-    module _ (l : i < j) (r : Admission) (ea : (st : State) → S st → admission_of r ≡ admit J st (held_of h) (row_use K turned W lay i)) where
+    module _ (l : i < j) (r : code.Option Held) (ea : (st : State) → S st → admission_of r ≡ admit J st (held_of h) (row_use K turned W lay i)) where
       at_row : (st : State) → S st → admission_of r ≡ admit J st (held_of h) (turned_row_at K turned W lay i).use'
       at_row st s = ea st s ∙ ap (λ (u : Use). admit J st (held_of h) u) (sym (row_use_lem K turned W lay i))
 
-      pub trying_yes : r.ok ≡ true → Trying S J h₀ w K₀ turned W lay a b K (i + 1) j (held_of r.held)
-      trying_yes q =
+      pub trying_yes : (g : Held) → r ≡ Some g → Trying S J h₀ w K₀ turned W lay a b K (i + 1) j (held_of g)
+      trying_yes g q =
           record {
             low = omega (arith, v.low);
             mid = omega arith;
@@ -174,10 +173,10 @@ module _ (S : State → Type 0) (J : Job) (w : ℕ) (K₀ : List ℕ) (turned : 
             on =
                 λ st s.
                 v.on st s
-                ∙ tried_yes J st (turned_row_at K turned W lay) a b i j (held_of h) v.low l v.high (held_of r.held) (answer_yes r _ (at_row st s) q);
+                ∙ tried_yes J st (turned_row_at K turned W lay) a b i j (held_of h) v.low l v.high (held_of g) (answer_yes r _ g (at_row st s) q);
           }
 
-      pub trying_no : r.ok ≡ false → (m : ℕ) → m ≡ j - 1 → (K₁ : List ℕ) → K₁ ≡ swap_rows K turned i m → w ≡ length K → Trying S J h₀ w K₀ turned W lay a b K₁ i m (held_of h)
+      pub trying_no : r ≡ None → (m : ℕ) → m ≡ j - 1 → (K₁ : List ℕ) → K₁ ≡ swap_rows K turned i m → w ≡ length K → Trying S J h₀ w K₀ turned W lay a b K₁ i m (held_of h)
       trying_no q m em K₁ ek ew =
           let x : i ≤ m = omega arith in
           let y : m < b = omega (arith, v.high) in

@@ -1,5 +1,5 @@
 -- A round over rows of turned uses, in place. Assumes nothing.
-use Rattle.std.specs.Prelude.{ℕ, ◌+◌, ◌-◌, ◌*◌, ◌≤◌, ◌<◌, ◌≡◌, List, [], ◌∷◌, length, get_or}
+use Rattle.std.specs.Prelude.{ℕ, ◌+◌, ◌*◌, ◌≤◌, ◌<◌, ◌≡◌, List, [], ◌∷◌, length, get_or}
 use Rattle.rows.specs.Parts.{splice}
 use Rattle.definition.specs.declared.RegClass.{RegClass}
 use Rattle.definition.specs.Types.{Job, State, Turned}

@@ -14,7 +14,7 @@ ghost use Rattle.constraints.specs.Ready.{Ready, Stands};
 ghost use Rattle.conflict_piece.specs.Conflict.{row_use, turned_row_at, turned_rows_of, RowsOk};
 ghost use Rattle.conflict_round.specs.Rounds.{row_words, swap_rows, TurnedApart, Elsewhere, try_all, Tried};
 
-use constraints::{Admission, Held};
+use constraints::Held;
 use definition::RegClass;
 use layout::Layout;
 use virt_regs::OutLayout;
@@ -58,8 +58,8 @@ fn swap_rows(work: &mut [u8], turned: usize, i: usize, j: usize)
     let q = turned + j * 4;
     let x = row_words(work, p);
     let y = row_words(work, q);
-    words::put_4(work, p, y.value, y.number, y.has, y.param);
-    words::put_4(work, q, x.value, x.number, x.has, x.param);
+    words::put_row(work, p, [y.value, y.number, y.has, y.param]);
+    words::put_row(work, q, [x.value, x.number, x.has, x.param]);
 }
 
 // Whether the use of row k is admitted.
@@ -72,12 +72,11 @@ fn admit_row(
     wl: WorkLayout,
     held: Held,
     k: usize,
-) -> Admission
+) -> Option<Held>
     requires { Ready (word_count job.now) (word_count work.now) (words_of job.now) (words_of work.now) lay wl × (tables_end ol ≤ word_count out.now) × (wl.turned + k * 4 + 4 ≤ word_count work.now) × (get_or (words_of work.now) (wl.turned + k * 4 + 1) 0 < lay.uses.n) × (0 < lay.segments.n) }
     ensures { (st : State) → Stands ol (words_of out.now) (words_of job.now) (words_of work.now) lay wl st → admission_of result ≡ admit (job_of (words_of job.now) lay) st (held_of held) (row_use (words_of work.now) wl.turned (words_of job.now) lay k) }
 {
-    let turned = wl.turned;
-    let u = conflict_piece::turned_use(job, lay, work, turned, k);
+    let u = conflict_piece::turned_use(job, lay, work, wl.turned, k);
     constraints::admit(job, lay, out, ol, work, wl, held, u)
 }
 
@@ -99,16 +98,19 @@ pub fn try_rows(
 {
     let turned = wl.turned;
     let mut held = scans::fresh_held(top);
+    // Both ends move, so no range gives the rows in turn.
     let mut i = a;
     let mut j = b;
     while i < j {
-        let r = admit_row(job, lay, out, ol, work, wl, held, i);
-        if r.ok {
-            held = r.held;
-            i += 1;
-        } else {
-            j -= 1;
-            swap_rows(work, turned, i, j);
+        match admit_row(job, lay, out, ol, work, wl, held, i) {
+            Some(next) => {
+                held = next;
+                i += 1;
+            }
+            None => {
+                j -= 1;
+                swap_rows(work, turned, i, j);
+            }
         }
     }
     Round { end: i, held }
@@ -120,15 +122,13 @@ pub fn run_end(job: &[u8], lay: Layout, work: &[u8], turned: usize, a: usize, n:
     ensures { (a < result) × (result ≤ n) × (runs same_inst (turned_rows_of (words_of work.now) turned (words_of job.now) lay a n) ≡ turned_rows_of (words_of work.now) turned (words_of job.now) lay a result ∷ runs same_inst (turned_rows_of (words_of work.now) turned (words_of job.now) lay result n)) }
 {
     let first = conflict_piece::turned_use(job, lay, work, turned, a);
-    let mut e = a + 1;
-    while e < n {
+    for e in a + 1..n {
         let u = conflict_piece::turned_use(job, lay, work, turned, e);
-        if u.pos.0 != first.pos.0 {
+        if u.pos != first.pos {
             return e;
         }
-        e += 1;
     }
-    e
+    n
 }
 
 // Whether rows a + 1 to b - 1 have the value of row a.
@@ -137,12 +137,5 @@ pub fn one_value(work: &[u8], turned: usize, a: usize, b: usize) -> bool
     ensures { (W : List ℕ) (lay : Layout) → result ≡ all_of (turned_row_at (words_of work.now) turned W lay a).value (turned_rows_of (words_of work.now) turned W lay (a + 1) b) }
 {
     let value = words::word_at(work, turned + a * 4);
-    let mut i = a + 1;
-    while i < b {
-        if words::word_at(work, turned + i * 4) != value {
-            return false;
-        }
-        i += 1;
-    }
-    true
+    (a + 1..b).all(|i| words::word_at(work, turned + i * 4) == value)
 }

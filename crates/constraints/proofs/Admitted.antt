@@ -18,8 +18,8 @@ use Rattle.definition.specs.Types.{Job, State}
 use Rattle.definition.specs.Types as types
 use Rattle.definition.specs.RegInfo.{common_subclass}
 use Rattle.definition.specs.Admit.{mapped_at, sets_at, same_sets, mapping_fits, group_fits, guard, in_group, admit_class, admit_group, admit_kind, admit}
-use Rattle.reginfo.specs.declared.Found.{Found}
-use Rattle.reginfo.specs.declared.Found.TheVariants.{Class, Nothing}
+use Rattle.std.specs.Prelude.{Some, None}
+use Rattle.std.specs.Prelude as code
 use Rattle.reginfo.specs.Rows.{found_of}
 use Rattle.virt_regs.specs.Encoding.{group_word}
 use Rattle.members.specs.declared.Joined.{Joined}
@@ -32,23 +32,16 @@ use Rattle.constraints.specs.declared.Ask.TheVariants.{Any, Group}
 use Rattle.constraints.specs.declared.OperandGroup.{OperandGroup}
 use Rattle.constraints.specs.Asks.{ask_of}
 use Rattle.constraints.specs.declared.Held.{Held}
-use Rattle.constraints.specs.declared.Admission.{Admission}
 use Rattle.constraints.specs.Held.{held_of, admission_of, holding, into_group}
 use Rattle.constraints.specs.Ready.{HasOperand, BackedAsk, Backed}
 
-abbrev pub refused : Held → Admission
-refused h = record { ok = false; held = h }
-
-abbrev pub kept : Held → Admission
-kept h = record { ok = true; held = h }
-
 -- ---- what an answer stands for
 
-pub answer_yes : (a : Admission) (o : Option types.Held) → admission_of a ≡ o → a.ok ≡ true → o ≡ some (held_of a.held)
+pub answer_yes : (a : code.Option Held) (o : Option types.Held) (h : Held) → admission_of a ≡ o → a ≡ Some h → o ≡ some (held_of h)
 unfolding admission_of
-answer_yes a o e q = sym e ∙ rw q
+answer_yes a o h e q = sym e ∙ rw q
 
-pub answer_no : (a : Admission) (o : Option types.Held) → admission_of a ≡ o → a.ok ≡ false → o ≡ none
+pub answer_no : (a : code.Option Held) (o : Option types.Held) → admission_of a ≡ o → a ≡ None → o ≡ none
 unfolding admission_of
 answer_no a o e q = sym e ∙ rw q
 
@@ -62,13 +55,13 @@ held_target h = refl
 
 -- ---- a class use
 
-module _ (job : Job) (h : Held) (c : RegClass) (f : Found) (e : f ≡ found_of (common_subclass job h.class c)) where
-  pub class_yes : (k : RegClass) → f ≡ Class k
-      → admission_of (kept (record { class = k; grouped = h.grouped; index = h.index; mapped = h.mapped; sets = h.sets; target = h.target })) ≡ admit_class job (held_of h) c
+module _ (job : Job) (h : Held) (c : RegClass) (f : code.Option RegClass) (e : f ≡ found_of (common_subclass job h.class c)) where
+  pub class_yes : (k : RegClass) → f ≡ Some k
+      → admission_of (Some (record { class = k; grouped = h.grouped; index = h.index; mapped = h.mapped; sets = h.sets; target = h.target })) ≡ admit_class job (held_of h) c
   unfolding admission_of held_of admit_class
   class_yes k q = sym (bind_some _ (found_some f (common_subclass job h.class c) k e q))
 
-  pub class_no : f ≡ Nothing → admission_of (refused h) ≡ admit_class job (held_of h) c
+  pub class_no : f ≡ None → admission_of None ≡ admit_class job (held_of h) c
   unfolding admission_of held_of admit_class
   class_no q = sym (bind_none _ (found_none f (common_subclass job h.class c) e q))
 
@@ -108,33 +101,32 @@ module _ (h : Held) (i m : ℕ) (sets : List ValueSet) where
 
 -- ---- what a group use leads to
 
-module _ (h : Held) (n : Joined) (i : ℕ) (g : OperandGroup) where
-  pub hold_yes : n.ok ≡ true
-      → admission_of (kept (record { class = n.class; grouped = true; index = i; mapped = g.mapped; sets = g.sets; target = n.target }))
-      ≡ bind (joined_of n) (λ x. some (holding i (group_of g.mapped) g.sets x))
-  unfolding admission_of held_of joined_of bind
-  hold_yes e = rw e
-
-  pub hold_no : n.ok ≡ false → admission_of (refused h) ≡ bind (joined_of n) (λ x. some (holding i (group_of g.mapped) g.sets x))
-  unfolding admission_of joined_of bind
-  hold_no e = rw e
-
 module _ (job : Job) (st : State) (h : Held) (k : RegClass) (i : ℕ) (g : OperandGroup) (b : Bool) (fit : b ≡ group_fits (held_of h).group i (group_of g.mapped) g.sets) where
-  pub into_yes : (n : Joined) (r : Admission) → b ≡ true → joined_of n ≡ in_group job st (held_of h) k i (group_of g.mapped)
-      → admission_of r ≡ bind (joined_of n) (λ x. some (holding i (group_of g.mapped) g.sets x)) → admission_of r ≡ into_group job st (held_of h) k i (group_of g.mapped) g.sets
+  into : (n : code.Option Joined) → b ≡ true → joined_of n ≡ in_group job st (held_of h) k i (group_of g.mapped)
+      → into_group job st (held_of h) k i (group_of g.mapped) g.sets ≡ bind (joined_of n) (λ x. some (holding i (group_of g.mapped) g.sets x))
   unfolding into_group guard bind
-  into_yes n r e en er = let q : group_fits (held_of h).group i (group_of g.mapped) g.sets ≡ true = sym fit ∙ e in rw q (er ∙ rw en)
+  into n e en = let q : group_fits (held_of h).group i (group_of g.mapped) g.sets ≡ true = sym fit ∙ e in rw (q, ← en)
 
-  pub into_no : b ≡ false → admission_of (refused h) ≡ into_group job st (held_of h) k i (group_of g.mapped) g.sets
+  pub into_yes : (n : code.Option Joined) (j : Joined) → b ≡ true → joined_of n ≡ in_group job st (held_of h) k i (group_of g.mapped) → n ≡ Some j
+      → admission_of (Some (record { class = j.class; grouped = true; index = i; mapped = g.mapped; sets = g.sets; target = j.target })) ≡ into_group job st (held_of h) k i (group_of g.mapped) g.sets
+  unfolding admission_of held_of joined_of bind
+  into_yes n j e en q = sym (into n e en ∙ rw q)
+
+  pub into_none : (n : code.Option Joined) → b ≡ true → joined_of n ≡ in_group job st (held_of h) k i (group_of g.mapped) → n ≡ None
+      → admission_of None ≡ into_group job st (held_of h) k i (group_of g.mapped) g.sets
+  unfolding admission_of joined_of bind
+  into_none n e en q = sym (into n e en ∙ rw q)
+
+  pub into_no : b ≡ false → admission_of None ≡ into_group job st (held_of h) k i (group_of g.mapped) g.sets
   unfolding admission_of into_group guard bind
   into_no e = let q : group_fits (held_of h).group i (group_of g.mapped) g.sets ≡ false = sym fit ∙ e in rw q
 
-module _ (job : Job) (st : State) (h : Held) (p : Inst) (s : ℕ) (c : RegClass) (i : ℕ) (f : Found) (e : f ≡ found_of (common_subclass job h.class c)) where
-  pub group_no : f ≡ Nothing → admission_of (refused h) ≡ admit_group job st (held_of h) p s c i
+module _ (job : Job) (st : State) (h : Held) (p : Inst) (s : ℕ) (c : RegClass) (i : ℕ) (f : code.Option RegClass) (e : f ≡ found_of (common_subclass job h.class c)) where
+  pub group_no : f ≡ None → admission_of None ≡ admit_group job st (held_of h) p s c i
   unfolding admission_of held_of admit_group
   group_no q = sym (bind_none _ (found_none f (common_subclass job h.class c) e q))
 
-  pub group_yes : (k : RegClass) (g : OperandGroup) (r : Admission) → f ≡ Class k → g.mapped ≡ group_word (mapped_at st.mapping p s) → g.sets ≡ sets_at job p s
+  pub group_yes : (k : RegClass) (g : OperandGroup) (r : code.Option Held) → f ≡ Some k → g.mapped ≡ group_word (mapped_at st.mapping p s) → g.sets ≡ sets_at job p s
       → admission_of r ≡ into_group job st (held_of h) k i (group_of g.mapped) g.sets → admission_of r ≡ admit_group job st (held_of h) p s c i
   unfolding admit_group into_group held_of
   group_yes k g r q em es er =
@@ -169,7 +161,7 @@ module _ (job : Job) (st : State) (h : Held) (u : Use) (a : Ask) (e : a ≡ ask_
   unfolding admit
   by_ask b q = ap (λ (x : Ask). admit_ask job st (held_of h) u.pos x) (sym q ∙ e) ∙ asked job st (held_of h) u.pos u.kind
 
-  pub by_any : a ≡ Any → admission_of (kept h) ≡ admit job st (held_of h) u
+  pub by_any : a ≡ Any → admission_of (Some h) ≡ admit job st (held_of h) u
   unfolding admission_of admit_ask
   by_any q = by_ask Any q
 

@@ -18,7 +18,7 @@ use Rattle.definition.specs.Admit.{mapped_at}
 use Rattle.definition.specs.Entry.{apart, same_place}
 use Rattle.rows.specs.RowsAt.{length_rows_at}
 use Rattle.function.specs.Blocks.{block_row, blocks_at, Starts}
-use Rattle.operands.specs.declared.FoundOperand.TheVariants.{At}
+use Rattle.std.specs.Prelude.{Some}
 use Rattle.operands.specs.Rows.{op_at, is_at, last_place}
 use Rattle.operands.proofs.Rows.{long}
 use Rattle.operands.proofs.Store.{chained_kept}
@@ -116,9 +116,9 @@ not_of os k j m a l h t ne true q =
     let r = both (eqb m.inst.0 (op_at os j).inst.0) (eqb m.slot (op_at os j).slot) q in
     let i : m.inst.0 ≡ (op_at os j).inst.0 = eqb-true m.inst.0 (op_at os j).inst.0 r.0 in
     let u : m.slot ≡ (op_at os j).slot = eqb-true m.slot (op_at os j).slot r.1 in
-    let fj : last_place os (length os) m.inst.0 m.slot ≡ At j =
+    let fj : last_place os (length os) m.inst.0 m.slot ≡ Some j =
     found_only os m.inst.0 m.slot j a h (both_eqb (op_at os j).inst.0 m.inst.0 (op_at os j).slot m.slot (sym i) (sym u)) in
-    let fk : last_place os (length os) m.inst.0 m.slot ≡ At k = found_only os m.inst.0 m.slot k a l t in
+    let fk : last_place os (length os) m.inst.0 m.slot ≡ Some k = found_only os m.inst.0 m.slot k a l t in
     let e : j ≡ k = cc in
     absurd (ne e)
 

@@ -1,5 +1,5 @@
 -- What the operand of a group use says. Assumes nothing.
-use mathlib.Core.Path.{◌≡◌, refl, sym, ap, ap₂, ◌∙◌}
+use mathlib.Core.Path.{◌≡◌, refl, sym, ap, ap₂, subst, ◌∙◌}
 use mathlib.Core.Bool.{Bool, true, false, ◌&&◌}
 use mathlib.Core.List.{List, []}
 use Prim.Native.Nat.{ℕ, ◌+◌, ◌*◌, ◌≤◌, ◌<◌}
@@ -16,8 +16,7 @@ use Rattle.definition.specs.Entry.{some_is, apart, same_place}
 use Rattle.function.specs.Blocks.{blocks_at}
 use Rattle.coalescing.specs.Rows.{values_at, vgroup_row, vgroups_at}
 use Rattle.coalescing.proofs.Members.{group_row_at}
-use Rattle.operands.specs.declared.FoundOperand.{FoundOperand}
-use Rattle.operands.specs.declared.FoundOperand.TheVariants.{At, Nothing}
+use Rattle.std.specs.Prelude.{Option, Some, None}
 use Rattle.operands.specs.Rows.{operand_row, op_at, is_at, last_place, vgroup_found}
 use Rattle.operands.specs.Chains.{Under}
 use Rattle.operands.proofs.Rows.{long, row_at}
@@ -28,7 +27,7 @@ use Rattle.job.specs.Job.{job_by, job_of}
 use Rattle.virt_regs.specs.Encoding.{group_word}
 use Rattle.work_layout.specs.declared.WorkLayout.{WorkLayout}
 use Rattle.constraints.specs.declared.OperandGroup.{OperandGroup}
-use Rattle.constraints.specs.Ready.{operands_in, HasOperand, OperandIs, Said}
+use Rattle.constraints.specs.Ready.{operands_in, HasOperand, OperandIs, Says, Said}
 
 -- ---- the tables of a job
 
@@ -60,10 +59,9 @@ module _ (W : List ℕ) (lay : Layout) (k : ℕ) (o : Operand) (l : k < lay.oper
   pub operand_says : (K : List ℕ) (wl : WorkLayout) (m : ℕ) (x : List ValueSet)
       → ((j : ℕ) → j < lay.operands.n → (op_at (operands_in W lay) j).vgroup.0 < lay.vgroups.n) → m ≡ get_or K (wl.mapping + k) 0
       → ((job : Job) → job.values ≡ values_at W lay.values.at lay.values.n → x ≡ sets_of job (vgroup_row W (lay.vgroups.at + o.vgroup.0 * 9)))
-      → OperandIs W K lay wl k (record { found = true; mapped = m; sets = x })
+      → OperandIs W K lay wl k (record { mapped = m; sets = x })
   operand_says K wl m x f em ex =
       record {
-        there = refl;
         mapped = em;
         sets =
             ex (job_of W lay) (job_values W lay)
@@ -78,16 +76,16 @@ both true q e = (refl, e)
 both false q e = never (sym e)
 
 module _ (W : List ℕ) (lay : Layout) (p : Inst) (s : ℕ) where
-  found_here : (f : FoundOperand) → f ≡ last_place (operands_in W lay) lay.operands.n p.0 s → f ≡ last_place (operands_in W lay) (length (operands_in W lay)) p.0 s
+  found_here : (f : Option ℕ) → f ≡ last_place (operands_in W lay) lay.operands.n p.0 s → f ≡ last_place (operands_in W lay) (length (operands_in W lay)) p.0 s
   found_here f e = e ∙ ap (λ (n : ℕ). last_place (operands_in W lay) n p.0 s) (sym (long W lay.operands.at lay.operands.n))
 
   -- the index has it
-  pub found_known : (f : FoundOperand) (k : ℕ) → f ≡ last_place (operands_in W lay) lay.operands.n p.0 s → f ≡ At k → k < lay.operands.n
+  pub found_known : (f : Option ℕ) (k : ℕ) → f ≡ last_place (operands_in W lay) lay.operands.n p.0 s → f ≡ Some k → k < lay.operands.n
   found_known f k e q = (found_at (operands_in W lay) lay.operands.n p.0 s k (sym e ∙ q)).0
 
-  pub said_found : (K : List ℕ) (wl : WorkLayout) (f : FoundOperand) (k : ℕ) (r : OperandGroup) → apart same_place (operands_in W lay) ≡ true → f ≡ last_place (operands_in W lay) lay.operands.n p.0 s → f ≡ At k
-      → OperandIs W K lay wl k r → Said W K lay wl p s r
-  unfolding sets_at
+  pub said_found : (K : List ℕ) (wl : WorkLayout) (f : Option ℕ) (k : ℕ) (r : OperandGroup) → apart same_place (operands_in W lay) ≡ true → f ≡ last_place (operands_in W lay) lay.operands.n p.0 s → f ≡ Some k
+      → OperandIs W K lay wl k r → Said W K lay wl p s (Some r)
+  unfolding sets_at Said
   said_found K wl f k r a e q i =
       let at = found_at (operands_in W lay) lay.operands.n p.0 s k (sym e ∙ q) in
       let b = both _ _ at.1 in
@@ -96,9 +94,8 @@ module _ (W : List ℕ) (lay : Layout) (p : Inst) (s : ℕ) where
       let g : vgroup_at (job_of W lay).operands p s ≡ (op_at (operands_in W lay) k).vgroup.0 =
       ap (λ (l : List Operand). vgroup_at l p s) (job_operands W lay)
       ∙ vgroup_found_lem (operands_in W lay) p s a
-      ∙ ap (λ (x : FoundOperand). vgroup_found (operands_in W lay) x) (sym (found_here f e) ∙ q) in
+      ∙ ap (λ (x : Option ℕ). vgroup_found (operands_in W lay) x) (sym (found_here f e) ∙ q) in
       record {
-        there = i.there;
         mapped =
             λ ms m.
             i.mapped
@@ -110,7 +107,7 @@ module _ (W : List ℕ) (lay : Layout) (p : Inst) (s : ℕ) where
       }
 
   -- an operand that is there is found, and at an instruction of the index
-  pub said_nothing : (f : FoundOperand) → f ≡ last_place (operands_in W lay) lay.operands.n p.0 s → f ≡ Nothing → HasOperand (job_of W lay) p s → ⊥
+  pub said_nothing : (f : Option ℕ) → f ≡ last_place (operands_in W lay) lay.operands.n p.0 s → f ≡ None → HasOperand (job_of W lay) p s → ⊥
   said_nothing f e q h =
       let t : some_is (is_at p.0 s) (operands_in W lay) ≡ true = ap (λ (l : List Operand). some_is (is_at p.0 s) l) (sym (job_operands W lay)) ∙ h in
       never (sym t ∙ none_at (operands_in W lay) p.0 s (sym (found_here f e) ∙ q))
@@ -118,10 +115,19 @@ module _ (W : List ℕ) (lay : Layout) (p : Inst) (s : ℕ) where
   pub said_past : (n : ℕ) → Under n (operands_in W lay) → n ≤ p.0 → HasOperand (job_of W lay) p s → ⊥
   said_past n u l h = go (last_place (operands_in W lay) lay.operands.n p.0 s) refl
     where
-      go : (f : FoundOperand) → last_place (operands_in W lay) lay.operands.n p.0 s ≡ f → ⊥
-      go (At k) e =
+      go : (f : Option ℕ) → last_place (operands_in W lay) lay.operands.n p.0 s ≡ f → ⊥
+      go (Some k) e =
           let at = found_at (operands_in W lay) lay.operands.n p.0 s k e in
           let ei : (op_at (operands_in W lay) k).inst.0 ≡ p.0 = eqb-true _ _ (both _ _ at.1).0 in
           let b : (op_at (operands_in W lay) k).inst.0 < n = u.under k (omega (arith, at.0, long W lay.operands.at lay.operands.n)) in
           omega arith
-      go Nothing e = said_nothing _ refl e h
+      go None e = said_nothing _ refl e h
+
+-- what is said is there
+pub said_some : (W K : List ℕ) (lay : Layout) (wl : WorkLayout) (p : Inst) (s : ℕ) (r : Option OperandGroup) (g : OperandGroup) → Said W K lay wl p s r → r ≡ Some g → Says W K lay wl p s g
+unfolding Said
+said_some W K lay wl p s r g h e = subst (λ (x : Option OperandGroup). Said W K lay wl p s x) e h
+
+pub said_none : (W K : List ℕ) (lay : Layout) (wl : WorkLayout) (p : Inst) (s : ℕ) (r : Option OperandGroup) → Said W K lay wl p s r → r ≡ None → ⊥
+unfolding Said
+said_none W K lay wl p s r h e = subst (λ (x : Option OperandGroup). Said W K lay wl p s x) e h

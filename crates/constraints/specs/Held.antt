@@ -1,6 +1,7 @@
 -- What the code's answers stand for. Assumes nothing.
 use Rattle.std.specs.Prelude.{ℕ, List}
-use Rattle.std.proofs.Math.Option.{Option, some, bind}
+use Rattle.std.specs.Prelude as code
+use Rattle.std.proofs.Math.Option.{Option, none, some, bind}
 use Rattle.definition.specs.declared.RegClass.{RegClass}
 use Rattle.definition.specs.declared.ValueSet.{ValueSet}
 use Rattle.definition.specs.declared.VirtReg.{VirtReg}
@@ -10,7 +11,6 @@ use Rattle.definition.specs.Types as types
 use Rattle.definition.specs.Admit.{guard, group_fits, in_group}
 use Rattle.members.specs.Places.{reg_of, group_of, given}
 use Rattle.constraints.specs.declared.Held.{Held}
-use Rattle.constraints.specs.declared.Admission.{Admission}
 
 -- what is held, as the definition has it
 unfoldable pub held_of : Held → types.Held
@@ -21,9 +21,11 @@ held_of h = record {
   target = reg_of h.target;
 }
 
-unfoldable pub admission_of : Admission → Option types.Held
+-- what is then held, if the use is admitted
+unfoldable pub admission_of : code.Option Held → Option types.Held
 unfolding held_of
-admission_of a = given a.ok (held_of a.held)
+admission_of code.None = none
+admission_of (code.Some h) = some (held_of h)
 
 -- what is held after a group use
 abbrev pub holding : ℕ → Option VirtRegGroup → List ValueSet → RegClass × Option VirtReg → types.Held

@@ -1,5 +1,5 @@
 -- What the builder's code needs of the job and of the work slice, and when its slices stand for a state. Assumes nothing.
-use Rattle.std.specs.Prelude.{ℕ, ◌+◌, ◌-◌, ◌*◌, ◌≤◌, ◌<◌, ◌≡◌, true, List, [], length, get_or}
+use Rattle.std.specs.Prelude.{ℕ, ◌+◌, ◌-◌, ◌*◌, ◌≤◌, ◌<◌, ◌≡◌, true, List, [], length, get_or, Option, Some, None}
 use Rattle.definition.specs.declared.Inst.{Inst}
 use Rattle.definition.specs.declared.Operand.{Operand}
 use Rattle.definition.specs.declared.Use.{Use}
@@ -77,12 +77,15 @@ pub record Stands (ol : OutLayout) (O W K : List ℕ) (lay : Layout) (wl : WorkL
 
 -- operand k
 pub record OperandIs (W K : List ℕ) (lay : Layout) (wl : WorkLayout) (k : ℕ) (r : OperandGroup) : Type 0 where
-  pub there : r.found ≡ true
   pub mapped : r.mapped ≡ get_or K (wl.mapping + k) 0
   pub sets : r.sets ≡ sets_of (job_of W lay) (get_or (vgroups_at W lay.vgroups.at lay.vgroups.n) (op_at (operands_in W lay) k).vgroup.0 [])
 
 -- the operand at instruction p and slot s
-pub record Said (W K : List ℕ) (lay : Layout) (wl : WorkLayout) (p : Inst) (s : ℕ) (r : OperandGroup) : Type 0 where
-  pub there : r.found ≡ true
+pub record Says (W K : List ℕ) (lay : Layout) (wl : WorkLayout) (p : Inst) (s : ℕ) (r : OperandGroup) : Type 0 where
   pub mapped : (ms : List Mapped) → Mapping K wl.mapping (operands_in W lay) ms → r.mapped ≡ group_word (mapped_at ms p s)
   pub sets : r.sets ≡ sets_at (job_of W lay) p s
+
+-- it is there
+unfoldable pub Said : List ℕ → List ℕ → Layout → WorkLayout → Inst → ℕ → Option OperandGroup → Type 0
+Said W K lay wl p s None = ⊥
+Said W K lay wl p s (Some r) = Says W K lay wl p s r

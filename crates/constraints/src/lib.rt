@@ -2,25 +2,20 @@
 #![tactic(auto)]
 
 ghost use Rattle.std.specs.Prelude.{◌≡◌, true, ◌+◌, ◌*◌, ◌≤◌, ◌<◌};
-ghost use Rattle.std.proofs.Math.Option.{bind, some};
 ghost use Rattle.words.specs.Words.{word_count, words_of};
 ghost use Rattle.definition.specs.Types.{State};
-ghost use Rattle.definition.specs.Types as types;
 ghost use Rattle.definition.specs.Admit.{mapping_fits, group_fits, admit_class, admit_group};
 ghost use Rattle.definition.specs.Admit as admission;
 ghost use Rattle.layout.specs.Layout.{Fits};
 ghost use Rattle.job.specs.Job.{job_of};
 ghost use Rattle.virt_regs.specs.Encoding.{tables_end, Holds};
-ghost use Rattle.members.specs.Places.{group_of, joined_of};
-ghost use Rattle.constraints.specs.Held.{held_of, admission_of, holding, into_group};
-ghost use Rattle.constraints.specs.Asks.{group_ask, ask_of};
+ghost use Rattle.members.specs.Places.{group_of};
+ghost use Rattle.constraints.specs.Held.{held_of, admission_of, into_group};
+ghost use Rattle.constraints.specs.Asks.{ask_of};
 ghost use Rattle.constraints.specs.Ready.{Ready, Stands, Backed, HasOperand, OperandIs, Said};
 
 use definition::{Inst, RegClass, Use, UseKind, ValueSet};
 use layout::Layout;
-use members::Joined;
-use operands::{Chains, FoundOperand};
-use reginfo::Found;
 use virt_regs::OutLayout;
 use work_layout::WorkLayout;
 
@@ -35,17 +30,9 @@ pub struct Held {
     pub target: u32,
 }
 
-// Whether a use is admitted, and what is then held.
-#[derive(Clone, Copy)]
-pub struct Admission {
-    pub ok: bool,
-    pub held: Held,
-}
-
 // What the operand of a group use says: its group + 1, 0 where it is not mapped, and the value sets of its members.
 #[derive(Clone, Copy)]
 pub struct OperandGroup {
-    pub found: bool,
     pub mapped: u32,
     pub sets: [ValueSet; 8],
 }
@@ -66,91 +53,61 @@ pub enum Ask {
     Group(GroupUse),
 }
 
-fn ask_group(slot: u16, class: RegClass, index: u8) -> Ask
-    ensures { result ≡ group_ask slot class index }
-{
-    Ask::Group(GroupUse {
-        slot: slot as u32,
-        class,
-        index: index as u32,
-    })
-}
-
 pub fn ask_of(kind: UseKind) -> Ask
     ensures { result ≡ ask_of kind }
 {
     match kind {
-        UseKind::FixedDef { .. } => Ask::Any,
-        UseKind::FixedUse { .. } => Ask::Any,
-        UseKind::TiedUse { .. } => Ask::Any,
-        UseKind::ConstraintConflict => Ask::Any,
-        UseKind::ClassUse { slot: _, class } => Ask::Class(class),
-        UseKind::ClassDef { slot: _, class } => Ask::Class(class),
+        UseKind::ClassUse { class, .. } | UseKind::ClassDef { class, .. } => Ask::Class(class),
         UseKind::GroupClassUse {
             slot,
             class,
             group_index,
-        } => ask_group(slot, class, group_index),
-        UseKind::GroupClassDef {
+        }
+        | UseKind::GroupClassDef {
             slot,
             class,
             group_index,
-        } => ask_group(slot, class, group_index),
-        UseKind::BlockparamIn { .. } => Ask::Any,
-        UseKind::BlockparamOut => Ask::Any,
+        } => Ask::Group(GroupUse {
+            slot: u32::from(slot),
+            class,
+            index: u32::from(group_index),
+        }),
+        UseKind::FixedDef { .. }
+        | UseKind::FixedUse { .. }
+        | UseKind::TiedUse { .. }
+        | UseKind::ConstraintConflict
+        | UseKind::BlockparamIn { .. }
+        | UseKind::BlockparamOut => Ask::Any,
     }
 }
 
 // A class use needs a common subclass of the class held and its own.
-fn admit_class(job: &[u8], lay: Layout, held: Held, c: RegClass) -> Admission
+fn admit_class(job: &[u8], lay: Layout, held: Held, c: RegClass) -> Option<Held>
     requires { Fits (word_count job.now) lay }
     ensures { admission_of result ≡ admit_class (job_of (words_of job.now) lay) (held_of held) c }
 {
     let at = lay.classes.at;
     let count = lay.classes.n;
-    let Found::Class(k) = reginfo::common_subclass(job, at, count, held.class, c) else {
-        return Admission { ok: false, held };
-    };
-    let sets = held.sets;
-    Admission {
-        ok: true,
-        held: Held {
-            class: k,
-            grouped: held.grouped,
-            index: held.index,
-            mapped: held.mapped,
-            sets,
-            target: held.target,
-        },
-    }
+    let class = reginfo::common_subclass(job, at, count, held.class, c)?;
+    Some(Held { class, ..held })
 }
 
 // Whether a mapping held before, a, lets b be held.
 fn mapping_fits(a: u32, b: u32) -> bool
     ensures { result ≡ mapping_fits (group_of a) (group_of b) }
 {
-    if a == 0 {
-        return true;
-    }
-    a == b
+    a == 0 || a == b
 }
 
 // Whether the group uses before let a group use have this index, mapping and value sets.
 fn group_fits(held: Held, index: u32, mapped: u32, sets: [ValueSet; 8]) -> bool
     ensures { result ≡ group_fits (held_of held).group index (group_of mapped) sets }
 {
-    if held.grouped {
-        let other = held.index != index;
-        if other {
-            return false;
-        }
-        if mapping_fits(held.mapped, mapped) {
-            let mine = held.sets;
-            return coalescing::same_sets(mine, sets);
-        }
-        return false;
+    if !held.grouped {
+        return true;
     }
-    true
+    let same = held.index == index;
+    same && mapping_fits(held.mapped, mapped) && coalescing::same_sets(held.sets, sets)
 }
 
 // What operand k says.
@@ -167,17 +124,8 @@ fn operand_group(job: &[u8], lay: Layout, work: &[u8], wl: WorkLayout, k: usize)
     let values = lay.values.at;
     let count = lay.values.n;
     OperandGroup {
-        found: true,
         mapped,
         sets: coalescing::value_sets(job, values, count, row),
-    }
-}
-
-fn no_operand() -> OperandGroup {
-    OperandGroup {
-        found: false,
-        mapped: 0,
-        sets: [ValueSet(0); 8],
     }
 }
 
@@ -189,47 +137,16 @@ fn find_group(
     wl: WorkLayout,
     p: Inst,
     slot: u32,
-) -> OperandGroup
+) -> Option<OperandGroup>
     requires { Ready (word_count job.now) (word_count work.now) (words_of job.now) (words_of work.now) lay wl }
     ensures { HasOperand (job_of (words_of job.now) lay) p slot → Said (words_of job.now) (words_of work.now) lay wl p slot result }
 {
-    let insts = wl.nexts - wl.heads;
-    if insts <= p.0 as usize {
-        return no_operand();
+    let c = work_layout::chains_in(lay, wl);
+    if c.insts <= p.0 as usize {
+        return None;
     }
-    let c = Chains {
-        at: lay.operands.at,
-        count: lay.operands.n,
-        heads: wl.heads,
-        nexts: wl.nexts,
-        insts,
-    };
-    match operands::find_operand(job, work, c, p, slot) {
-        FoundOperand::At(k) => operand_group(job, lay, work, wl, k),
-        FoundOperand::Nothing => no_operand(),
-    }
-}
-
-// What is held after a group use that leads to n.
-fn hold_group(held: Held, n: Joined, i: u32, g: OperandGroup) -> Admission
-    ensures { admission_of result ≡ bind (joined_of n) (λ x. some (holding i (group_of g.mapped) g.sets x)) }
-{
-    if n.ok {
-        let class = n.class;
-        let sets = g.sets;
-        return Admission {
-            ok: true,
-            held: Held {
-                class,
-                grouped: true,
-                index: i,
-                mapped: g.mapped,
-                sets,
-                target: n.target,
-            },
-        };
-    }
-    Admission { ok: false, held }
+    let k = operands::find_operand(job, work, c, p, slot)?;
+    Some(operand_group(job, lay, work, wl, k))
 }
 
 // A group use with index i, whose operand says g; k is the common subclass of the class held and its own.
@@ -242,18 +159,24 @@ fn admit_into(
     k: RegClass,
     i: u32,
     g: OperandGroup,
-) -> Admission
+) -> Option<Held>
     requires { Fits (word_count job.now) lay × (tables_end ol ≤ word_count out.now) }
     ensures { (st : State) → Holds ol (words_of out.now) st → admission_of result ≡ into_group (job_of (words_of job.now) lay) st (held_of held) k i (group_of g.mapped) g.sets }
 {
     let mapped = g.mapped;
     let sets = g.sets;
-    if group_fits(held, i, mapped, sets) {
-        let class = held.class;
-        let n = members::in_group(job, lay, out, ol, class, held.target, k, mapped, i);
-        return hold_group(held, n, i, g);
+    if !group_fits(held, i, mapped, sets) {
+        return None;
     }
-    Admission { ok: false, held }
+    let n = members::in_group(job, lay, out, ol, held.class, held.target, k, mapped, i)?;
+    Some(Held {
+        class: n.class,
+        grouped: true,
+        index: i,
+        mapped,
+        sets,
+        target: n.target,
+    })
 }
 
 // A group use needs its operand's group, index and value sets to fit besides.
@@ -267,20 +190,15 @@ fn admit_group(
     held: Held,
     p: Inst,
     u: GroupUse,
-) -> Admission
+) -> Option<Held>
     requires { Ready (word_count job.now) (word_count work.now) (words_of job.now) (words_of work.now) lay wl × (tables_end ol ≤ word_count out.now) }
     ensures { (st : State) → Stands ol (words_of out.now) (words_of job.now) (words_of work.now) lay wl st → HasOperand (job_of (words_of job.now) lay) p u.slot → admission_of result ≡ admit_group (job_of (words_of job.now) lay) st (held_of held) p u.slot u.class u.index }
 {
-    let g = find_group(job, lay, work, wl, p, u.slot);
-    if g.found {
-        let at = lay.classes.at;
-        let count = lay.classes.n;
-        let Found::Class(k) = reginfo::common_subclass(job, at, count, held.class, u.class) else {
-            return Admission { ok: false, held };
-        };
-        return admit_into(job, lay, out, ol, held, k, u.index, g);
-    }
-    Admission { ok: false, held }
+    let g = find_group(job, lay, work, wl, p, u.slot)?;
+    let at = lay.classes.at;
+    let count = lay.classes.n;
+    let k = reginfo::common_subclass(job, at, count, held.class, u.class)?;
+    admit_into(job, lay, out, ol, held, k, u.index, g)
 }
 
 // Whether a use is admitted, and what is then held. Kinds other than class uses are always admitted.
@@ -293,14 +211,13 @@ pub fn admit(
     wl: WorkLayout,
     held: Held,
     u: Use,
-) -> Admission
+) -> Option<Held>
     requires { Ready (word_count job.now) (word_count work.now) (words_of job.now) (words_of work.now) lay wl × (tables_end ol ≤ word_count out.now) }
     ensures { (st : State) → Stands ol (words_of out.now) (words_of job.now) (words_of work.now) lay wl st → Backed (job_of (words_of job.now) lay) u → admission_of result ≡ admission.admit (job_of (words_of job.now) lay) st (held_of held) u }
 {
     let p = u.pos;
-    let kind = u.kind;
-    match ask_of(kind) {
-        Ask::Any => Admission { ok: true, held },
+    match ask_of(u.kind) {
+        Ask::Any => Some(held),
         Ask::Class(c) => admit_class(job, lay, held, c),
         Ask::Group(g) => admit_group(job, lay, out, ol, work, wl, held, p, g),
     }

@@ -6,7 +6,8 @@ use mathlib.Core.Bool.{Bool, true, false, ◌&&◌}
 use mathlib.Core.List.{List}
 use lib.Dec.{ltb, eqb}
 use lib.ListN.{length, get_or}
-use borrow.Author.Tests.{lt-ltb, le-ltb, eq-eqb, ne_eqb}
+use borrow.Author.Tests.{lt-ltb, le-ltb, ne_eqb, eqb-true, eqb-false}
+use Rattle.std.specs.Prelude.{Option, Some, None}
 use Rattle.definition.specs.declared.Inst.{Inst}
 use Rattle.definition.specs.declared.Value.{Value}
 use Rattle.definition.specs.declared.Operand.{Operand}
@@ -14,14 +15,11 @@ use Rattle.definition.specs.Types.{inst, val, cls}
 use Rattle.definition.specs.Entry.{function_ok, group_use_ok, kind_ok}
 use Rattle.coalescing.specs.Rows.{vgroup_row}
 use Rattle.operands.specs.declared.Chains.{Chains}
-use Rattle.operands.specs.declared.FoundOperand.{FoundOperand}
-use Rattle.operands.specs.declared.FoundOperand.TheVariants.{At, Nothing}
 use Rattle.operands.specs.Rows.{operand_row, op_at, last_place, fits_use, fits_found}
 use Rattle.operands.specs.Chains.{operands_of}
 use Rattle.operands.proofs.Rows as operand_rows
 use Rattle.operands.proofs.Only.{found_at, found_of, group_use_found}
 use Rattle.uses.specs.Rows.{raw_kind, raw_row}
-use Rattle.layout.specs.declared.Table.{Table}
 use Rattle.layout.specs.declared.Layout.{Layout}
 use Rattle.job.specs.Job.{raw_job}
 use Rattle.entry_function.proofs.Tables.{raw_operands, operands_count, vgroups_count, classes_count, regs_count, members_row}
@@ -72,19 +70,19 @@ module _ (W : List ℕ) (lay : Layout) (p : function_ok (raw_job W lay) ≡ true
     on_row : (t : Bool) → t ≡ fits_use (raw_job W lay) v (cls class) j o → t ≡ fits_use (raw_job W lay) v (cls class) j (operand_row W (lay.operands.at + k * 4))
     on_row t e = e ∙ ap (λ (x : Operand). fits_use (raw_job W lay) v (cls class) j x) r
 
-    pub fits_class : (o.class.0 ≡ class → ⊥) → false ≡ fits_use (raw_job W lay) v (cls class) j (operand_row W (lay.operands.at + k * 4))
-    fits_class n = on_row false (rw (ne_eqb o.class.0 class n))
+    pub fits_class : eqb o.class.0 class ≡ false → false ≡ fits_use (raw_job W lay) v (cls class) j (operand_row W (lay.operands.at + k * 4))
+    fits_class n = on_row false (rw n)
 
-    module _ (e : o.class.0 ≡ class) (n : ℕ) (q : n ≡ length (vgroup_row W (lay.vgroups.at + o.vgroup.0 * 9))) where
+    module _ (e : eqb o.class.0 class ≡ true) (n : ℕ) (q : n ≡ length (vgroup_row W (lay.vgroups.at + o.vgroup.0 * 9))) where
       pub fits_index : n ≤ j → false ≡ fits_use (raw_job W lay) v (cls class) j (operand_row W (lay.operands.at + k * 4))
-      fits_index l = on_row false (rw (eq-eqb o.class.0 class e, members_row W lay o.vgroup group_there, ← q, le-ltb j n l))
+      fits_index l = on_row false (rw (e, members_row W lay o.vgroup group_there, ← q, le-ltb j n l))
 
       pub fits_by : j < n → (m : Value) → m ≡ get_or (vgroup_row W (lay.vgroups.at + o.vgroup.0 * 9)) j (val 0)
           → eqb m.0 v.0 ≡ fits_use (raw_job W lay) v (cls class) j (operand_row W (lay.operands.at + k * 4))
       fits_by l m s =
-          on_row (eqb m.0 v.0) (rw (eq-eqb o.class.0 class e, members_row W lay o.vgroup group_there, ← q, lt-ltb j n l) (ap (λ (x : Value). eqb x.0 v.0) s))
+          on_row (eqb m.0 v.0) (rw (e, members_row W lay o.vgroup group_there, ← q, lt-ltb j n l) (ap (λ (x : Value). eqb x.0 v.0) s))
 
-module _ (N w : ℕ) (W K : List ℕ) (lay : Layout) (c : Chains) (x : Ready N w W K lay c) (v : Value) (p : Inst) (s class j : ℕ) (f : FoundOperand)
+module _ (N w : ℕ) (W K : List ℕ) (lay : Layout) (c : Chains) (x : Ready N w W K lay c) (v : Value) (p : Inst) (s class j : ℕ) (f : Option ℕ)
     (e : f ≡ last_place (operands_of W c) c.count p.0 s) where
   found : f ≡ last_place (raw_job W lay).operands (length (raw_job W lay).operands) p.0 s
   found = e ∙ found_of W c (raw_job W lay) p.0 s (raw_operands W lay ∙ operands_of_lem W lay c w x.index)
@@ -92,23 +90,30 @@ module _ (N w : ℕ) (W K : List ℕ) (lay : Layout) (c : Chains) (x : Ready N w
   group_use : group_use_ok (raw_job W lay) v p s (cls class) j ≡ fits_found (raw_job W lay) v (cls class) j f
   group_use =
       group_use_found (raw_job W lay) v p s (cls class) j (passed_apart (raw_job W lay) x.passed)
-      ∙ ap (λ (g : FoundOperand). fits_found (raw_job W lay) v (cls class) j g) (sym found)
+      ∙ ap (λ (g : Option ℕ). fits_found (raw_job W lay) v (cls class) j g) (sym found)
 
-  pub found_below : (k : ℕ) → f ≡ At k → k < lay.operands.n
+  pub found_below : (k : ℕ) → f ≡ Some k → k < lay.operands.n
   found_below k q = omega (arith, (found_at (operands_of W c) c.count p.0 s k (sym e ∙ q)).0, x.index.count)
 
-  pub group_at : (k : ℕ) → f ≡ At k → (t : Bool) → t ≡ fits_use (raw_job W lay) v (cls class) j (operand_row W (lay.operands.at + k * 4))
+  pub group_at : (k : ℕ) → f ≡ Some k → (t : Bool) → t ≡ fits_use (raw_job W lay) v (cls class) j (operand_row W (lay.operands.at + k * 4))
       → t ≡ group_use_ok (raw_job W lay) v p s (cls class) j
   group_at k q t u =
       let r : operand_row W (lay.operands.at + k * 4) ≡ op_at (raw_job W lay).operands k =
       operand_rows.row_at W lay.operands.at lay.operands.n k (found_below k q) ∙ ap (λ (os : List Operand). op_at os k) (sym (raw_operands W lay)) in
       u ∙ ap (λ (o : Operand). fits_use (raw_job W lay) v (cls class) j o) r
-      ∙ sym (group_use ∙ ap (λ (g : FoundOperand). fits_found (raw_job W lay) v (cls class) j g) q)
+      ∙ sym (group_use ∙ ap (λ (g : Option ℕ). fits_found (raw_job W lay) v (cls class) j g) q)
 
-  pub group_none : f ≡ Nothing → false ≡ group_use_ok (raw_job W lay) v p s (cls class) j
-  group_none q = sym (group_use ∙ ap (λ (g : FoundOperand). fits_found (raw_job W lay) v (cls class) j g) q)
+  pub group_none : f ≡ None → false ≡ group_use_ok (raw_job W lay) v p s (cls class) j
+  group_none q = sym (group_use ∙ ap (λ (g : Option ℕ). fits_found (raw_job W lay) v (cls class) j g) q)
 
 -- ---- the kinds by their numbers
+
+one_of_two : {A : Type 0} (k n : ℕ) → n ≤ k → k < n + 2 → (k ≡ n → A) → (k ≡ n + 1 → A) → A
+one_of_two {A} k n l h f g = go (eqb k n) refl
+  where
+    go : (b : Bool) → eqb k n ≡ b → A
+    go true e = f (eqb-true k n e)
+    go false e = let ne : k ≡ n → ⊥ = eqb-false k n e in g (omega arith)
 
 module _ (W : List ℕ) (lay : Layout) (v : Value) (i k a b x d : ℕ) (p : Inst) (e : k ≡ get_or W i 0) (ep : p ≡ inst (get_or W (i + 1) 0)) (ea : a ≡ get_or W (i + 2) 0)
     (eb : b ≡ get_or W (i + 3) 0) (ex : x ≡ get_or W (i + 4) 0) (ed : d ≡ get_or W (i + 5) 0) where
@@ -116,17 +121,13 @@ module _ (W : List ℕ) (lay : Layout) (v : Value) (i k a b x d : ℕ) (p : Inst
   unfolding raw_row
   kind_is n q = rw (← e, ← ea, ← eb, ← ex, ← ed, ← ep, q)
 
-  pub kind_0 : k ≡ 0 → ltb a lay.regs.n ≡ kind_ok (raw_job W lay) v (raw_row W i).pos (raw_row W i).kind
+  pub kind_fixed : k < 2 → ltb a lay.regs.n ≡ kind_ok (raw_job W lay) v (raw_row W i).pos (raw_row W i).kind
   unfolding kind_ok raw_kind
-  kind_0 q = sym (kind_is 0 q ∙ rw (regs_count W lay))
+  kind_fixed h = one_of_two k 0 (omega arith) h (λ q. sym (kind_is 0 q ∙ rw (regs_count W lay))) (λ q. sym (kind_is 1 q ∙ rw (regs_count W lay)))
 
-  pub kind_1 : k ≡ 1 → ltb a lay.regs.n ≡ kind_ok (raw_job W lay) v (raw_row W i).pos (raw_row W i).kind
-  unfolding kind_ok raw_kind
-  kind_1 q = sym (kind_is 1 q ∙ rw (regs_count W lay))
-
-  pub kind_2 : k ≡ 2 → (t : Bool) → t ≡ tied_use_ok lay.classes.n a b x d → t ≡ kind_ok (raw_job W lay) v (raw_row W i).pos (raw_row W i).kind
+  pub kind_tied : k ≡ 2 → (t : Bool) → t ≡ tied_use_ok lay.classes.n a b x d → t ≡ kind_ok (raw_job W lay) v (raw_row W i).pos (raw_row W i).kind
   unfolding kind_ok raw_kind tied_use_ok class_use_ok
-  kind_2 q t f = f ∙ sym (kind_is 2 q ∙ rw (classes_count W lay) (turn (ltb a 65536) (ltb b 65536) (ltb x lay.classes.n) (ltb d 256)))
+  kind_tied q t f = f ∙ sym (kind_is 2 q ∙ rw (classes_count W lay) (turn (ltb a 65536) (ltb b 65536) (ltb x lay.classes.n) (ltb d 256)))
     where
       turn : (s u c j : Bool) → s && u && c && j ≡ u && (j && (s && c))
       turn true true true true = refl
@@ -138,32 +139,25 @@ module _ (W : List ℕ) (lay : Layout) (v : Value) (i k a b x d : ℕ) (p : Inst
       turn false true c false = refl
       turn false false c j = refl
 
-  pub kind_4 : k ≡ 4 → (t : Bool) → t ≡ class_use_ok lay.classes.n a b → t ≡ kind_ok (raw_job W lay) v (raw_row W i).pos (raw_row W i).kind
+  pub kind_classes : 4 ≤ k → k < 6 → (t : Bool) → t ≡ class_use_ok lay.classes.n a b → t ≡ kind_ok (raw_job W lay) v (raw_row W i).pos (raw_row W i).kind
   unfolding kind_ok raw_kind class_use_ok
-  kind_4 q t f = f ∙ sym (kind_is 4 q ∙ rw (classes_count W lay))
+  kind_classes l h t f =
+      one_of_two k 4 l h (λ q. f ∙ sym (kind_is 4 q ∙ rw (classes_count W lay))) (λ q. f ∙ sym (kind_is 5 q ∙ rw (classes_count W lay)))
 
-  pub kind_5 : k ≡ 5 → (t : Bool) → t ≡ class_use_ok lay.classes.n a b → t ≡ kind_ok (raw_job W lay) v (raw_row W i).pos (raw_row W i).kind
-  unfolding kind_ok raw_kind class_use_ok
-  kind_5 q t f = f ∙ sym (kind_is 5 q ∙ rw (classes_count W lay))
-
-  pub kind_6 : k ≡ 6 → (t : Bool) → t ≡ group_use_ok (raw_job W lay) v p a (cls b) x → t ≡ kind_ok (raw_job W lay) v (raw_row W i).pos (raw_row W i).kind
+  pub kind_groups : 6 ≤ k → k < 8 → (t : Bool) → t ≡ group_use_ok (raw_job W lay) v p a (cls b) x → t ≡ kind_ok (raw_job W lay) v (raw_row W i).pos (raw_row W i).kind
   unfolding kind_ok raw_kind
-  kind_6 q t f = f ∙ sym (kind_is 6 q)
+  kind_groups l h t f = one_of_two k 6 l h (λ q. f ∙ sym (kind_is 6 q)) (λ q. f ∙ sym (kind_is 7 q))
 
-  pub kind_7 : k ≡ 7 → (t : Bool) → t ≡ group_use_ok (raw_job W lay) v p a (cls b) x → t ≡ kind_ok (raw_job W lay) v (raw_row W i).pos (raw_row W i).kind
+  pub kind_params : 8 ≤ k → k < 10 → a < 4294967296 → true ≡ kind_ok (raw_job W lay) v (raw_row W i).pos (raw_row W i).kind
   unfolding kind_ok raw_kind
-  kind_7 q t f = f ∙ sym (kind_is 7 q)
+  kind_params l h m = one_of_two k 8 l h (λ q. sym (kind_is 8 q ∙ lt-ltb a 4294967296 m)) (λ q. sym (kind_is 9 q))
 
-  pub kind_8 : k ≡ 8 → a < 4294967296 → true ≡ kind_ok (raw_job W lay) v (raw_row W i).pos (raw_row W i).kind
+  pub kind_conflict : k ≡ 3 → false ≡ kind_ok (raw_job W lay) v (raw_row W i).pos (raw_row W i).kind
   unfolding kind_ok raw_kind
-  kind_8 q h = sym (kind_is 8 q ∙ lt-ltb a 4294967296 h)
+  kind_conflict q = sym (kind_is 3 q)
 
-  pub kind_9 : k ≡ 9 → true ≡ kind_ok (raw_job W lay) v (raw_row W i).pos (raw_row W i).kind
+  pub kind_past : 10 ≤ k → false ≡ kind_ok (raw_job W lay) v (raw_row W i).pos (raw_row W i).kind
   unfolding kind_ok raw_kind
-  kind_9 q = sym (kind_is 9 q)
-
-  pub kind_none : (k ≡ 0 → ⊥) → (k ≡ 1 → ⊥) → (k ≡ 2 → ⊥) → (k ≡ 4 → ⊥) → (k ≡ 5 → ⊥) → (k ≡ 6 → ⊥) → (k ≡ 7 → ⊥) → (k ≡ 8 → ⊥) → (k ≡ 9 → ⊥)
-      → false ≡ kind_ok (raw_job W lay) v (raw_row W i).pos (raw_row W i).kind
-  unfolding kind_ok raw_kind
-  kind_none n0 n1 n2 n4 n5 n6 n7 n8 n9 =
-      sym (kind_is k refl ∙ rw (ne_eqb k 0 n0, ne_eqb k 1 n1, ne_eqb k 2 n2, ne_eqb k 4 n4, ne_eqb k 5 n5, ne_eqb k 6 n6, ne_eqb k 7 n7, ne_eqb k 8 n8, ne_eqb k 9 n9))
+  kind_past h =
+      let other : (n : ℕ) → n < 10 → eqb k n ≡ false = λ n l. ne_eqb k n (λ q. omega arith) in
+      sym (kind_is k refl ∙ rw (other 0 (omega arith), other 1 (omega arith), other 2 (omega arith), other 4 (omega arith), other 5 (omega arith), other 6 (omega arith), other 7 (omega arith), other 8 (omega arith), other 9 (omega arith)))

@@ -10,31 +10,22 @@ ghost use Rattle.operands.specs.Rows.{operand_row, fits_use};
 ghost use Rattle.job.specs.Job.{raw_job};
 ghost use Rattle.entry_kinds.specs.Tests.{class_use_ok, tied_use_ok, Ready};
 
-use definition::{Inst, Value};
+use definition::{Inst, RegClass, Value};
 use layout::Layout;
-use operands::{Chains, FoundOperand};
+use operands::Chains;
 
 // Whether a slot fits its type and a class is one of n.
 fn class_use_ok(n: usize, slot: u32, class: u32) -> bool
     ensures { result ≡ class_use_ok n slot class }
 {
-    if 65536 <= slot {
-        return false;
-    }
-    (class as usize) < n
+    slot < 65536 && (class as usize) < n
 }
 
 // Whether two slots and a group index fit their types and a class is one of n.
 fn tied_use_ok(n: usize, slot: u32, def: u32, class: u32, index: u32) -> bool
     ensures { result ≡ tied_use_ok n slot def class index }
 {
-    if 65536 <= def {
-        return false;
-    }
-    if 256 <= index {
-        return false;
-    }
-    class_use_ok(n, slot, class)
+    def < 65536 && index < 256 && class_use_ok(n, slot, class)
 }
 
 // Whether operand k is of the class, and its value group has value v at the index.
@@ -52,14 +43,14 @@ fn operand_fits(
     ensures { result ≡ fits_use (raw_job (words_of job.now) lay) v (cls class) index (operand_row (words_of job.now) (lay.operands.at + k * 4)) }
 {
     let o = operands::operand_at(job, lay.operands.at + k * 4);
-    if o.class.0 != class {
+    if o.class != RegClass(class) {
         return false;
     }
     let group = lay.vgroups.at + o.vgroup.0 as usize * 9;
     if coalescing::group_len(job, group) <= index as usize {
         return false;
     }
-    coalescing::member_at(job, group, index as usize).0 == v.0
+    coalescing::member_at(job, group, index as usize) == v
 }
 
 // Whether a group use of value v at instruction p has its operand, with this class, and v at its index.
@@ -78,8 +69,8 @@ fn group_use_ok(
     ensures { result ≡ group_use_ok (raw_job (words_of job.now) lay) v p slot (cls class) index }
 {
     match operands::find_operand(job, work, c, p, slot) {
-        FoundOperand::At(k) => operand_fits(job, lay, work, c, k, v, class, index),
-        FoundOperand::Nothing => false,
+        Some(k) => operand_fits(job, lay, work, c, k, v, class, index),
+        None => false,
     }
 }
 
@@ -96,15 +87,11 @@ pub fn kind_ok(job: &[u8], lay: Layout, work: &[u8], c: Chains, v: Value, i: usi
     let regs = lay.regs.n;
     let classes = lay.classes.n;
     match words::word_at(job, i) {
-        0 => (a as usize) < regs,
-        1 => (a as usize) < regs,
+        0 | 1 => (a as usize) < regs,
         2 => tied_use_ok(classes, a, b, x, d),
-        4 => class_use_ok(classes, a, b),
-        5 => class_use_ok(classes, a, b),
-        6 => group_use_ok(job, lay, work, c, v, p, a, b, x),
-        7 => group_use_ok(job, lay, work, c, v, p, a, b, x),
-        8 => true,
-        9 => true,
+        4 | 5 => class_use_ok(classes, a, b),
+        6 | 7 => group_use_ok(job, lay, work, c, v, p, a, b, x),
+        8 | 9 => true,
         _ => false,
     }
 }

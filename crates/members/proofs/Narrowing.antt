@@ -16,8 +16,8 @@ use Rattle.definition.specs.declared.VirtRegGroup.{VirtRegGroup}
 use Rattle.definition.specs.Types.{Job, State, cls, vreg}
 use Rattle.definition.specs.RegInfo.{common_subclass}
 use Rattle.definition.specs.Admit.{register_at, members_at, narrowed}
-use Rattle.reginfo.specs.declared.Found.{Found}
-use Rattle.reginfo.specs.declared.Found.TheVariants.{Class, Nothing}
+use Rattle.std.specs.Prelude.{Some, None}
+use Rattle.std.specs.Prelude as code
 use Rattle.reginfo.specs.Rows.{found_of, classes_at}
 use Rattle.layout.specs.declared.Layout.{Layout}
 use Rattle.job.specs.Job.{job_by, job_of}
@@ -34,11 +34,11 @@ job_classes W lay = refl
 
 -- ---- what an answer says of the class that it stands for
 
-pub found_some : (f : Found) (o : Option RegClass) (k : RegClass) → f ≡ found_of o → f ≡ Class k → o ≡ some k
+pub found_some : (f : code.Option RegClass) (o : Option RegClass) (k : RegClass) → f ≡ found_of o → f ≡ Some k → o ≡ some k
 found_some f none k e q = let z : ◌≡◌ {A = ℕ} 0 1 = cc in absurd (omega arith)
 found_some f (some c) k e q = let r : c ≡ k = cc in ap some r
 
-pub found_none : (f : Found) (o : Option RegClass) → f ≡ found_of o → f ≡ Nothing → o ≡ none
+pub found_none : (f : code.Option RegClass) (o : Option RegClass) → f ≡ found_of o → f ≡ None → o ≡ none
 found_none f none e q = refl
 found_none f (some c) e q = let z : ◌≡◌ {A = ℕ} 0 1 = cc in absurd (omega arith)
 
@@ -54,16 +54,16 @@ bind_none f e = ap (λ o. bind o f) e
 
 -- ---- one place
 
-pub shared_is : (ol : OutLayout) (O : List ℕ) (st : State) → Holds ol O st → (job : Job) (v : VirtReg) (k c : RegClass) (r : Found) → v.0 < length st.registers
+pub shared_is : (ol : OutLayout) (O : List ℕ) (st : State) → Holds ol O st → (job : Job) (v : VirtReg) (k c : RegClass) (r : code.Option RegClass) → v.0 < length st.registers
     → c ≡ cls (get_or O (v.0 * 8 + 1) 0) → r ≡ found_of (common_subclass job k c) → r ≡ found_of (common_subclass job k (register_at st v).class)
 shared_is ol O st h job v k c r l e q =
     q ∙ ap (λ (x : RegClass). found_of (common_subclass job k x)) (e ∙ ap cls (class_held ol O st h v l))
 
-pub narrow_none : (job : Job) (st : State) (w : ℕ) (k : RegClass) → w ≡ 0 → Class k ≡ found_of (narrowed_at job st (reg_of w) k)
+pub narrow_none : (job : Job) (st : State) (w : ℕ) (k : RegClass) → w ≡ 0 → Some k ≡ found_of (narrowed_at job st (reg_of w) k)
 unfolding narrowed_at
 narrow_none job st w k e = sym (ap (λ (o : Option VirtReg). found_of (narrowed_at job st o k)) (reg_none w e))
 
-pub narrow_some : (job : Job) (st : State) (w : ℕ) (k : RegClass) (r : Found) → (w ≡ 0 → ⊥) → w ≤ length st.registers
+pub narrow_some : (job : Job) (st : State) (w : ℕ) (k : RegClass) (r : code.Option RegClass) → (w ≡ 0 → ⊥) → w ≤ length st.registers
     → ((vreg (w - 1)).0 < length st.registers → r ≡ found_of (common_subclass job k (register_at st (vreg (w - 1))).class)) → r ≡ found_of (narrowed_at job st (reg_of w) k)
 unfolding narrowed_at
 narrow_some job st w k r ne l f = f (omega arith) ∙ sym (ap (λ (o : Option VirtReg). found_of (narrowed_at job st o k)) (reg_some w ne))
@@ -91,39 +91,39 @@ narrow_step job st ms i k = go (ltb i (length ms)) refl
         rw (drop_of_length-le ms p, get_or-eq_default ms none p, drop_of_length-le ms q)
 
 -- the classes passed and the class now: what is left gives the whole answer
-pub record Narrowing (ol : OutLayout) (O : List ℕ) (job : Job) (g : VirtRegGroup) (k : RegClass) (i n : ℕ) : Type 0 where
-  pub is : (st : State) → Holds ol O st → narrowed job st (members_at st g) k ≡ narrowed job st (drop i (members_at st g)) (cls n)
+pub record Narrowing (ol : OutLayout) (O : List ℕ) (job : Job) (g : VirtRegGroup) (k : RegClass) (i : ℕ) (n : RegClass) : Type 0 where
+  pub is : (st : State) → Holds ol O st → narrowed job st (members_at st g) k ≡ narrowed job st (drop i (members_at st g)) n
 
-pub narrow_start : (ol : OutLayout) (O : List ℕ) (job : Job) (g : VirtRegGroup) (k : RegClass) → Narrowing ol O job g k 0 k.0
+pub narrow_start : (ol : OutLayout) (O : List ℕ) (job : Job) (g : VirtRegGroup) (k : RegClass) → Narrowing ol O job g k 0 k
 narrow_start ol O job g k = record { is = λ st h. refl }
 
-module _ {ol : OutLayout} {O : List ℕ} {job : Job} {g : VirtRegGroup} {k : RegClass} {i n : ℕ} (f : Narrowing ol O job g k i n) (w : ℕ) (r : Found)
+module _ {ol : OutLayout} {O : List ℕ} {job : Job} {g : VirtRegGroup} {k : RegClass} {i : ℕ} {n : RegClass} (f : Narrowing ol O job g k i n) (w : ℕ) (r : code.Option RegClass)
     (word : (st : State) → Holds ol O st → w ≡ place_word (get_or (members_at st g) i none))
-    (at : (st : State) → Holds ol O st → w ≤ length st.registers → r ≡ found_of (narrowed_at job st (reg_of w) (cls n))) where
-  here : (st : State) → Holds ol O st → r ≡ found_of (narrowed_at job st (get_or (members_at st g) i none) (cls n))
+    (at : (st : State) → Holds ol O st → w ≤ length st.registers → r ≡ found_of (narrowed_at job st (reg_of w) n)) where
+  here : (st : State) → Holds ol O st → r ≡ found_of (narrowed_at job st (get_or (members_at st g) i none) n)
   here st h =
       at st h (member_word ol O st h g i w (word st h))
-      ∙ ap (λ (o : Option VirtReg). found_of (narrowed_at job st o (cls n))) (reg_of_lem w _ (word st h))
+      ∙ ap (λ (o : Option VirtReg). found_of (narrowed_at job st o n)) (reg_of_lem w _ (word st h))
 
-  pub narrow_next : (m : RegClass) → r ≡ Class m → Narrowing ol O job g k (i + 1) m.0
+  pub narrow_next : (m : RegClass) → r ≡ Some m → Narrowing ol O job g k (i + 1) m
   narrow_next m e =
       record {
         is =
             λ st h.
             f.is st h
-            ∙ narrow_step job st (members_at st g) i (cls n)
+            ∙ narrow_step job st (members_at st g) i n
             ∙ bind_some (λ x. narrowed job st (drop (i + 1) (members_at st g)) x) (found_some r _ m (here st h) e);
       }
 
-  pub narrow_stop : r ≡ Nothing → (st : State) → Holds ol O st → Nothing ≡ found_of (narrowed job st (members_at st g) k)
+  pub narrow_stop : r ≡ None → (st : State) → Holds ol O st → None ≡ found_of (narrowed job st (members_at st g) k)
   narrow_stop e st h =
       sym (ap found_of (f.is st h
-      ∙ narrow_step job st (members_at st g) i (cls n)
+      ∙ narrow_step job st (members_at st g) i n
       ∙ bind_none (λ x. narrowed job st (drop (i + 1) (members_at st g)) x) (found_none r _ (here st h) e)))
 
-pub narrow_end : {ol : OutLayout} {O : List ℕ} {job : Job} {g : VirtRegGroup} {k : RegClass} {i n : ℕ} → Narrowing ol O job g k i n → 8 ≤ i
-    → (st : State) → Holds ol O st → Class (cls n) ≡ found_of (narrowed job st (members_at st g) k)
+pub narrow_end : {ol : OutLayout} {O : List ℕ} {job : Job} {g : VirtRegGroup} {k : RegClass} {i : ℕ} {n : RegClass} → Narrowing ol O job g k i n → 8 ≤ i
+    → (st : State) → Holds ol O st → Some n ≡ found_of (narrowed job st (members_at st g) k)
 unfolding narrowed
 narrow_end {ol} {O} {job} {g} {k} {i} {n} f l st h =
     let p : length (members_at st g) ≤ i = omega (arith, width ol O st h g) in
-    sym (ap found_of (f.is st h ∙ ap (λ (ms : List (Option VirtReg)). narrowed job st ms (cls n)) (drop_of_length-le (members_at st g) p)))
+    sym (ap found_of (f.is st h ∙ ap (λ (ms : List (Option VirtReg)). narrowed job st ms n) (drop_of_length-le (members_at st g) p)))

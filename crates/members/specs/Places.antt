@@ -1,5 +1,6 @@
 -- What the words for a place and for a group stand for. Assumes nothing.
 use Rattle.std.specs.Prelude.{ℕ, zero, suc, Bool, true, false}
+use Rattle.std.specs.Prelude as code
 use Rattle.std.proofs.Math.Option.{Option, none, some}
 use Rattle.definition.specs.declared.RegClass.{RegClass}
 use Rattle.definition.specs.declared.VirtReg.{VirtReg}
@@ -29,6 +30,7 @@ abbrev pub given : {A : Type 0} → Bool → A → Option A
 given true a = some a
 given false a = none
 
-unfoldable pub joined_of : Joined → Option (RegClass × Option VirtReg)
+unfoldable pub joined_of : code.Option Joined → Option (RegClass × Option VirtReg)
 unfolding reg_of
-joined_of j = given j.ok (j.class, reg_of j.target)
+joined_of code.None = none
+joined_of (code.Some j) = some (j.class, reg_of j.target)

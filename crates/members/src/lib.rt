@@ -2,11 +2,10 @@
 #![tactic(auto)]
 
 ghost use Rattle.std.specs.Prelude.{◌≡◌, ◌≤◌, ◌<◌, length, get_or};
-ghost use Rattle.std.proofs.Math.Option.{Option, none, some, bind};
+ghost use Rattle.std.proofs.Math.Option.{none};
 ghost use Rattle.words.specs.Words.{word_count, words_of};
 ghost use Rattle.definition.specs.Types.{State};
 ghost use Rattle.definition.specs.Types as types;
-ghost use Rattle.definition.specs.declared.RegClass as classes;
 ghost use Rattle.definition.specs.RegInfo.{common_subclass};
 ghost use Rattle.definition.specs.Admit.{register_at, members_at, narrowed, at_place, in_group};
 ghost use Rattle.layout.specs.Layout.{Fits};
@@ -17,13 +16,11 @@ ghost use Rattle.members.specs.Places.{reg_of, group_of, narrowed_at, joined_of}
 
 use definition::{RegClass, VirtReg, VirtRegGroup};
 use layout::Layout;
-use reginfo::Found;
 use virt_regs::OutLayout;
 
-// What a group use is to hold: the class, and the register to merge into + 1 (0: none); nothing if not ok.
+// What a group use is to hold: the class, and the register to merge into + 1 (0: none).
 #[derive(Clone, Copy)]
 pub struct Joined {
-    pub ok: bool,
     pub class: RegClass,
     pub target: u32,
 }
@@ -51,13 +48,13 @@ pub fn shared_class(
     ol: OutLayout,
     k: RegClass,
     v: VirtReg,
-) -> Found
+) -> Option<RegClass>
     requires { Fits (word_count job.now) lay × (tables_end ol ≤ word_count out.now) }
     ensures { (st : State) → Holds ol (words_of out.now) st → v.0 < length st.registers → result ≡ found_of (common_subclass (job_of (words_of job.now) lay) k (register_at st v).class) }
 {
     let n = v.0 as usize;
     if ol.regs <= n {
-        return Found::Nothing;
+        return None;
     }
     let c = virt_regs::class_of(out, v);
     let at = lay.classes.at;
@@ -66,12 +63,19 @@ pub fn shared_class(
 }
 
 // Class k narrowed by the member whose number + 1 is w, if w is not 0.
-fn narrow(job: &[u8], lay: Layout, out: &[u8], ol: OutLayout, k: RegClass, w: u32) -> Found
+fn narrow(
+    job: &[u8],
+    lay: Layout,
+    out: &[u8],
+    ol: OutLayout,
+    k: RegClass,
+    w: u32,
+) -> Option<RegClass>
     requires { Fits (word_count job.now) lay × (tables_end ol ≤ word_count out.now) }
     ensures { (st : State) → Holds ol (words_of out.now) st → w ≤ length st.registers → result ≡ found_of (narrowed_at (job_of (words_of job.now) lay) st (reg_of w) k) }
 {
     if w == 0 {
-        return Found::Class(k);
+        return Some(k);
     }
     shared_class(job, lay, out, ol, k, VirtReg(w - 1))
 }
@@ -84,38 +88,16 @@ pub fn narrowed_by(
     ol: OutLayout,
     g: VirtRegGroup,
     k: RegClass,
-) -> Found
+) -> Option<RegClass>
     requires { Fits (word_count job.now) lay × (tables_end ol ≤ word_count out.now) }
     ensures { (st : State) → Holds ol (words_of out.now) st → result ≡ found_of (narrowed (job_of (words_of job.now) lay) st (members_at st g) k) }
 {
-    let mut class = k.0;
-    let mut i: usize = 0;
-    while i < 8 {
+    let mut class = k;
+    for i in 0..8 {
         let w = place_word(out, ol, g, i);
-        let Found::Class(n) = narrow(job, lay, out, ol, RegClass(class), w) else {
-            return Found::Nothing;
-        };
-        class = n.0;
-        i += 1;
+        class = narrow(job, lay, out, ol, class, w)?;
     }
-    Found::Class(RegClass(class))
-}
-
-fn join_with(f: Found, target: u32) -> Joined
-    ensures { (o : Option classes.RegClass) → f ≡ found_of o → joined_of result ≡ bind o (λ n. some (n, reg_of target)) }
-{
-    match f {
-        Found::Class(class) => Joined {
-            ok: true,
-            class,
-            target,
-        },
-        Found::Nothing => Joined {
-            ok: false,
-            class: RegClass(0),
-            target,
-        },
-    }
+    Some(class)
 }
 
 // A use at index i of group g, where class and target were held and k is the candidate: the register at that place is merged into,
@@ -130,15 +112,17 @@ pub fn at_place(
     k: RegClass,
     g: VirtRegGroup,
     i: u32,
-) -> Joined
+) -> Option<Joined>
     requires { Fits (word_count job.now) lay × (tables_end ol ≤ word_count out.now) }
     ensures { (st : State) (h : types.Held) → Holds ol (words_of out.now) st → h.class ≡ class → h.target ≡ reg_of target → joined_of result ≡ at_place (job_of (words_of job.now) lay) st h k (members_at st g) (get_or (members_at st g) i none) }
 {
     let w = place_word(out, ol, g, i as usize);
     if w == 0 {
-        return join_with(narrowed_by(job, lay, out, ol, g, k), target);
+        let class = narrowed_by(job, lay, out, ol, g, k)?;
+        return Some(Joined { class, target });
     }
-    join_with(shared_class(job, lay, out, ol, class, VirtReg(w - 1)), w)
+    let class = shared_class(job, lay, out, ol, class, VirtReg(w - 1))?;
+    Some(Joined { class, target: w })
 }
 
 // The same with the group's number + 1 as m; where m is 0 the operand is not mapped and the candidate stays.
@@ -152,16 +136,12 @@ pub fn in_group(
     k: RegClass,
     m: u32,
     i: u32,
-) -> Joined
+) -> Option<Joined>
     requires { Fits (word_count job.now) lay × (tables_end ol ≤ word_count out.now) }
     ensures { (st : State) (h : types.Held) → Holds ol (words_of out.now) st → h.class ≡ class → h.target ≡ reg_of target → joined_of result ≡ in_group (job_of (words_of job.now) lay) st h k i (group_of m) }
 {
     if m == 0 {
-        return Joined {
-            ok: true,
-            class: k,
-            target,
-        };
+        return Some(Joined { class: k, target });
     }
     at_place(job, lay, out, ol, class, target, k, VirtRegGroup(m - 1), i)
 }

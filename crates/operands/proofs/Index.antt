@@ -7,8 +7,8 @@ use native.Mathlib.Omega.{arith}
 use lib.Dec.{eqb}
 use borrow.Author.Tests.{eqb-true, eq-eqb, ne_eqb}
 use Rattle.definition.specs.declared.Operand.{Operand}
-use Rattle.operands.specs.declared.FoundOperand.TheVariants.{At, Nothing}
-use Rattle.operands.specs.Rows.{op_at, pick_f, last_place}
+use Rattle.std.specs.Prelude.{Some, None, cond}
+use Rattle.operands.specs.Rows.{op_at, last_place}
 use Rattle.operands.specs.Chains.{pick_n, last_before}
 
 pub last_le : (os : List Operand) (n i : ℕ) → last_before os n i ≤ n
@@ -46,11 +46,11 @@ skip os zero i s = refl
 skip os (suc k) i s = go (eqb (op_at os k).inst.0 i) refl (skip os k i s)
   where
     go : (b : Bool) → eqb (op_at os k).inst.0 i ≡ b → last_place os k i s ≡ last_place os (last_before os k i) i s
-        → pick_f (b && eqb (op_at os k).slot s) (At k) (last_place os k i s) ≡ last_place os (pick_n b (suc k) (last_before os k i)) i s
+        → cond (b && eqb (op_at os k).slot s) (Some k) (last_place os k i s) ≡ last_place os (pick_n b (suc k) (last_before os k i)) i s
     go true e ih = rw (last_place, e)
     go false e ih = ih
 
-place_yes : (os : List Operand) (k i s : ℕ) → (op_at os k).inst.0 ≡ i → (op_at os k).slot ≡ s → last_place os (suc k) i s ≡ At k
+place_yes : (os : List Operand) (k i s : ℕ) → (op_at os k).inst.0 ≡ i → (op_at os k).slot ≡ s → last_place os (suc k) i s ≡ Some k
 unfolding last_place
 place_yes os k i s e h = rw (last_place, eq-eqb _ _ e, eq-eqb _ _ h)
 
@@ -83,14 +83,14 @@ follow_next {os} {n} {slot} {k₀} {k} {o} {w} {x} f h eo ew ne ex =
     }
 
 pub follow_stop : {os : List Operand} {n slot k₀ k o w : ℕ} → Following os n slot k₀ k → 0 < k → o ≡ k - 1 → w ≡ (op_at os o).slot → w ≡ slot
-    → (i : ℕ) → last_before os k₀ i ≡ k₀ → At o ≡ last_place os k₀ i slot
+    → (i : ℕ) → last_before os k₀ i ≡ k₀ → Some o ≡ last_place os k₀ i slot
 follow_stop {os} {n} {slot} {k₀} {k} {o} {w} f h eo ew es i e =
     let ek : k ≡ suc o = omega arith in
     let s = f.same i e in
     let ei : (op_at os o).inst.0 ≡ i = on_inst os o i (subst (λ (m : ℕ). last_before os m i ≡ m) ek s.0) in
     sym (s.1 ∙ ap (λ (m : ℕ). last_place os m i slot) ek ∙ place_yes os o i slot ei (sym ew ∙ es))
 
-pub follow_end : {os : List Operand} {n slot k₀ k : ℕ} → Following os n slot k₀ k → k ≤ 0 → (i : ℕ) → last_before os k₀ i ≡ k₀ → Nothing ≡ last_place os k₀ i slot
+pub follow_end : {os : List Operand} {n slot k₀ k : ℕ} → Following os n slot k₀ k → k ≤ 0 → (i : ℕ) → last_before os k₀ i ≡ k₀ → None ≡ last_place os k₀ i slot
 unfolding last_place
 follow_end {os} {n} {slot} {k₀} {k} f h i e =
     let ek : k ≡ 0 = omega arith in

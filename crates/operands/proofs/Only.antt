@@ -12,12 +12,11 @@ use Rattle.definition.specs.declared.Inst.{Inst}
 use Rattle.definition.specs.declared.Value.{Value}
 use Rattle.definition.specs.declared.RegClass.{RegClass}
 use Rattle.definition.specs.declared.Operand.{Operand}
-use Rattle.definition.specs.Types.{Job, inst, val}
+use Rattle.definition.specs.Types.{Job, val}
 use Rattle.definition.specs.Admit.{vgroup_at}
 use Rattle.definition.specs.Entry.{conj, every, some_is, apart, same_place, insts, vgroup_values, operand_ok, group_use_tests, group_use_ok}
-use Rattle.operands.specs.declared.FoundOperand.{FoundOperand}
-use Rattle.operands.specs.declared.FoundOperand.TheVariants.{At, Nothing}
-use Rattle.operands.specs.Rows.{op_at, is_at, pick_f, last_place, is_found, fits_use, fits_found, vgroup_found}
+use Rattle.std.specs.Prelude.{Option, Some, None, is_some, cond}
+use Rattle.operands.specs.Rows.{op_at, is_at, last_place, fits_use, fits_found, vgroup_found}
 use Rattle.operands.specs.declared.Chains.{Chains}
 use Rattle.operands.specs.Chains.{operands_of, Under}
 use Rattle.operands.proofs.Rows.{long}
@@ -28,20 +27,20 @@ both true q e = (refl, e)
 both false q e = never (sym e)
 
 -- what the search finds is there
-pub found_at : (os : List Operand) (n i s k : ℕ) → last_place os n i s ≡ At k → (k < n) × (is_at i s (op_at os k) ≡ true)
+pub found_at : (os : List Operand) (n i s k : ℕ) → last_place os n i s ≡ Some k → (k < n) × (is_at i s (op_at os k) ≡ true)
 unfolding last_place
 found_at os zero i s k e = let z : ◌≡◌ {A = ℕ} 0 1 = cc in absurd (omega arith)
 found_at os (suc m) i s k e = go (is_at i s (op_at os m)) refl (found_at os m i s k) e
   where
-    go : (b : Bool) → is_at i s (op_at os m) ≡ b → (last_place os m i s ≡ At k → (k < m) × (is_at i s (op_at os k) ≡ true))
-        → pick_f b (At m) (last_place os m i s) ≡ At k → (k < suc m) × (is_at i s (op_at os k) ≡ true)
+    go : (b : Bool) → is_at i s (op_at os m) ≡ b → (last_place os m i s ≡ Some k → (k < m) × (is_at i s (op_at os k) ≡ true))
+        → cond b (Some m) (last_place os m i s) ≡ Some k → (k < suc m) × (is_at i s (op_at os k) ≡ true)
     go true q ih e = let mk : m ≡ k = cc in (omega arith, ap (λ (j : ℕ). is_at i s (op_at os j)) (sym mk) ∙ q)
     go false q ih e = let r = ih e in (omega (arith, r.0), r.1)
 
 -- where it finds nothing none is there
-pub none_at : (os : List Operand) (i s : ℕ) → last_place os (length os) i s ≡ Nothing → some_is (is_at i s) os ≡ false
+pub none_at : (os : List Operand) (i s : ℕ) → last_place os (length os) i s ≡ None → some_is (is_at i s) os ≡ false
 none_at os i s e =
-    ap (λ (l : List Operand). some_is (is_at i s) l) (sym (take-length os)) ∙ some_place os (length os) i s (omega arith) ∙ ap is_found e
+    ap (λ (l : List Operand). some_is (is_at i s) l) (sym (take-length os)) ∙ some_place os (length os) i s (omega arith) ∙ ap is_some e
 
 some_at : (os : List Operand) (i s k : ℕ) → k < length os → is_at i s (op_at os k) ≡ true → some_is (is_at i s) os ≡ true
 unfolding some_is
@@ -95,12 +94,12 @@ one_place (x ∷ os) i s (suc j) zero a hj hk ej ek = never (sym ek ∙ others x
 one_place (x ∷ os) i s (suc j) (suc k) a hj hk ej ek = ap suc (one_place os i s j k (rest_apart x os a) (omega arith) (omega arith) ej ek)
 
 -- an operand at the place is the one that is found
-pub found_only : (os : List Operand) (i s j : ℕ) → apart same_place os ≡ true → j < length os → is_at i s (op_at os j) ≡ true → last_place os (length os) i s ≡ At j
+pub found_only : (os : List Operand) (i s j : ℕ) → apart same_place os ≡ true → j < length os → is_at i s (op_at os j) ≡ true → last_place os (length os) i s ≡ Some j
 found_only os i s j a h e = go (last_place os (length os) i s) refl
   where
-    go : (r : FoundOperand) → last_place os (length os) i s ≡ r → r ≡ At j
-    go (At k) q = let f = found_at os (length os) i s k q in ap At (one_place os i s k j a f.0 h f.1 e)
-    go Nothing q = never (sym (some_at os i s j h e) ∙ none_at os i s q)
+    go : (r : Option ℕ) → last_place os (length os) i s ≡ r → r ≡ Some j
+    go (Some k) q = let f = found_at os (length os) i s k q in ap Some (one_place os i s k j a f.0 h f.1 e)
+    go None q = never (sym (some_at os i s j h e) ∙ none_at os i s q)
 
 -- what `find_operand` answers, of the operands of a job
 pub found_of : (T : List ℕ) (c : Chains) (job : Job) (i s : ℕ) → job.operands ≡ operands_of T c
@@ -144,9 +143,9 @@ vgroup_none (x ∷ os) i s e = go (is_at i.0 s x) refl (vgroup_none os i s) e
 pub vgroup_found_lem : (os : List Operand) (i : Inst) (s : ℕ) → apart same_place os ≡ true → vgroup_at os i s ≡ vgroup_found os (last_place os (length os) i.0 s)
 vgroup_found_lem os i s a = go (last_place os (length os) i.0 s) refl
   where
-    go : (r : FoundOperand) → last_place os (length os) i.0 s ≡ r → vgroup_at os i s ≡ vgroup_found os r
-    go (At k) e = let f = found_at os (length os) i.0 s k e in vgroup_at_lem os i s k a f.0 f.1
-    go Nothing e = vgroup_none os i s (none_at os i.0 s e)
+    go : (r : Option ℕ) → last_place os (length os) i.0 s ≡ r → vgroup_at os i s ≡ vgroup_found os r
+    go (Some k) e = let f = found_at os (length os) i.0 s k e in vgroup_at_lem os i s k a f.0 f.1
+    go None e = vgroup_none os i s (none_at os i.0 s e)
 
 -- ---- a test of the operand at a place
 
@@ -192,8 +191,8 @@ group_use_found job v p s c j a = go (last_place os (length os) p.0 s) refl
         regroup (eqb o.inst.0 p.0) (eqb o.slot s) (eqb o.class.0 c.0) (ltb j (length (vgroup_values job o.vgroup)))
         (eqb (get_or (vgroup_values job o.vgroup) j (val 0)).0 v.0)
 
-    go : (r : FoundOperand) → last_place os (length os) p.0 s ≡ r → some_is (λ o. conj (group_use_tests job v p s c j o)) os ≡ fits_found job v c j r
-    go (At k) e =
+    go : (r : Option ℕ) → last_place os (length os) p.0 s ≡ r → some_is (λ o. conj (group_use_tests job v p s c j o)) os ≡ fits_found job v c j r
+    go (Some k) e =
         let f = found_at os (length os) p.0 s k e in
         test_at p.0 s (λ o. conj (group_use_tests job v p s c j o)) (fits_use job v c j) split os k a f.0 f.1
-    go Nothing e = test_none p.0 s (λ o. conj (group_use_tests job v p s c j o)) (fits_use job v c j) split os (none_at os p.0 s e)
+    go None e = test_none p.0 s (λ o. conj (group_use_tests job v p s c j o)) (fits_use job v c j) split os (none_at os p.0 s e)

@@ -5,9 +5,8 @@ use Prim.Native.Nat.{ℕ, ◌+◌, ◌-◌, ◌*◌, ◌≤◌, ◌<◌}
 use native.Mathlib.Omega.{arith}
 use lib.ListN.{get_or}
 use Rattle.operands.specs.declared.Chains.{Chains}
-use Rattle.operands.specs.declared.FoundOperand.{FoundOperand}
-use Rattle.operands.specs.declared.FoundOperand.TheVariants.{At}
-use Rattle.operands.specs.Rows.{op_at, last_place, taken_before, is_found}
+use Rattle.std.specs.Prelude.{Option, Some, is_some}
+use Rattle.operands.specs.Rows.{op_at, last_place, taken_before}
 use Rattle.operands.specs.Chains.{last_before, operands_of, Chained}
 use Rattle.operands.proofs.Rows.{long, slot_word}
 use Rattle.operands.proofs.Index.{Following, follow_next, follow_stop, last_le, last_on, skip}
@@ -33,21 +32,21 @@ module _ (T W : List ℕ) (c : Chains) (h : Chained W c (operands_of T c)) where
       follow_next f l eo (slot_word T c.at c.count o u m eu) ne (next_word o x m ex)
 
 pub search_stop : (T : List ℕ) (c : Chains) {slot k₀ k : ℕ} (o u : ℕ) → Following (operands_of T c) c.count slot k₀ k → 0 < k → o ≡ k - 1
-    → u ≡ get_or T (c.at + o * 4 + 1) 0 → u ≡ slot → (i : ℕ) → last_before (operands_of T c) k₀ i ≡ k₀ → At o ≡ last_place (operands_of T c) k₀ i slot
+    → u ≡ get_or T (c.at + o * 4 + 1) 0 → u ≡ slot → (i : ℕ) → last_before (operands_of T c) k₀ i ≡ k₀ → Some o ≡ last_place (operands_of T c) k₀ i slot
 search_stop T c o u f l eo eu es =
     let m : o < c.count = omega (arith, f.within) in
     follow_stop f l eo (slot_word T c.at c.count o u m eu) es
 
 -- what is found from the link to the last operand at i, of the first n, is found in the first n
-pub from_last : (T : List ℕ) (c : Chains) (n i s x : ℕ) (r : FoundOperand) → x ≡ last_before (operands_of T c) n i
+pub from_last : (T : List ℕ) (c : Chains) (n i s x : ℕ) (r : Option ℕ) → x ≡ last_before (operands_of T c) n i
     → ((j : ℕ) → last_before (operands_of T c) x j ≡ x → r ≡ last_place (operands_of T c) x j s) → r ≡ last_place (operands_of T c) n i s
 from_last T c n i s x r e f =
     let on : last_before (operands_of T c) x i ≡ x = ap (λ (m : ℕ). last_before (operands_of T c) m i) e ∙ last_on (operands_of T c) n i ∙ sym e in
     f i on ∙ ap (λ (m : ℕ). last_place (operands_of T c) m i s) e ∙ sym (skip (operands_of T c) n i s)
 
-pub taken_is : (T W : List ℕ) (c : Chains) → Chained W c (operands_of T c) → (k s x : ℕ) (r : FoundOperand) → k < c.count → s ≡ get_or T (c.at + k * 4 + 1) 0 → x ≡ get_or W (c.nexts + k) 0
-    → ((j : ℕ) → last_before (operands_of T c) x j ≡ x → r ≡ last_place (operands_of T c) x j s) → is_found r ≡ taken_before (operands_of T c) k
+pub taken_is : (T W : List ℕ) (c : Chains) → Chained W c (operands_of T c) → (k s x : ℕ) (r : Option ℕ) → k < c.count → s ≡ get_or T (c.at + k * 4 + 1) 0 → x ≡ get_or W (c.nexts + k) 0
+    → ((j : ℕ) → last_before (operands_of T c) x j ≡ x → r ≡ last_place (operands_of T c) x j s) → is_some r ≡ taken_before (operands_of T c) k
 unfolding taken_before
 taken_is T W c h k s x r l es ex f =
-    ap is_found (from_last T c k (op_at (operands_of T c) k).inst.0 s x r (next_word T W c h k x l ex) f
+    ap is_some (from_last T c k (op_at (operands_of T c) k).inst.0 s x r (next_word T W c h k x l ex) f
     ∙ ap (λ (n : ℕ). last_place (operands_of T c) k (op_at (operands_of T c) k).inst.0 n) (slot_word T c.at c.count k s l es))

@@ -8,9 +8,10 @@ use native.Mathlib.Omega.{arith}
 use lib.ListN.{length, take, drop, take-append-drop}
 use lib.Seq.{take-suc, take_all}
 use Rattle.definition.specs.declared.Operand.{Operand}
-use Rattle.definition.specs.Entry.{some_is, apart, same_place}
-use Rattle.operands.specs.declared.FoundOperand.TheVariants.{At}
-use Rattle.operands.specs.Rows.{no_operand, op_at, is_at, pick_f, last_place, is_found, taken_before}
+use Rattle.rows.specs.Tab.{tab}
+use Rattle.definition.specs.Entry.{some_is, every, apart, same_place}
+use Rattle.std.specs.Prelude.{Some, is_some, cond}
+use Rattle.operands.specs.Rows.{no_operand, op_at, is_at, last_place, taken_before}
 
 pub never : {A : Type 0} → ◌≡◌ {A = Bool} true false → A
 never e = let z : ◌≡◌ {A = ℕ} 0 1 = cc in absurd (omega arith)
@@ -34,7 +35,7 @@ module _ {A : Type 0} (f : A → Bool) where
   some_append (x ∷ xs) ys = ap (λ (b : Bool). f x || b) (some_append xs ys) ∙ sym (or_assoc (f x) (some_is f xs) (some_is f ys))
 
 -- one of the first k operands is at the place if the search finds one
-pub some_place : (os : List Operand) (k i s : ℕ) → k ≤ length os → some_is (is_at i s) (take k os) ≡ is_found (last_place os k i s)
+pub some_place : (os : List Operand) (k i s : ℕ) → k ≤ length os → some_is (is_at i s) (take k os) ≡ is_some (last_place os k i s)
 unfolding some_is last_place
 some_place os zero i s h = refl
 some_place os (suc k) i s h =
@@ -42,8 +43,8 @@ some_place os (suc k) i s h =
     ∙ some_append (is_at i s) (take k os) (op_at os k ∷ [])
     ∙ go (is_at i s (op_at os k)) (some_place os k i s (omega arith))
   where
-    go : (b : Bool) → some_is (is_at i s) (take k os) ≡ is_found (last_place os k i s)
-        → some_is (is_at i s) (take k os) || (b || false) ≡ is_found (pick_f b (At k) (last_place os k i s))
+    go : (b : Bool) → some_is (is_at i s) (take k os) ≡ is_some (last_place os k i s)
+        → some_is (is_at i s) (take k os) || (b || false) ≡ is_some (cond b (Some k) (last_place os k i s))
     go true ih = or_true (some_is (is_at i s) (take k os))
     go false ih = or_false (some_is (is_at i s) (take k os)) ∙ ih
 
@@ -82,22 +83,20 @@ apart_first (x ∷ xs) ys e =
     go false true p q h f = refl
     go false false p q h f = f h
 
--- the first k are apart
-pub record Apart (os : List Operand) (n k : ℕ) : Type 0 where
-  pub within : k ≤ n
-  pub is : apart same_place (take k os) ≡ true
+-- the first i are apart: all are, if none of the n operands from i on is again at a place before it
+rest_apart : (os : List Operand) (i n : ℕ) → i + n ≡ length os → apart same_place (take i os) ≡ true → every (λ k. not (taken_before os k)) (tab (λ k. k) i n) ≡ apart same_place os
+unfolding every
+rest_apart os i zero l e = sym (ap (λ (r : List Operand). apart same_place r) (sym (take_all i os (omega arith))) ∙ e)
+rest_apart os i (suc n) l e = go (taken_before os i) refl (rest_apart os (i + 1) n (omega arith))
+  where
+    go : (b : Bool) → taken_before os i ≡ b
+        → (apart same_place (take (i + 1) os) ≡ true → every (λ k. not (taken_before os k)) (tab (λ k. k) (i + 1) n) ≡ apart same_place os)
+        → not b && every (λ k. not (taken_before os k)) (tab (λ k. k) (i + 1) n) ≡ apart same_place os
+    go true q ih =
+        let z : apart same_place (take (i + 1) os) ≡ false = apart_step os i (omega arith) ∙ rw (e, q) in
+        sym (ap (λ (r : List Operand). apart same_place r) (sym (take-append-drop (i + 1) os)) ∙ apart_first (take (i + 1) os) (drop (i + 1) os) z)
+    go false q ih = ih (apart_step os i (omega arith) ∙ rw (e, q))
 
-pub apart_start : (os : List Operand) (n : ℕ) → Apart os n 0
+pub apart_by : (os : List Operand) (n : ℕ) → length os ≡ n → every (λ k. not (taken_before os k)) (tab (λ k. k) 0 n) ≡ apart same_place os
 unfolding apart
-apart_start os n = record { within = omega arith; is = refl }
-
-pub apart_next : {os : List Operand} {n k : ℕ} → Apart os n k → length os ≡ n → k < n → taken_before os k ≡ false → Apart os n (k + 1)
-apart_next {os} {n} {k} f l h e = record { within = omega arith; is = apart_step os k (omega arith) ∙ rw (f.is, e) }
-
-pub apart_stop : {os : List Operand} {n k : ℕ} → Apart os n k → length os ≡ n → k < n → taken_before os k ≡ true → false ≡ apart same_place os
-apart_stop {os} {n} {k} f l h e =
-    let z : apart same_place (take (k + 1) os) ≡ false = apart_step os k (omega arith) ∙ rw (f.is, e) in
-    sym (ap (λ (r : List Operand). apart same_place r) (sym (take-append-drop (k + 1) os)) ∙ apart_first (take (k + 1) os) (drop (k + 1) os) z)
-
-pub apart_done : {os : List Operand} {n k : ℕ} → Apart os n k → length os ≡ n → n ≤ k → true ≡ apart same_place os
-apart_done {os} {n} {k} f l h = sym (ap (λ (r : List Operand). apart same_place r) (sym (take_all k os (omega arith))) ∙ f.is)
+apart_by os n l = rest_apart os 0 n (omega arith) refl

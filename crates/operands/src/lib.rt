@@ -22,12 +22,6 @@ pub struct Chains {
     pub insts: usize,
 }
 
-#[derive(Clone, Copy)]
-pub enum FoundOperand {
-    At(usize),
-    Nothing,
-}
-
 // The operand whose row begins at word i.
 pub fn operand_at(t: &[u8], i: usize) -> Operand
     requires { i + 4 ≤ word_count t.now }
@@ -69,33 +63,31 @@ pub fn put_chains(t: &[u8], work: &mut [u8], c: Chains)
     ensures chained { Chained (words_of work.new) c (operands_of (words_of t.now) c) }
 {
     clear_words(work, c.heads, c.insts);
-    let count = c.count;
-    let mut k: usize = 0;
-    while k < count {
+    for k in 0..c.count {
         let i = words::word_at(t, c.at + k * 4) as usize;
         link(work, c, k, i);
-        k += 1;
     }
 }
 
 // The last operand with the slot from link k on, back through its instruction's operands.
-fn find_from(t: &[u8], work: &[u8], c: Chains, k: usize, slot: u32) -> FoundOperand
+fn find_from(t: &[u8], work: &[u8], c: Chains, k: usize, slot: u32) -> Option<usize>
     requires { Fits (word_count t.now) (word_count work.now) c × Chained (words_of work.now) c (operands_of (words_of t.now) c) × (k ≤ c.count) }
     ensures { (i : ℕ) → last_before (operands_of (words_of t.now) c) k i ≡ k → result ≡ last_place (operands_of (words_of t.now) c) k i slot }
 {
+    // The links lead the way: nothing is counted.
     let mut link = k;
     while 0 < link {
         let o = link - 1;
         if words::word_at(t, c.at + o * 4 + 1) == slot {
-            return FoundOperand::At(o);
+            return Some(o);
         }
         link = words::word_at(work, c.nexts + o) as usize;
     }
-    FoundOperand::Nothing
+    None
 }
 
 // The operand at an instruction and slot; where there are several, the last.
-pub fn find_operand(t: &[u8], work: &[u8], c: Chains, inst: Inst, slot: u32) -> FoundOperand
+pub fn find_operand(t: &[u8], work: &[u8], c: Chains, inst: Inst, slot: u32) -> Option<usize>
     requires { Fits (word_count t.now) (word_count work.now) c × Chained (words_of work.now) c (operands_of (words_of t.now) c) × (inst.0 < c.insts) }
     ensures { result ≡ last_place (operands_of (words_of t.now) c) c.count inst.0 slot }
 {
@@ -110,10 +102,7 @@ fn is_again(t: &[u8], work: &[u8], c: Chains, k: usize) -> bool
 {
     let slot = words::word_at(t, c.at + k * 4 + 1);
     let before = words::word_at(work, c.nexts + k) as usize;
-    match find_from(t, work, c, before, slot) {
-        FoundOperand::At(_) => true,
-        FoundOperand::Nothing => false,
-    }
+    find_from(t, work, c, before, slot).is_some()
 }
 
 // Whether no two operands are at one place.
@@ -121,13 +110,5 @@ pub fn no_twice(t: &[u8], work: &[u8], c: Chains) -> bool
     requires { Fits (word_count t.now) (word_count work.now) c × Chained (words_of work.now) c (operands_of (words_of t.now) c) }
     ensures { result ≡ apart same_place (operands_of (words_of t.now) c) }
 {
-    let count = c.count;
-    let mut k: usize = 0;
-    while k < count {
-        if is_again(t, work, c, k) {
-            return false;
-        }
-        k += 1;
-    }
-    true
+    (0..c.count).all(|k| !is_again(t, work, c, k))
 }

@@ -1,14 +1,14 @@
 -- One operand mapped. Assumes nothing.
 use mathlib.Core.Path.{◌≡◌, refl, sym, ap, ap₂, ◌∙◌, subst}
-use mathlib.Core.Bool.{Bool, true, false, not, cond, ◌&&◌}
+use mathlib.Core.Bool.{Bool, true, false, cond, ◌&&◌}
 use mathlib.Core.Option.{Option, none, some}
 use mathlib.Core.List.{List, [], ◌∷◌, ◌++◌}
-use Prim.Native.Nat.{ℕ, ◌+◌, ◌-◌, ◌<◌}
+use Prim.Native.Nat.{ℕ, ◌+◌, ◌<◌}
 use native.Mathlib.Omega.{arith}
 use lib.Dec.{eqb, ltb}
 use lib.ListN.{length, get_or, set, length-set}
 use lib.Seq.{get_or-set_same, get_or-set_other}
-use borrow.Author.Tests.{eqb-true, eqb-false, eq-eqb, ltb-true, ltb-false, not-true, not-false}
+use borrow.Author.Tests.{eqb-true, eqb-false, eq-eqb, ltb-true, ltb-false}
 use Rattle.definition.specs.declared.Inst.{Inst}
 use Rattle.definition.specs.declared.Use.{Use}
 use Rattle.definition.specs.declared.UseKind.{UseKind}
@@ -20,7 +20,8 @@ use Rattle.definition.specs.Uses.{slot_of}
 use Rattle.definition.specs.Admit.{mapped_at}
 use Rattle.definition.specs.Place.{if_unmapped, map_one}
 use Rattle.definition.specs.Entry.{apart, same_place}
-use Rattle.operands.specs.declared.FoundOperand.TheVariants.{At}
+use Rattle.std.specs.Prelude.{Some, None}
+use Rattle.std.specs.Prelude as code
 use Rattle.operands.specs.Rows.{op_at, is_at, last_place}
 use Rattle.operands.specs.Chains.{Under}
 use Rattle.operands.proofs.Rows.{long}
@@ -33,7 +34,6 @@ use Rattle.work_layout.specs.declared.WorkLayout.{WorkLayout}
 use Rattle.constraints.specs.Ready.{operands_in, Mapping, HasOperand, BackedAsk, Backed}
 use Rattle.constraints.specs.Asks.{ask_of}
 use Rattle.constraints.proofs.Operand.{said_past}
-use Rattle.part_maps.specs.declared.GroupSlot.{GroupSlot}
 use Rattle.part_maps.specs.Maps.{slot_given, Outside, MapsTo, PutAt, Maps, map_use}
 use Rattle.part_maps.proofs.Kept.{outside_none}
 
@@ -72,7 +72,7 @@ word_some (some f) ms e = refl
 -- ---- operand k
 
 module _ (W K : List ℕ) (lay : Layout) (wl : WorkLayout) (p : Inst) (s : ℕ) (k g : ℕ) (a : apart same_place (operands_in W lay) ≡ true)
-    (e : last_place (operands_in W lay) lay.operands.n p.0 s ≡ At k) where
+    (e : last_place (operands_in W lay) lay.operands.n p.0 s ≡ Some k) where
   known : (k < lay.operands.n) × ((op_at (operands_in W lay) k).inst ≡ p) × ((op_at (operands_in W lay) k).slot ≡ s)
   known =
       let f = found_at (operands_in W lay) lay.operands.n p.0 s k e in
@@ -98,7 +98,7 @@ module _ (W K : List ℕ) (lay : Layout) (wl : WorkLayout) (p : Inst) (s : ℕ) 
           let b = both _ _ q in
           let at : is_at p.0 s (op_at os j) ≡ true =
           ap₂ (λ (x y : Bool). x && y) (eq-eqb (op_at os j).inst.0 p.0 (sym (eqb-true _ _ b.0))) (eq-eqb (op_at os j).slot s (sym (eqb-true _ _ b.1))) in
-          let f : At k ≡ At j = sym e ∙ ap (λ (m : ℕ). last_place os m p.0 s) (sym (long W lay.operands.at lay.operands.n)) ∙ found_only os p.0 s j a h at in
+          let f : Some k ≡ Some j = sym e ∙ ap (λ (m : ℕ). last_place os m p.0 s) (sym (long W lay.operands.at lay.operands.n)) ∙ found_only os p.0 s j a h at in
           absurd (n (cc))
 
   mapping_more : (ms : List Mapped) → wl.mapping + k < length K → Mapping K wl.mapping (operands_in W lay) ms → mapped_at ms p s ≡ none
@@ -161,28 +161,24 @@ put_free K n g w K' e z q = record { taken = λ u. never u; free = λ u. (sym e 
 
 -- ---- a use
 
-pub slot_read : (x : GroupSlot) (k j : UseKind) → k ≡ j → x ≡ slot_given (slot_of j) → x ≡ slot_given (slot_of k)
-slot_read x k j e h = h ∙ ap (λ (i : UseKind). slot_given (slot_of i)) (sym e)
-
-given_none : (o : Option ℕ) → (slot_given o).grouped ≡ false → o ≡ none
+given_none : (o : Option ℕ) → slot_given o ≡ None → o ≡ none
 given_none none e = refl
-given_none (some s) e = never e
+given_none (some s) e = let z : ◌≡◌ {A = ℕ} 0 1 = cc in absurd (omega arith)
 
-given_some : (o : Option ℕ) → (slot_given o).grouped ≡ true → o ≡ some (slot_given o).slot
-given_some none e = never (sym e)
-given_some (some s) e = refl
+given_some : (o : Option ℕ) (s : ℕ) → slot_given o ≡ Some s → o ≡ some s
+given_some none s e = let z : ◌≡◌ {A = ℕ} 0 1 = cc in absurd (omega arith)
+given_some (some t) s e = let q : t ≡ s = cc in ap some q
 
 -- not a group use
-pub maps_other : (W K : List ℕ) (lay : Layout) (wl : WorkLayout) (g : VirtRegGroup) (u : Use) (x : GroupSlot) → x ≡ slot_given (slot_of u.kind) → not x.grouped ≡ true → Maps W K lay wl (map_use g u) true K
+pub maps_other : (W K : List ℕ) (lay : Layout) (wl : WorkLayout) (g : VirtRegGroup) (u : Use) (x : code.Option ℕ) → x ≡ slot_given (slot_of u.kind) → x ≡ None → Maps W K lay wl (map_use g u) true K
 unfolding map_use MapsTo
 maps_other W K lay wl g u x e n =
-    let z : slot_of u.kind ≡ none = given_none (slot_of u.kind) (ap (λ (y : GroupSlot). y.grouped) (sym e) ∙ not-true x.grouped n) in
+    let z : slot_of u.kind ≡ none = given_none (slot_of u.kind) (sym e ∙ n) in
     record { outside = outside_none lay wl K; answers = λ ms m. rw z (refl, m) }
 
 -- a group use
-pub slot_is : (u : Use) (x : GroupSlot) → x ≡ slot_given (slot_of u.kind) → not x.grouped ≡ false → slot_of u.kind ≡ some x.slot
-slot_is u x e n =
-    given_some (slot_of u.kind) (ap (λ (y : GroupSlot). y.grouped) (sym e) ∙ not-false x.grouped n) ∙ ap (λ (y : GroupSlot). some y.slot) (sym e)
+pub slot_is : (u : Use) (x : code.Option ℕ) (s : ℕ) → x ≡ slot_given (slot_of u.kind) → x ≡ Some s → slot_of u.kind ≡ some s
+slot_is u x s e n = given_some (slot_of u.kind) s (sym e ∙ n)
 
 pub maps_group : (W K : List ℕ) (lay : Layout) (wl : WorkLayout) (g : VirtRegGroup) (u : Use) (s : ℕ) (r : Bool) (K' : List ℕ) → slot_of u.kind ≡ some s
     → Maps W K lay wl (map_one u.pos (some s) g) r K' → Maps W K lay wl (map_use g u) r K'

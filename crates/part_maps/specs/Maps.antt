@@ -1,5 +1,6 @@
 -- Group operands mapped in the work slice: a word of the mapping for each operand, its group + 1, 0 for none. Assumes nothing.
-use Rattle.std.specs.Prelude.{ℕ, ◌+◌, ◌≤◌, ◌<◌, ◌≡◌, Bool, true, false, List, length, get_or, set}
+use Rattle.std.specs.Prelude.{ℕ, ◌+◌, ◌≤◌, ◌<◌, ◌≡◌, Bool, true, false, List, length, get_or, set, Some, None}
+use Rattle.std.specs.Prelude as code
 use Rattle.std.proofs.Math.Option.{Option, none, some}
 use Rattle.definition.specs.declared.Use.{Use}
 use Rattle.definition.specs.declared.VirtRegGroup.{VirtRegGroup}
@@ -10,15 +11,11 @@ use Rattle.definition.specs.Place.{map_one}
 use Rattle.layout.specs.declared.Layout.{Layout}
 use Rattle.work_layout.specs.declared.WorkLayout.{WorkLayout}
 use Rattle.constraints.specs.Ready.{operands_in, Mapping}
-use Rattle.part_maps.specs.declared.GroupSlot.{GroupSlot}
-
-abbrev pub slot_by : Bool → ℕ → GroupSlot
-slot_by b s = record { grouped = b; slot = s }
 
 -- the slot of a group use
-abbrev pub slot_given : Option ℕ → GroupSlot
-slot_given none = slot_by false 0
-slot_given (some s) = slot_by true s
+abbrev pub slot_given : Option ℕ → code.Option ℕ
+slot_given none = None
+slot_given (some s) = Some s
 
 -- the mapping lies behind the index of the operands and before the other parts of the work slice
 pub record MapApart (lay : Layout) (wl : WorkLayout) : Type 0 where

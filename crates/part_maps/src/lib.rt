@@ -10,41 +10,29 @@ ghost use Rattle.definition.specs.Place.{map_one, map_uses, uses_of};
 ghost use Rattle.job.specs.Job.{job_of};
 ghost use Rattle.set_part.specs.Part.{PartOk, part_segs};
 ghost use Rattle.constraints.specs.Ready.{Ready, Backed, HasOperand};
-ghost use Rattle.part_maps.specs.Maps.{slot_by, slot_given, MapApart, PutAt, Maps, map_use};
+ghost use Rattle.part_maps.specs.Maps.{slot_given, MapApart, PutAt, Maps, map_use};
 
 use definition::{Inst, Use, UseKind};
 use layout::Layout;
-use operands::{Chains, FoundOperand};
 use set_part::SetPart;
 use work_layout::WorkLayout;
 
-// The slot of a group use; other uses are not `grouped`.
-#[derive(Clone, Copy)]
-pub struct GroupSlot {
-    pub grouped: bool,
-    pub slot: u32,
-}
-
-fn slot_of(grouped: bool, slot: u32) -> GroupSlot
-    ensures { result ≡ slot_by grouped slot }
-{
-    GroupSlot { grouped, slot }
-}
-
-fn group_slot(kind: UseKind) -> GroupSlot
+// The slot of a group use; other uses have none.
+fn group_slot(kind: UseKind) -> Option<u32>
     ensures { result ≡ slot_given (slot_of kind) }
 {
     match kind {
-        UseKind::FixedDef { .. } => slot_of(false, 0),
-        UseKind::FixedUse { .. } => slot_of(false, 0),
-        UseKind::TiedUse { .. } => slot_of(false, 0),
-        UseKind::ConstraintConflict => slot_of(false, 0),
-        UseKind::ClassUse { .. } => slot_of(false, 0),
-        UseKind::ClassDef { .. } => slot_of(false, 0),
-        UseKind::GroupClassUse { slot, .. } => slot_of(true, slot as u32),
-        UseKind::GroupClassDef { slot, .. } => slot_of(true, slot as u32),
-        UseKind::BlockparamIn { .. } => slot_of(false, 0),
-        UseKind::BlockparamOut => slot_of(false, 0),
+        UseKind::GroupClassUse { slot, .. } | UseKind::GroupClassDef { slot, .. } => Some(u32::from(
+            slot,
+        )),
+        UseKind::FixedDef { .. }
+        | UseKind::FixedUse { .. }
+        | UseKind::TiedUse { .. }
+        | UseKind::ConstraintConflict
+        | UseKind::ClassUse { .. }
+        | UseKind::ClassDef { .. }
+        | UseKind::BlockparamIn { .. }
+        | UseKind::BlockparamOut => None,
     }
 }
 
@@ -74,17 +62,10 @@ fn map_operand(
     requires { Ready (word_count job.now) (word_count work.old) (words_of job.now) (words_of work.old) lay wl × HasOperand (job_of (words_of job.now) lay) p slot × (g < 4294967295) }
     ensures { Maps (words_of job.now) (words_of work.old) lay wl (map_one p (some slot) (vrgroup g)) result (words_of work.new) }
 {
-    let insts = wl.nexts - wl.heads;
-    let c = Chains {
-        at: lay.operands.at,
-        count: lay.operands.n,
-        heads: wl.heads,
-        nexts: wl.nexts,
-        insts,
-    };
+    let c = work_layout::chains_in(lay, wl);
     match operands::find_operand(job, work, c, p, slot) {
-        FoundOperand::At(k) => map_at(work, wl, k, g),
-        FoundOperand::Nothing => false,
+        Some(k) => map_at(work, wl, k, g),
+        None => false,
     }
 }
 
@@ -93,13 +74,10 @@ pub fn map_use(job: &[u8], lay: Layout, work: &mut [u8], wl: WorkLayout, u: Use,
     requires { Ready (word_count job.now) (word_count work.old) (words_of job.now) (words_of work.old) lay wl × Backed (job_of (words_of job.now) lay) u × (g < 4294967295) }
     ensures { Maps (words_of job.now) (words_of work.old) lay wl (map_use (vrgroup g) u) result (words_of work.new) }
 {
-    let pos = u.pos;
-    let kind = u.kind;
-    let s = group_slot(kind);
-    if !s.grouped {
-        return true;
+    match group_slot(u.kind) {
+        Some(slot) => map_operand(job, lay, work, wl, u.pos, slot, g),
+        None => true,
     }
-    map_operand(job, lay, work, wl, pos, s.slot, g)
 }
 
 // "A new group maps every group operand of its register": of a part. Not if one is mapped already.
@@ -114,15 +92,11 @@ pub fn map_part(
     requires { Ready (word_count job.now) (word_count work.old) (words_of job.now) (words_of work.old) lay wl × MapApart lay wl × PartOk (words_of job.now) lay sp × (g < 4294967295) }
     ensures { Maps (words_of job.now) (words_of work.old) lay wl (map_uses (vrgroup g) (uses_of (part_segs (words_of work.old) wl.marks (words_of job.now) lay sp))) result (words_of work.new) }
 {
-    let end = sp.end;
-    let marks = wl.marks;
-    let mut i = sp.first;
-    while i < end {
-        let u = turned::marked_use(job, lay, work, marks, i);
+    for i in sp.first..sp.end {
+        let u = turned::marked_use(job, lay, work, wl.marks, i);
         if !map_use(job, lay, work, wl, u, g) {
             return false;
         }
-        i += 1;
     }
     true
 }

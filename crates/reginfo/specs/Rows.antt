@@ -1,6 +1,6 @@
 -- The rows of the register book's tables, and what the code's answer stands for. Assumes nothing.
-use Rattle.std.specs.Prelude.{ℕ, ◌+◌, Bool, List, eqb, get_or}
-use Rattle.std.proofs.Math.Option.{Option, none, some}
+use Rattle.std.specs.Prelude.{ℕ, ◌+◌, Bool, List, eqb, get_or, Option, Some, None}
+use Rattle.std.proofs.Math.Option as maybe
 use Rattle.std.specs.Float.{binary32}
 use Rattle.std.specs.Float.Ieee.{of_bits}
 use Rattle.rows.specs.RowsAt.{rows_at}
@@ -8,12 +8,11 @@ use Rattle.definition.specs.declared.RegClass.{RegClass}
 use Rattle.definition.specs.declared.ClassData.{ClassData}
 use Rattle.definition.specs.Types.{cls}
 use Rattle.definition.specs.RegInfo.{no_class}
-use Rattle.reginfo.specs.declared.Found.{Found}
-use Rattle.reginfo.specs.declared.Found.TheVariants.{Class, Nothing}
 
-abbrev pub found_of : Option RegClass → Found
-found_of none = Nothing
-found_of (some c) = Class c
+-- the definition's answer, as the code's type has it
+abbrev pub found_of : maybe.Option RegClass → Option RegClass
+found_of maybe.none = None
+found_of (maybe.some c) = Some c
 
 -- the class whose row begins at word i
 unfoldable pub class_row : List ℕ → ℕ → ClassData

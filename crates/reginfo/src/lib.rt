@@ -2,7 +2,7 @@
 // A class row has four words: subclass mask, cost, group size, spillslots. A bank row has one, the top class; a reg row one, memory.
 #![tactic(auto)]
 
-ghost use Rattle.std.specs.Prelude.{◌≡◌, ℕ, ◌+◌, ◌*◌, ◌≤◌, ◌<◌, get_or};
+ghost use Rattle.std.specs.Prelude.{◌≡◌, ◌+◌, ◌*◌, ◌≤◌, ◌<◌, get_or};
 ghost use Rattle.std.specs.Int.Bits.{bit_and};
 ghost use Rattle.words.specs.Words.{word_count, words_of};
 ghost use Rattle.definition.specs.Types.{Job};
@@ -10,13 +10,6 @@ ghost use Rattle.definition.specs.RegInfo.{lowest, common_subclass};
 ghost use Rattle.reginfo.specs.Rows.{found_of, class_row, bank_row, memory_row, classes_at, mask_in};
 
 use definition::{ClassData, RegClass};
-
-// The class that two classes have in common, if any.
-#[derive(Clone, Copy)]
-pub enum Found {
-    Class(RegClass),
-    Nothing,
-}
 
 // The class whose row begins at word i.
 pub fn class_at(t: &[u8], i: usize) -> ClassData
@@ -48,14 +41,14 @@ pub fn is_memory(t: &[u8], i: usize) -> bool
 }
 
 // The lowest-numbered class in both masks.
-pub fn lowest_common(a: u32, b: u32) -> Found
+pub fn lowest_common(a: u32, b: u32) -> Option<RegClass>
     ensures { result ≡ found_of (lowest (bit_and a b)) }
 {
     let both = a & b;
     if both == 0 {
-        Found::Nothing
+        None
     } else {
-        Found::Class(RegClass(u32::trailing_zeros(both)))
+        Some(RegClass(both.trailing_zeros()))
     }
 }
 
@@ -73,7 +66,7 @@ fn mask_of(t: &[u8], at: usize, n: usize, c: RegClass) -> u32
 }
 
 // The common subclass of classes a and b, of n classes from word `at` on.
-pub fn common_subclass(t: &[u8], at: usize, n: usize, a: RegClass, b: RegClass) -> Found
+pub fn common_subclass(t: &[u8], at: usize, n: usize, a: RegClass, b: RegClass) -> Option<RegClass>
     requires { at + n * 4 ≤ word_count t.now }
     ensures { (job : Job) → job.classes ≡ classes_at (words_of t.now) at n → result ≡ found_of (common_subclass job a b) }
 {

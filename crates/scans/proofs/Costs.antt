@@ -1,5 +1,5 @@
 -- The cost of a class by its bits, and the side of a cut. Assumes nothing.
-use mathlib.Core.Path.{◌≡◌, refl, sym, ap, ap₂, ◌∙◌, subst}
+use mathlib.Core.Path.{◌≡◌, refl, sym, ap, ap₂, ◌∙◌}
 use mathlib.Core.Bool.{Bool, true, false, cond}
 use mathlib.Core.List.{List}
 use Prim.Native.Nat.{ℕ, ◌+◌, ◌*◌, ◌≤◌, ◌<◌}
@@ -12,7 +12,7 @@ use Rattle.definition.specs.declared.RegClass.{RegClass}
 use Rattle.definition.specs.declared.ClassData.{ClassData}
 use Rattle.definition.specs.declared.Side.TheVariants.{Early, Late}
 use Rattle.definition.specs.Types.{Job}
-use Rattle.definition.specs.RegInfo.{no_class, class_at}
+use Rattle.definition.specs.RegInfo.{class_at}
 use Rattle.definition.specs.Admit.{cut_side}
 use Rattle.floats.proofs.Bits.{le_bits}
 use Rattle.reginfo.specs.Rows.{class_row}

@@ -1,6 +1,5 @@
 -- A scan, use by use. Assumes nothing.
 use mathlib.Core.Path.{◌≡◌, refl, sym, ap, subst, ◌∙◌}
-use mathlib.Core.Bool.{true, false}
 use mathlib.Core.Option.{Option, none, some}
 use mathlib.Core.List.{List, [], ◌∷◌}
 use Prim.Native.Nat.{ℕ, suc, ◌+◌, ◌-◌, ◌≤◌, ◌<◌}
@@ -11,7 +10,8 @@ use Rattle.definition.specs.Types.{Job, State}
 use Rattle.definition.specs.Types as types
 use Rattle.definition.specs.Admit.{admit, Scan, through, fails_at, later, on_admit, scan, held_by}
 use Rattle.constraints.specs.declared.Held.{Held}
-use Rattle.constraints.specs.declared.Admission.{Admission}
+use Rattle.std.specs.Prelude.{Some, None}
+use Rattle.std.specs.Prelude as code
 use Rattle.constraints.specs.Held.{held_of, admission_of}
 use Rattle.constraints.proofs.Admitted.{answer_yes, answer_no}
 use Rattle.scans.specs.Answers.{scan_of, back_of, shifted, Ends}
@@ -65,14 +65,14 @@ along_start : (S : State → Type 0) (job : Job) (all : List Use) (h : types.Hel
 along_start S job all h = record { is = λ st s. shift_none (scan job st all h); held = λ st s. refl }
 
 module _ {S : State → Type 0} {job : Job} {all : List Use} {h₀ : types.Held} {k : ℕ} {u : Use} {us : List Use} {h : types.Held} (f : Along S job all h₀ k (u ∷ us) h)
-    (r : Admission) (e : (st : State) → S st → admission_of r ≡ admit job st h u) where
-  along_next : r.ok ≡ true → Along S job all h₀ (suc k) us (held_of r.held)
-  along_next q = record {
-    is = λ st s. f.is st s ∙ shift_yes job st k u us h (held_of r.held) (answer_yes r _ (e st s) q);
-    held = λ st s. f.held st s ∙ held_yes job st k u us h (held_of r.held) (answer_yes r _ (e st s) q);
+    (r : code.Option Held) (e : (st : State) → S st → admission_of r ≡ admit job st h u) where
+  along_next : (g : Held) → r ≡ Some g → Along S job all h₀ (suc k) us (held_of g)
+  along_next g q = record {
+    is = λ st s. f.is st s ∙ shift_yes job st k u us h (held_of g) (answer_yes r _ g (e st s) q);
+    held = λ st s. f.held st s ∙ held_yes job st k u us h (held_of g) (answer_yes r _ g (e st s) q);
   }
 
-  along_stop : r.ok ≡ false → (st : State) → S st → (scan job st all h₀ ≡ fails_at k) × (held_by job st all h₀ ≡ h)
+  along_stop : r ≡ None → (st : State) → S st → (scan job st all h₀ ≡ fails_at k) × (held_by job st all h₀ ≡ h)
   along_stop q st s =
       let no = answer_no r _ (e st s) q in
       (f.is st s ∙ shift_no job st k u us h no, f.held st s ∙ held_no job st k u us h no)
@@ -102,24 +102,24 @@ module _ {S : State → Type 0} {job : Job} {f : ℕ → Use} {a b : ℕ} {h₀ 
   first : n < b → Along S job (tab f a (b - a)) (held_of h₀) (n - a) (f n ∷ tab f (n + 1) (b - (n + 1))) (held_of h)
   first l = subst (λ (us : List Use). Along S job (tab f a (b - a)) (held_of h₀) (n - a) us (held_of h)) (tab_more f n b l) w.along
 
-  pub forward_next : (r : Admission) → n < b → ((st : State) → S st → admission_of r ≡ admit job st (held_of h) (f n)) → r.ok ≡ true → Forward S job f a b h₀ (n + 1) r.held
-  forward_next r l e q =
+  pub forward_next : (r : code.Option Held) (g : Held) → n < b → ((st : State) → S st → admission_of r ≡ admit job st (held_of h) (f n)) → r ≡ Some g → Forward S job f a b h₀ (n + 1) g
+  forward_next r g l e q =
       let z : suc (n - a) ≡ n + 1 - a = omega (arith, w.from_a) in
       record {
         from_a = omega (arith, w.from_a);
         to_b = omega arith;
         along =
-            subst (λ (k : ℕ). Along S job (tab f a (b - a)) (held_of h₀) k (tab f (n + 1) (b - (n + 1))) (held_of r.held)) z (along_next (first l) r e q);
+            subst (λ (k : ℕ). Along S job (tab f a (b - a)) (held_of h₀) k (tab f (n + 1) (b - (n + 1))) (held_of g)) z (along_next (first l) r e g q);
       }
 
-  pub forward_stop : (r : Admission) → n < b → ((st : State) → S st → admission_of r ≡ admit job st (held_of h) (f n)) → r.ok ≡ false
+  pub forward_stop : (r : code.Option Held) → n < b → ((st : State) → S st → admission_of r ≡ admit job st (held_of h) (f n)) → r ≡ None
       → (st : State) → S st
-      → Ends job st (tab f a (b - a)) (held_of h₀) (scan_of a (record { ok = false; at = n; held = h })) h
+      → Ends job st (tab f a (b - a)) (held_of h₀) (scan_of a (record { failed = Some n; held = h })) h
   unfolding scan_of
   forward_stop r l e q st s = let t = along_stop (first l) r e q st s in (sym t.0, sym t.1)
 
   pub forward_end : b ≤ n → (st : State) → S st
-      → Ends job st (tab f a (b - a)) (held_of h₀) (scan_of a (record { ok = true; at = n; held = h })) h
+      → Ends job st (tab f a (b - a)) (held_of h₀) (scan_of a (record { failed = None; held = h })) h
   unfolding scan_of
   forward_end l st s =
       let g =
@@ -160,19 +160,19 @@ module _ {S : State → Type 0} {job : Job} {f : ℕ → Use} {a e : ℕ} {h₀ 
   here : Along S job (down (after f a) (e + 1 - a)) (held_of h₀) (e + 1 - n) (f m ∷ down (after f a) (m - a)) (held_of h)
   here = subst (λ (us : List Use). Along S job (down (after f a) (e + 1 - a)) (held_of h₀) (e + 1 - n) us (held_of h)) last w.along
 
-  pub backward_next : (r : Admission) → ((st : State) → S st → admission_of r ≡ admit job st (held_of h) (f m)) → r.ok ≡ true → Backward S job f a e h₀ m r.held
-  backward_next r ea q =
+  pub backward_next : (r : code.Option Held) (g : Held) → ((st : State) → S st → admission_of r ≡ admit job st (held_of h) (f m)) → r ≡ Some g → Backward S job f a e h₀ m g
+  backward_next r g ea q =
       let z : suc (e + 1 - n) ≡ e + 1 - m = omega (arith, w.to_e) in
       record {
         from_a = omega arith;
         to_e = omega (arith, w.to_e);
         along =
-            subst (λ (k : ℕ). Along S job (down (after f a) (e + 1 - a)) (held_of h₀) k (down (after f a) (m - a)) (held_of r.held)) z (along_next here r ea q);
+            subst (λ (k : ℕ). Along S job (down (after f a) (e + 1 - a)) (held_of h₀) k (down (after f a) (m - a)) (held_of g)) z (along_next here r ea g q);
       }
 
-  pub backward_stop : (r : Admission) → ((st : State) → S st → admission_of r ≡ admit job st (held_of h) (f m)) → r.ok ≡ false
+  pub backward_stop : (r : code.Option Held) → ((st : State) → S st → admission_of r ≡ admit job st (held_of h) (f m)) → r ≡ None
       → (st : State) → S st
-      → Ends job st (down (after f a) (e + 1 - a)) (held_of h₀) (back_of e (record { ok = false; at = m; held = h })) h
+      → Ends job st (down (after f a) (e + 1 - a)) (held_of h₀) (back_of e (record { failed = Some m; held = h })) h
   unfolding back_of
   backward_stop r ea q st s =
       let z : e - m ≡ e + 1 - n = omega (arith, w.to_e) in
@@ -181,7 +181,7 @@ module _ {S : State → Type 0} {job : Job} {f : ℕ → Use} {a e : ℕ} {h₀ 
 
 pub backward_end : {S : State → Type 0} {job : Job} {f : ℕ → Use} {a e : ℕ} {h₀ : Held} {n : ℕ} {h : Held} → Backward S job f a e h₀ n h → n ≤ a
     → (st : State) → S st
-    → Ends job st (down (after f a) (e + 1 - a)) (held_of h₀) (back_of e (record { ok = true; at = n; held = h })) h
+    → Ends job st (down (after f a) (e + 1 - a)) (held_of h₀) (back_of e (record { failed = None; held = h })) h
 unfolding back_of
 backward_end {S} {job} {f} {a} {e} {h₀} {n} {h} w l st s =
     let z : n - a ≡ 0 = omega arith in

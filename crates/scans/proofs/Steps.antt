@@ -6,7 +6,7 @@ use Prim.Native.Nat.{ℕ, suc, ◌+◌, ◌-◌, ◌≤◌, ◌<◌}
 use native.Mathlib.Omega.{arith}
 use lib.Dec.{eqb, ltb, leb}
 use lib.ListN.{take}
-use borrow.Author.Tests.{eq-eqb, ne_eqb, lt-leb, ltb-true}
+use borrow.Author.Tests.{lt-leb, ltb-true}
 use Rattle.rows.specs.Tab.{tab, down, get_or_tab, tab_ext, down_reverse, take_tab}
 use Rattle.definition.specs.declared.Inst.{Inst}
 use Rattle.definition.specs.declared.RegClass.{RegClass}
@@ -23,9 +23,10 @@ use Rattle.definition.specs.Admit.{parted, back_from, forward_class, end_class, 
 use Rattle.constraints.specs.declared.Held.{Held}
 use Rattle.constraints.specs.Held.{held_of}
 use Rattle.scans.specs.declared.ScanAnswer.{ScanAnswer}
-use Rattle.scans.specs.declared.MoveKind.{MoveKind}
-use Rattle.scans.specs.declared.MoveKind.TheVariants.{Whole, Turn, Cut, Halt}
-use Rattle.scans.specs.Answers.{scan_of, back_of, Ends, kind_move, move_of}
+use Rattle.scans.specs.declared.Move as code
+use Rattle.scans.specs.declared.Move.TheVariants.{Whole, Turn, Cut, Halt}
+use Rattle.std.specs.Prelude.{Some, None}
+use Rattle.scans.specs.Answers.{scan_of, back_of, Ends, move_of}
 
 -- ---- no place lies between where the end is not behind the start
 
@@ -65,14 +66,14 @@ module _ (f : ℕ → Use) (a b n : ℕ) (l : a ≤ n) (m : n < b) where
       get_or_tab f a (b - a) (n - a) no_use (omega arith) ∙ ap f e
 
   -- the use at n turned
-  pub turn_def : (h : types.Held) (u : Use) (d : Bool) → u ≡ f n → d ≡ is_def u.kind → d ≡ true → kind_move a h (Halt TurnedDef) ≡ turning (tab f a (b - a)) (n - a)
-  unfolding kind_move turning
-  turn_def h u d eu ed t =
+  pub turn_def : (u : Use) (d : Bool) → u ≡ f n → d ≡ is_def u.kind → d ≡ true → move_of a (Halt TurnedDef) ≡ turning (tab f a (b - a)) (n - a)
+  unfolding move_of turning
+  turn_def u d eu ed t =
       sym (ap (λ (x : Bool). cond x (halt TurnedDef) (turn (n - a))) (ap (λ (w : Use). is_def w.kind) (use_here ∙ sym eu) ∙ sym ed ∙ t))
 
-  pub turn_use : (h : types.Held) (u : Use) (d : Bool) → u ≡ f n → d ≡ is_def u.kind → d ≡ false → kind_move a h (Turn n) ≡ turning (tab f a (b - a)) (n - a)
-  unfolding kind_move turning
-  turn_use h u d eu ed t =
+  pub turn_use : (u : Use) (d : Bool) → u ≡ f n → d ≡ is_def u.kind → d ≡ false → move_of a (Turn n) ≡ turning (tab f a (b - a)) (n - a)
+  unfolding move_of turning
+  turn_use u d eu ed t =
       sym (ap (λ (x : Bool). cond x (halt TurnedDef) (turn (n - a))) (ap (λ (w : Use). is_def w.kind) (use_here ∙ sym eu) ∙ sym ed ∙ t))
 
 -- start and end
@@ -93,22 +94,22 @@ module _ (job : Job) (side : Side) (f : ℕ → Use) (a b s e : ℕ) (ls : a ≤
       (cut (inst (side_of side job.blocks u.pos.0 w.pos.0))))
       hx hy
 
-  pub part_start : (o : Move) (d : Bool) → x.pos.0 ≡ y.pos.0 → d ≡ is_def y.kind → d ≡ true
+  pub part_start : (o : Move) (d : Bool) → eqb x.pos.0 y.pos.0 ≡ true → d ≡ is_def y.kind → d ≡ true
       → o ≡ turning (tab f a (b - a)) (s - a) → o ≡ parted job side (tab f a (b - a)) (s - a) (e - a)
-  part_start o d p ed t q = parted_is o (q ∙ rw (eq-eqb _ _ p, ← ed, t))
+  part_start o d p ed t q = parted_is o (q ∙ rw (p, ← ed, t))
 
-  pub part_end : (o : Move) (d : Bool) → x.pos.0 ≡ y.pos.0 → d ≡ is_def y.kind → d ≡ false
+  pub part_end : (o : Move) (d : Bool) → eqb x.pos.0 y.pos.0 ≡ true → d ≡ is_def y.kind → d ≡ false
       → o ≡ turning (tab f a (b - a)) (e - a) → o ≡ parted job side (tab f a (b - a)) (s - a) (e - a)
-  part_end o d p ed t q = parted_is o (q ∙ rw (eq-eqb _ _ p, ← ed, t))
+  part_end o d p ed t q = parted_is o (q ∙ rw (p, ← ed, t))
 
-  pub part_cut : (h : types.Held) (r : Inst) (bs : List BlockData) → (x.pos.0 ≡ y.pos.0 → ⊥) → job.blocks ≡ bs
+  pub part_cut : (r : Inst) (bs : List BlockData) → eqb x.pos.0 y.pos.0 ≡ false → job.blocks ≡ bs
       → r.0 ≡ side_of side bs x.pos.0 y.pos.0
-      → kind_move a h (Cut r) ≡ parted job side (tab f a (b - a)) (s - a) (e - a)
-  unfolding kind_move
-  part_cut h r bs ne eb er =
+      → move_of a (Cut r) ≡ parted job side (tab f a (b - a)) (s - a) (e - a)
+  unfolding move_of
+  part_cut r bs ne eb er =
       parted_is (cut r)
       (ap (λ (n : ℕ). cut (inst n)) er
-      ∙ ap (λ (l : List BlockData). cut (inst (side_of side l x.pos.0 y.pos.0))) (sym eb) ∙ rw (ne_eqb _ _ ne))
+      ∙ ap (λ (l : List BlockData). cut (inst (side_of side l x.pos.0 y.pos.0))) (sym eb) ∙ rw ne)
 
 -- ---- the whole
 
@@ -134,45 +135,45 @@ module _ (job : Job) (st : State) (top : RegClass) (us : List Use) (h : types.He
       ap (λ (g : types.Held). from_end job st top us (scan job st us g)) (sym fr)
       ∙ ap (from_end job st top us) (sym er.0)
 
-  pub move_whole : r.ok ≡ true → move_of a (record { kind = Whole; held = r.held }) ≡ move job st top us
-  unfolding move_of kind_move scan_of from_end
+  pub move_whole : r.failed ≡ None → move_of a (Whole r.held) ≡ move job st top us
+  unfolding move_of scan_of from_end
   move_whole q = sym (forth ∙ rw q)
 
-  module _ (no : r.ok ≡ false) (back : ScanAnswer)
-      (eb : Ends job st (back_from (r.at - a) us) h (back_of r.at back) back.held) where
+  module _ (e : ℕ) (no : r.failed ≡ Some e) (back : ScanAnswer)
+      (eb : Ends job st (back_from (e - a) us) h (back_of e back) back.held) where
     -- the side of the classes that are held where the scans end
     abbrev pub side : Side
     side = cut_side job r.held.class back.held.class
 
     -- it is the definition's
-    sides : cut_side job (forward_class job st top us) (end_class job st top us (r.at - a)) ≡ side
+    sides : cut_side job (forward_class job st top us) (end_class job st top us (e - a)) ≡ side
     unfolding held_of
     sides =
         ap
-        (λ (g : types.Held). cut_side job (held_by job st us g).class (held_by job st (back_from (r.at - a) us) g).class)
+        (λ (g : types.Held). cut_side job (held_by job st us g).class (held_by job st (back_from (e - a) us) g).class)
         (sym fr)
         ∙ ap₂ (λ (f g : types.Held). cut_side job f.class g.class) (sym er.1) (sym eb.1)
 
-    back_forth : move job st top us ≡ from_start job side us (r.at - a) (back_of r.at back)
+    back_forth : move job st top us ≡ from_start job side us (e - a) (back_of e back)
     unfolding scan_of from_end
     back_forth =
         forth
         ∙ rw no
         (ap
         (λ (g : types.Held).
-        from_start job (cut_side job (forward_class job st top us) (end_class job st top us (r.at - a))) us (r.at - a)
-        (scan job st (back_from (r.at - a) us) g))
+        from_start job (cut_side job (forward_class job st top us) (end_class job st top us (e - a))) us (e - a)
+        (scan job st (back_from (e - a) us) g))
         (sym fr)
-        ∙ ap₂ (λ (d : Side) (s : Scan). from_start job d us (r.at - a) s) sides (sym eb.0))
+        ∙ ap₂ (λ (d : Side) (s : Scan). from_start job d us (e - a) s) sides (sym eb.0))
 
-    pub move_halt : back.ok ≡ true → move_of a (record { kind = Halt NoStart; held = r.held }) ≡ move job st top us
-    unfolding move_of kind_move back_of from_start
+    pub move_halt : back.failed ≡ None → move_of a (Halt NoStart) ≡ move job st top us
+    unfolding move_of back_of from_start
     move_halt q = sym (back_forth ∙ rw q)
 
-    pub move_part : (k : MoveKind) → back.ok ≡ false → a ≤ back.at → back.at ≤ r.at
-        → kind_move a (held_of r.held) k ≡ parted job side us (back.at - a) (r.at - a)
-        → move_of a (record { kind = k; held = r.held }) ≡ move job st top us
-    unfolding move_of back_of from_start
-    move_part k q l m e =
-        let z : back.at - a ≡ r.at - a - (r.at - back.at) = omega arith in
-        e ∙ ap (λ (n : ℕ). parted job side us n (r.at - a)) z ∙ sym (back_forth ∙ rw q)
+    pub move_part : (s : ℕ) (k : code.Move) → back.failed ≡ Some s → a ≤ s → s ≤ e
+        → move_of a k ≡ parted job side us (s - a) (e - a)
+        → move_of a k ≡ move job st top us
+    unfolding back_of from_start
+    move_part s k q l m p =
+        let z : s - a ≡ e - a - (e - s) = omega arith in
+        p ∙ ap (λ (n : ℕ). parted job side us n (e - a)) z ∙ sym (back_forth ∙ rw q)

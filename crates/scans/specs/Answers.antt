@@ -1,5 +1,5 @@
 -- What the answers of the scans stand for. Assumes nothing.
-use Rattle.std.specs.Prelude.{ℕ, ◌+◌, ◌-◌, ◌≡◌, Bool, true, false, List}
+use Rattle.std.specs.Prelude.{ℕ, ◌+◌, ◌-◌, ◌≡◌, List, Option, Some, None}
 use Rattle.definition.specs.declared.Use.{Use}
 use Rattle.definition.specs.Types.{Job, State}
 use Rattle.definition.specs.Types as types
@@ -7,22 +7,21 @@ use Rattle.definition.specs.Admit.{Scan, through, fails_at, scan, held_by, Move,
 use Rattle.constraints.specs.declared.Held.{Held}
 use Rattle.constraints.specs.Held.{held_of}
 use Rattle.scans.specs.declared.ScanAnswer.{ScanAnswer}
-use Rattle.scans.specs.declared.MoveAnswer.{MoveAnswer}
-use Rattle.scans.specs.declared.MoveKind.{MoveKind}
-use Rattle.scans.specs.declared.MoveKind.TheVariants.{Whole, Turn, Cut, Halt}
+use Rattle.scans.specs.declared.Move as code
+use Rattle.scans.specs.declared.Move.TheVariants.{Whole, Turn, Cut, Halt}
 
-abbrev pub pick_s : Bool → Scan → Scan → Scan
-pick_s true s t = s
-pick_s false s t = t
+abbrev pub ended : Option ℕ → types.Held → (ℕ → ℕ) → Scan
+ended None h place = through h
+ended (Some n) h place = fails_at (place n)
 
 -- a place counts from use number a on, or back from use number e
 unfoldable pub scan_of : ℕ → ScanAnswer → Scan
 unfolding held_of
-scan_of a r = pick_s r.ok (through (held_of r.held)) (fails_at (r.at - a))
+scan_of a r = ended r.failed (held_of r.held) (λ n. n - a)
 
 unfoldable pub back_of : ℕ → ScanAnswer → Scan
 unfolding held_of
-back_of e r = pick_s r.ok (through (held_of r.held)) (fails_at (e - r.at))
+back_of e r = ended r.failed (held_of r.held) (λ n. e - n)
 
 -- the scan over uses, from h on, ends as s, and g is then held
 abbrev pub Ends : Job → State → List Use → types.Held → Scan → Held → Type 0
@@ -33,12 +32,9 @@ unfoldable pub shifted : ℕ → Scan → Scan
 shifted k (through h) = through h
 shifted k (fails_at n) = fails_at (k + n)
 
-unfoldable pub kind_move : ℕ → types.Held → MoveKind → Move
-kind_move a h Whole = whole h
-kind_move a h (Turn n) = turn (n - a)
-kind_move a h (Cut p) = cut p
-kind_move a h (Halt s) = halt s
-
-unfoldable pub move_of : ℕ → MoveAnswer → Move
-unfolding kind_move held_of
-move_of a r = kind_move a (held_of r.held) r.kind
+unfoldable pub move_of : ℕ → code.Move → Move
+unfolding held_of
+move_of a (Whole h) = whole (held_of h)
+move_of a (Turn n) = turn (n - a)
+move_of a (Cut p) = cut p
+move_of a (Halt s) = halt s

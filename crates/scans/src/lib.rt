@@ -1,18 +1,17 @@
 // builder.rs: the scans over uses, and the step that they lead to.
 #![tactic(auto)]
 
-ghost use Rattle.std.specs.Prelude.{◌≡◌, false, List, ℕ, ◌+◌, ◌-◌, ◌*◌, ◌≤◌, ◌<◌, length};
+ghost use Rattle.std.specs.Prelude.{◌≡◌, List, ℕ, ◌+◌, ◌-◌, ◌*◌, ◌≤◌, ◌<◌, length, IfSome};
 ghost use Rattle.std.specs.Float.{binary32};
 ghost use Rattle.std.specs.Float.Ieee.{of_bits};
 ghost use Rattle.rows.specs.Tab.{tab, down};
 ghost use Rattle.words.specs.Words.{word_count, words_of};
 ghost use Rattle.definition.specs.declared.BlockData.{BlockData};
 ghost use Rattle.definition.specs.Types.{State};
-ghost use Rattle.definition.specs.Types as types;
 ghost use Rattle.definition.specs.Entry.{insts_of};
 ghost use Rattle.definition.specs.SplitPlacement.{early_cut, late_cut, side_of};
 ghost use Rattle.definition.specs.RegInfo.{class_at};
-ghost use Rattle.definition.specs.Admit.{admit, scan, held_by, fresh, turning, cut_side, parted, move};
+ghost use Rattle.definition.specs.Admit.{admit, fresh, turning, cut_side, parted, move};
 ghost use Rattle.layout.specs.Layout.{Fits};
 ghost use Rattle.use_costs.specs.Book.{SmallBook};
 ghost use Rattle.function.specs.Blocks.{blocks_at, Starts};
@@ -21,35 +20,28 @@ ghost use Rattle.virt_regs.specs.Encoding.{tables_end};
 ghost use Rattle.constraints.specs.Held.{held_of, admission_of};
 ghost use Rattle.constraints.specs.Ready.{Ready, Stands};
 ghost use Rattle.set_part.specs.Part.{marked_use};
-ghost use Rattle.scans.specs.Answers.{scan_of, back_of, Ends, kind_move, move_of};
+ghost use Rattle.scans.specs.Answers.{scan_of, back_of, Ends, move_of};
 
-use constraints::{Admission, Held};
-use definition::{Inst, RegClass, Side, Stop, Use, UseKind, ValueSet};
+use constraints::Held;
+use definition::{Inst, RegClass, Side, Stop, Use, ValueSet};
 use layout::Layout;
 use virt_regs::OutLayout;
 use work_layout::WorkLayout;
 
-// A scan that went through, or the number of the use that it could not admit; and what is held when it ends.
+// The number of the use that a scan could not admit, if it did not go through; and what is held when it ends.
 #[derive(Clone, Copy)]
 pub struct ScanAnswer {
-    pub ok: bool,
-    pub at: usize,
+    pub failed: Option<usize>,
     pub held: Held,
 }
 
-// The step that the forward scan leads to: place all, turn the use with a number, cut at an instruction, or stop.
+// The step that the scans lead to: place all, with what is held; turn a use by its number; make a cut; or stop.
 #[derive(Clone, Copy)]
-pub enum MoveKind {
-    Whole,
+pub enum Move {
+    Whole(Held),
     Turn(usize),
     Cut(Inst),
     Halt(Stop),
-}
-
-#[derive(Clone, Copy)]
-pub struct MoveAnswer {
-    pub kind: MoveKind,
-    pub held: Held,
 }
 
 // Use n of the job; a conflict if it is marked.
@@ -57,8 +49,7 @@ pub fn marked_use(job: &[u8], lay: Layout, work: &[u8], wl: WorkLayout, n: usize
     requires { Ready (word_count job.now) (word_count work.now) (words_of job.now) (words_of work.now) lay wl × (n < lay.uses.n) }
     ensures { result ≡ marked_use (words_of work.now) wl.marks (words_of job.now) lay n }
 {
-    let marks = wl.marks;
-    turned::marked_use(job, lay, work, marks, n)
+    turned::marked_use(job, lay, work, wl.marks, n)
 }
 
 // What is held before any use.
@@ -85,7 +76,7 @@ fn admit_at(
     wl: WorkLayout,
     held: Held,
     n: usize,
-) -> Admission
+) -> Option<Held>
     requires { Ready (word_count job.now) (word_count work.now) (words_of job.now) (words_of work.now) lay wl × (tables_end ol ≤ word_count out.now) × (n < lay.uses.n) × (0 < lay.segments.n) }
     ensures { (st : State) → Stands ol (words_of out.now) (words_of job.now) (words_of work.now) lay wl st → admission_of result ≡ admit (job_of (words_of job.now) lay) st (held_of held) (marked_use (words_of work.now) wl.marks (words_of job.now) lay n) }
 {
@@ -106,7 +97,7 @@ pub fn scan_uses(
     b: usize,
 ) -> ScanAnswer
     requires { Ready (word_count job.now) (word_count work.now) (words_of job.now) (words_of work.now) lay wl × (tables_end ol ≤ word_count out.now) × (a ≤ b) × (b ≤ lay.uses.n) × (0 < lay.segments.n) }
-    ensures within { (a ≤ result.at) × (result.ok ≡ false → result.at < b) }
+    ensures within { IfSome result.failed (λ n. (a ≤ n) × (n < b)) }
     ensures ends { (st : State)
         → Stands ol (words_of out.now) (words_of job.now) (words_of work.now) lay wl st
         → Ends (job_of (words_of job.now) lay) st
@@ -114,24 +105,16 @@ pub fn scan_uses(
         (held_of first) (scan_of a result) result.held }
 {
     let mut held = first;
-    let mut n = a;
-    while n < b {
-        let r = admit_at(job, lay, out, ol, work, wl, held, n);
-        if !r.ok {
+    for n in a..b {
+        let Some(next) = admit_at(job, lay, out, ol, work, wl, held, n) else {
             return ScanAnswer {
-                ok: false,
-                at: n,
+                failed: Some(n),
                 held,
             };
-        }
-        held = r.held;
-        n += 1;
+        };
+        held = next;
     }
-    ScanAnswer {
-        ok: true,
-        at: n,
-        held,
-    }
+    ScanAnswer { failed: None, held }
 }
 
 // The scan over the uses from number e back to number a.
@@ -147,7 +130,7 @@ pub fn scan_back(
     e: usize,
 ) -> ScanAnswer
     requires { Ready (word_count job.now) (word_count work.now) (words_of job.now) (words_of work.now) lay wl × (tables_end ol ≤ word_count out.now) × (a ≤ e) × (e < lay.uses.n) × (0 < lay.segments.n) }
-    ensures within { (a ≤ result.at) × (result.ok ≡ false → result.at ≤ e) }
+    ensures within { IfSome result.failed (λ n. (a ≤ n) × (n ≤ e)) }
     ensures ends { (st : State)
         → Stands ol (words_of out.now) (words_of job.now) (words_of work.now) lay wl st
         → Ends (job_of (words_of job.now) lay) st
@@ -155,38 +138,28 @@ pub fn scan_back(
         (e + 1 - a)) (held_of first) (back_of e result) result.held }
 {
     let mut held = first;
-    let mut n = e + 1;
-    while a < n {
-        let m = n - 1;
-        let r = admit_at(job, lay, out, ol, work, wl, held, m);
-        if !r.ok {
+    for n in (a..e + 1).rev() {
+        let Some(next) = admit_at(job, lay, out, ol, work, wl, held, n) else {
             return ScanAnswer {
-                ok: false,
-                at: m,
+                failed: Some(n),
                 held,
             };
-        }
-        held = r.held;
-        n = m;
+        };
+        held = next;
     }
-    ScanAnswer {
-        ok: true,
-        at: n,
-        held,
-    }
+    ScanAnswer { failed: None, held }
 }
 
 // The use with number n is turned; a stop where it is a definition.
-fn turn_at(job: &[u8], lay: Layout, work: &[u8], wl: WorkLayout, n: usize) -> MoveKind
+fn turn_at(job: &[u8], lay: Layout, work: &[u8], wl: WorkLayout, n: usize) -> Move
     requires { Ready (word_count job.now) (word_count work.now) (words_of job.now) (words_of work.now) lay wl × (n < lay.uses.n) }
-    ensures { (h : types.Held) (a b : ℕ) → a ≤ n → n < b → kind_move a h result ≡ turning (tab (marked_use (words_of work.now) wl.marks (words_of job.now) lay) a (b - a)) (n - a) }
+    ensures { (a b : ℕ) → a ≤ n → n < b → move_of a result ≡ turning (tab (marked_use (words_of work.now) wl.marks (words_of job.now) lay) a (b - a)) (n - a) }
 {
     let u = marked_use(job, lay, work, wl, n);
-    let kind = u.kind;
-    if uses::is_def(kind) {
-        return MoveKind::Halt(Stop::TurnedDef);
+    if uses::is_def(u.kind) {
+        return Move::Halt(Stop::TurnedDef);
     }
-    MoveKind::Turn(n)
+    Move::Turn(n)
 }
 
 // The early cut between instructions x and y. Uses do not fall, so x is before y.
@@ -196,10 +169,8 @@ fn early_at(lay: Layout, work: &[u8], wl: WorkLayout, x: Inst, y: Inst) -> Inst
     ensures { (bs : List BlockData) → Starts (words_of work.now) wl.starts bs
         → length bs ≡ lay.blocks.n → y.0 < insts_of bs → result.0 ≡ early_cut bs x.0 y.0 }
 {
-    if x.0 < y.0 {
-        let at = wl.starts;
-        let n = lay.blocks.n;
-        return split_placement::early_cut(work, at, n as u32, x, y);
+    if x < y {
+        return split_placement::cut(work, wl.starts, lay.blocks.n as u32, x, y, Side::Early);
     }
     Inst(x.0 + 1)
 }
@@ -211,10 +182,8 @@ fn late_at(lay: Layout, work: &[u8], wl: WorkLayout, x: Inst, y: Inst) -> Inst
     ensures { (bs : List BlockData) → Starts (words_of work.now) wl.starts bs
         → length bs ≡ lay.blocks.n → y.0 < insts_of bs → result.0 ≡ late_cut bs x.0 y.0 }
 {
-    if x.0 < y.0 {
-        let at = wl.starts;
-        let n = lay.blocks.n;
-        return split_placement::late_cut(work, at, n as u32, x, y);
+    if x < y {
+        return split_placement::cut(work, wl.starts, lay.blocks.n as u32, x, y, Side::Late);
     }
     y
 }
@@ -282,27 +251,24 @@ fn part_at(
     end: RegClass,
     s: usize,
     e: usize,
-) -> MoveKind
+) -> Move
     requires { Ready (word_count job.now) (word_count work.now) (words_of job.now) (words_of work.now) lay wl
         × (s < lay.uses.n) × (e < lay.uses.n) × (0 < lay.segments.n) × SmallBook (words_of job.now) lay }
-    ensures { (h : types.Held) (a b : ℕ) → a ≤ s → s < b → a ≤ e → e < b
-        → kind_move a h result ≡ parted (job_of (words_of job.now) lay)
+    ensures { (a b : ℕ) → a ≤ s → s < b → a ≤ e → e < b
+        → move_of a result ≡ parted (job_of (words_of job.now) lay)
         (cut_side (job_of (words_of job.now) lay) forward end)
         (tab (marked_use (words_of work.now) wl.marks (words_of job.now) lay) a (b - a))
         (s - a) (e - a) }
 {
     let x = marked_use(job, lay, work, wl, s);
     let y = marked_use(job, lay, work, wl, e);
-    let p = x.pos;
-    let q = y.pos;
-    if p.0 == q.0 {
-        let kind = y.kind;
-        if uses::is_def(kind) {
+    if x.pos == y.pos {
+        if uses::is_def(y.kind) {
             return turn_at(job, lay, work, wl, s);
         }
         return turn_at(job, lay, work, wl, e);
     }
-    MoveKind::Cut(cut_at(job, lay, work, wl, forward, end, p, q))
+    Move::Cut(cut_at(job, lay, work, wl, forward, end, x.pos, y.pos))
 }
 
 // The step that the scans over the uses with numbers a to b - 1 lead to, from the top class.
@@ -316,7 +282,7 @@ pub fn next_move(
     top: RegClass,
     a: usize,
     b: usize,
-) -> MoveAnswer
+) -> Move
     requires { Ready (word_count job.now) (word_count work.now) (words_of job.now) (words_of work.now) lay wl
         × (tables_end ol ≤ word_count out.now) × (a ≤ b) × (b ≤ lay.uses.n) × (0 < lay.segments.n)
         × SmallBook (words_of job.now) lay }
@@ -324,24 +290,12 @@ pub fn next_move(
 {
     let first = fresh_held(top);
     let r = scan_uses(job, lay, out, ol, work, wl, first, a, b);
-    let held = r.held;
-    if r.ok {
-        return MoveAnswer {
-            kind: MoveKind::Whole,
-            held,
-        };
-    }
-    let e = r.at;
+    let Some(e) = r.failed else {
+        return Move::Whole(r.held);
+    };
     let back = scan_back(job, lay, out, ol, work, wl, first, a, e);
-    if back.ok {
-        return MoveAnswer {
-            kind: MoveKind::Halt(Stop::NoStart),
-            held,
-        };
-    }
-    let end = back.held;
-    MoveAnswer {
-        kind: part_at(job, lay, work, wl, held.class, end.class, back.at, e),
-        held,
-    }
+    let Some(s) = back.failed else {
+        return Move::Halt(Stop::NoStart);
+    };
+    part_at(job, lay, work, wl, r.held.class, back.held.class, s, e)
 }

@@ -1,6 +1,6 @@
 -- A part cut on tables, and what stays when a part is placed. Assumes nothing.
-use mathlib.Core.Path.{◌≡◌, refl, sym, ap, subst, ◌∙◌}
-use Prim.Native.Nat.{ℕ, ◌+◌, ◌-◌, ◌*◌, ◌≤◌, ◌<◌}
+use mathlib.Core.Path.{◌≡◌, refl, sym, subst, ◌∙◌}
+use Prim.Native.Nat.{ℕ, ◌+◌, ◌-◌, ◌*◌, ◌<◌}
 use native.Mathlib.Omega.{arith}
 use mathlib.Core.List.{List, [], ◌∷◌}
 use lib.ListN.{length, get_or}
@@ -34,7 +34,6 @@ use Rattle.set_cuts.proofs.Sides.{cut_left, cut_right}
 use Rattle.set_cuts.proofs.Kept.{Sides, cut_sides}
 use Rattle.virt_regs.specs.Each.{Each}
 use Rattle.work_layout.specs.declared.WorkLayout.{WorkLayout}
-use Rattle.constraints.specs.Ready.{Ready}
 use Rattle.part_maps.specs.Maps.{MapApart, Outside}
 use Rattle.part_maps.proofs.Kept.{ready_kept}
 use Rattle.conflict_piece.specs.Conflict.{row_use, turned_row_at, turned_rows_of, RowsOk}

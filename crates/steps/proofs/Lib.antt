@@ -2,6 +2,5 @@ pub mod Read
 pub mod Run
 pub mod Turn
 pub mod Cut
-pub mod Ways
 pub mod Changed
 pub mod Moved

@@ -1,6 +1,6 @@
 -- The part before a cut is scanned, and the kinds of a move. Assumes nothing.
-use mathlib.Core.Path.{◌≡◌, refl, sym, ap, subst, ◌∙◌}
-use Prim.Native.Nat.{ℕ, ◌+◌, ◌-◌, ◌*◌, ◌≤◌, ◌<◌}
+use mathlib.Core.Path.{◌≡◌, sym, ap, subst, ◌∙◌}
+use Prim.Native.Nat.{ℕ, ◌-◌, ◌*◌, ◌≤◌, ◌<◌}
 use native.Mathlib.Omega.{arith}
 use mathlib.Core.List.{List}
 use Rattle.rows.specs.Tab.{tab}
@@ -12,7 +12,7 @@ use Rattle.definition.specs.declared.Use.{Use}
 use Rattle.definition.specs.Types.{Job, Segment, State}
 use Rattle.definition.specs.Types as types
 use Rattle.definition.specs.Cuts.{left_cut}
-use Rattle.definition.specs.Admit.{Move, whole, turn, cut, halt, move, scan, through, fresh}
+use Rattle.definition.specs.Admit.{whole, turn, cut, halt, move, scan, through, fresh}
 use Rattle.definition.specs.Place.{uses_of}
 use Rattle.definition.proofs.Fits.{SegsFit}
 use Rattle.hints.specs.Hints.{hint_at}
@@ -25,12 +25,12 @@ use Rattle.set_cuts.specs.declared.Parts.{Parts}
 use Rattle.set_cuts.specs.Cut.{cut_part}
 use Rattle.set_cuts.proofs.Sides.{cut_left}
 use Rattle.set_cuts.proofs.Kept.{cut_sides}
+use Rattle.constraints.specs.declared.Held.{Held}
 use Rattle.constraints.specs.Held.{held_of}
 use Rattle.scans.specs.declared.ScanAnswer.{ScanAnswer}
-use Rattle.scans.specs.declared.MoveAnswer.{MoveAnswer}
-use Rattle.scans.specs.declared.MoveKind.{MoveKind}
-use Rattle.scans.specs.declared.MoveKind.TheVariants.{Whole, Turn, Cut, Halt}
-use Rattle.scans.specs.Answers.{scan_of, kind_move, move_of}
+use Rattle.scans.specs.declared.Move as code
+use Rattle.scans.specs.declared.Move.TheVariants.{Whole, Turn, Cut, Halt}
+use Rattle.scans.specs.Answers.{scan_of, move_of}
 use Rattle.steps.proofs.Run.{cut_through}
 use Rattle.steps.proofs.Cut.{part_scanned}
 
@@ -62,27 +62,26 @@ module _ (W : List ℕ) (lay : Layout) (p : Inst) (sp : SetPart) (c : Parts) (ok
 pub part_range : (W : List ℕ) (lay : Layout) (sp : SetPart) → PartOk W lay sp → (sp.first ≤ sp.end) × (sp.end ≤ lay.uses.n) × (0 < lay.segments.n)
 part_range W lay sp ok = (first_le_end W lay sp ok, ok.fits, omega (arith, ok.within))
 
--- ---- the move of a part, by the kind of the answer
+-- ---- the move of a part, by the answer
 
-module _ (K : List ℕ) (marks : ℕ) (W : List ℕ) (lay : Layout) (sp : SetPart) (ok : PartOk W lay sp) (st : State) (top : RegClass) (r : MoveAnswer)
+module _ (K : List ℕ) (marks : ℕ) (W : List ℕ) (lay : Layout) (sp : SetPart) (ok : PartOk W lay sp) (st : State) (top : RegClass) (r : code.Move)
     (e : move_of sp.first r ≡ move (job_of W lay) st top (tab (marked_use K marks W lay) sp.first (sp.end - sp.first))) where
-  moved : (k : MoveKind) → r.kind ≡ k → move (job_of W lay) st top (uses_of (part_segs K marks W lay sp)) ≡ kind_move sp.first (held_of r.held) k
-  unfolding move_of
+  moved : (k : code.Move) → r ≡ k → move (job_of W lay) st top (uses_of (part_segs K marks W lay sp)) ≡ move_of sp.first k
   moved k q =
-      ap (λ (us : List Use). move (job_of W lay) st top us) (part_scanned K marks W lay sp ok) ∙ sym e ∙ ap (λ (x : MoveKind). kind_move sp.first (held_of r.held) x) q
+      ap (λ (us : List Use). move (job_of W lay) st top us) (part_scanned K marks W lay sp ok) ∙ sym e ∙ ap (λ (x : code.Move). move_of sp.first x) q
 
-  pub moves_whole : r.kind ≡ Whole → move (job_of W lay) st top (uses_of (part_segs K marks W lay sp)) ≡ whole (held_of r.held)
-  unfolding kind_move
-  moves_whole q = moved Whole q
+  pub moves_whole : (h : Held) → r ≡ Whole h → move (job_of W lay) st top (uses_of (part_segs K marks W lay sp)) ≡ whole (held_of h)
+  unfolding move_of
+  moves_whole h q = moved (Whole h) q
 
-  pub moves_turn : (c : ℕ) → r.kind ≡ Turn c → move (job_of W lay) st top (uses_of (part_segs K marks W lay sp)) ≡ turn (c - sp.first)
-  unfolding kind_move
+  pub moves_turn : (c : ℕ) → r ≡ Turn c → move (job_of W lay) st top (uses_of (part_segs K marks W lay sp)) ≡ turn (c - sp.first)
+  unfolding move_of
   moves_turn c q = moved (Turn c) q
 
-  pub moves_cut : (p : Inst) → r.kind ≡ Cut p → move (job_of W lay) st top (uses_of (part_segs K marks W lay sp)) ≡ cut p
-  unfolding kind_move
+  pub moves_cut : (p : Inst) → r ≡ Cut p → move (job_of W lay) st top (uses_of (part_segs K marks W lay sp)) ≡ cut p
+  unfolding move_of
   moves_cut p q = moved (Cut p) q
 
-  pub moves_halt : (s : Stop) → r.kind ≡ Halt s → move (job_of W lay) st top (uses_of (part_segs K marks W lay sp)) ≡ halt s
-  unfolding kind_move
+  pub moves_halt : (s : Stop) → r ≡ Halt s → move (job_of W lay) st top (uses_of (part_segs K marks W lay sp)) ≡ halt s
+  unfolding move_of
   moves_halt s q = moved (Halt s) q

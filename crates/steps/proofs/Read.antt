@@ -1,8 +1,10 @@
 -- The words that the code writes for a turned use. Assumes nothing.
-use mathlib.Core.Path.{◌≡◌, sym, ap, ◌∙◌}
-use Prim.Native.Nat.{ℕ, ◌+◌, ◌-◌, ◌*◌, ◌≤◌, ◌<◌}
+use mathlib.Core.Path.{◌≡◌, refl, sym, ap, ◌∙◌}
+use Prim.Native.Nat.{ℕ, ◌+◌, ◌*◌, ◌≤◌, ◌<◌}
 use native.Mathlib.Omega.{arith}
-use mathlib.Core.Bool.{cond}
+use Rattle.std.specs.Prelude.{is_some, unwrap_or}
+use mathlib.Core.Bool.{Bool, true, false, cond}
+use mir.Val.{bool_byte}
 use mathlib.Core.List.{List, [], ◌∷◌}
 use lib.ListN.{set}
 use Rattle.rows.specs.Parts.{splice}
@@ -15,9 +17,14 @@ use Rattle.work_layout.specs.declared.WorkLayout.{WorkLayout}
 use Rattle.steps.specs.Turns.{turned_words, turned_once, TurnRoom}
 use Rattle.steps.proofs.Turn.{row_number}
 
-pub put_row : (O' O : List ℕ) (i h : ℕ) (t : TurnedRow) → h ≡ cond t.has_param 1 0 → O' ≡ splice O i (t.value.0 ∷ t.number ∷ h ∷ t.param ∷ []) → O' ≡ splice O i (turned_words t)
+-- a flag as a word
+pub flag_word : (b : Bool) → bool_byte b ≡ cond b 1 0
+flag_word true = refl
+flag_word false = refl
+
+pub put_row : (O' O : List ℕ) (i h q : ℕ) (t : TurnedRow) → h ≡ cond (is_some t.param) 1 0 → q ≡ unwrap_or t.param 0 → O' ≡ splice O i (t.value.0 ∷ t.number ∷ h ∷ q ∷ []) → O' ≡ splice O i (turned_words t)
 unfolding turned_words
-put_row O' O i h t e w = w ∙ ap (λ (x : ℕ). splice O i (t.value.0 ∷ t.number ∷ x ∷ t.param ∷ [])) e
+put_row O' O i h q t e f w = w ∙ λ j. splice O i (t.value.0 ∷ t.number ∷ e j ∷ f j ∷ [])
 
 module _ (K : List ℕ) (wl : WorkLayout) (W : List ℕ) (lay : Layout) (sp : SetPart) (i : ℕ) (r : TurnedRow) (e : r ≡ turned_row K wl.marks W lay sp i) where
   number_is : r.number ≡ sp.first + i

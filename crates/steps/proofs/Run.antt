@@ -1,9 +1,7 @@
 -- Each way through a step, as an equation of `run`. Assumes nothing.
-use mathlib.Core.Path.{◌≡◌, refl, sym, ap, ◌∙◌}
-use Prim.Native.Nat.{ℕ, ◌-◌, ◌*◌, ◌+◌, ◌≤◌, ◌<◌}
+use mathlib.Core.Path.{◌≡◌, sym, ap, ◌∙◌}
+use Prim.Native.Nat.{ℕ, ◌-◌}
 use native.Mathlib.Omega.{arith}
-use mathlib.Core.Logic.{◌≢◌}
-use mathlib.Core.Bool.{Bool, true, false}
 use mathlib.Core.List.{List, [], ◌∷◌, ◌++◌}
 use Rattle.definition.specs.declared.Inst.{Inst}
 use Rattle.definition.specs.declared.RegClass.{RegClass}
@@ -12,15 +10,16 @@ use Rattle.definition.specs.declared.Stop.{Stop}
 use Rattle.definition.specs.declared.Refusal.TheVariants.{Stopped}
 use Rattle.definition.specs.Types.{Held, Job, Out, done, refused, Room, Segment, State, Turned}
 use Rattle.definition.specs.Cuts.{left_cut, right_cut}
-use Rattle.definition.specs.Admit.{Move, whole, turn, cut, halt, move, Scan, through, fails_at, scan, fresh, use_at}
+use Rattle.definition.specs.Admit.{Move, whole, turn, cut, halt, move, Scan, through, scan, fresh}
 use Rattle.definition.specs.Place.{◌>>=◌, place, uses_of}
 use Rattle.definition.specs.Build.{Built, as_own, place_front, place_scan, step, turn_at, turned_at}
-use Rattle.definition.proofs.Fits.{SegsFit, rising, rising_le}
+use Rattle.definition.proofs.Fits.{SegsFit}
 use Rattle.definition.proofs.Moves.{move_cut}
 use Rattle.definition.proofs.Fuel.{run, run_step, front_admitted}
 use Rattle.constraints.specs.Held.{held_of}
+use Rattle.std.specs.Prelude.{Option, Some, None}
 use Rattle.scans.specs.declared.ScanAnswer.{ScanAnswer}
-use Rattle.scans.specs.Answers.{pick_s, scan_of}
+use Rattle.scans.specs.Answers.{ended, scan_of}
 
 module _ (J : Job) (room : Room) (set' : ValueSet) (top : RegClass) (st : State) (ss : List Segment) (ts : List Turned) (q : ℕ) (f : SegsFit q ss) where
   abbrev all : List Segment → List Turned → State → Out Built
@@ -51,9 +50,9 @@ module _ (J : Job) (room : Room) (set' : ValueSet) (top : RegClass) (st : State)
 pub cut_through : (J : Job) (st : State) (top : RegClass) (ss : List Segment) (q : ℕ) (p : Inst) → SegsFit q ss → move J st top (uses_of ss) ≡ cut p
     → (a : ℕ) (r : ScanAnswer) → scan_of a r ≡ scan J st (uses_of (left_cut J.hints p ss)) (fresh top) → scan J st (uses_of (left_cut J.hints p ss)) (fresh top) ≡ through (held_of r.held)
 unfolding scan_of
-cut_through J st top ss q p f e a r er = let t = front_admitted J st top ss q p f (move_cut J st top (uses_of ss) p e) in go r.ok er t.0 t.1
+cut_through J st top ss q p f e a r er = let t = front_admitted J st top ss q p f (move_cut J st top (uses_of ss) p e) in go r.failed er t.0 t.1
   where
-    go : (b : Bool) → pick_s b (through (held_of r.held)) (fails_at (r.at - a)) ≡ scan J st (uses_of (left_cut J.hints p ss)) (fresh top) → (h : Held)
+    go : (b : Option ℕ) → ended b (held_of r.held) (λ n. n - a) ≡ scan J st (uses_of (left_cut J.hints p ss)) (fresh top) → (h : Held)
         → scan J st (uses_of (left_cut J.hints p ss)) (fresh top) ≡ through h → scan J st (uses_of (left_cut J.hints p ss)) (fresh top) ≡ through (held_of r.held)
-    go true w h t = sym w
-    go false w h t = let z : ◌≡◌ {A = ℕ} 0 1 = cc in absurd (omega arith)
+    go None w h t = sym w
+    go (Some n) w h t = let z : ◌≡◌ {A = ℕ} 0 1 = cc in absurd (omega arith)

@@ -14,12 +14,11 @@ use Rattle.rows.specs.Parts.{splice, length_splice, get_or_splice_before, get_or
 use Rattle.definition.specs.declared.Use.{Use}
 use Rattle.definition.specs.Types.{Job, State, Segment, Turned}
 use Rattle.definition.specs.Uses.{is_class_use}
-use Rattle.definition.specs.Admit.{use_at}
 use Rattle.definition.specs.Place.{uses_of}
 use Rattle.definition.specs.Build.{class_uses, turn_at, turn_in, turned_at, turned_use}
 use Rattle.definition.proofs.Moves.{ClassAt}
 use Rattle.definition.proofs.Counts.{class_uses_at, class_uses_turn, uses_turn}
-use Rattle.definition.proofs.Fits.{SegsFit, turn_fit}
+use Rattle.definition.proofs.Fits.{turn_fit}
 use Rattle.uses.specs.Rows.{use_row}
 use Rattle.layout.specs.declared.Layout.{Layout}
 use Rattle.job.specs.Job.{job_of}

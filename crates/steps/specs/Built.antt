@@ -1,15 +1,8 @@
--- Whether placing is done, and what the steps over a working part leave as it was. Assumes nothing.
-use Rattle.std.specs.Prelude.{◌≡◌, Bool, true, false, List, ℕ, ◌+◌, ◌*◌, ◌≤◌, ◌<◌, length, get_or}
+-- What the steps over a working part leave as it was. Assumes nothing.
+use Rattle.std.specs.Prelude.{◌≡◌, List, ℕ, ◌+◌, ◌*◌, ◌≤◌, ◌<◌, length, get_or}
 use Rattle.layout.specs.declared.Layout.{Layout}
 use Rattle.set_part.specs.declared.SetPart.{SetPart}
 use Rattle.work_layout.specs.declared.WorkLayout.{WorkLayout}
-use Rattle.place_end.specs.declared.Ended.{Ended}
-use Rattle.place_end.specs.declared.Ended.TheVariants.{Done, Stopped, Full}
-
-abbrev pub is_done : Ended → Bool
-is_done Done = true
-is_done (Stopped s) = false
-is_done Full = false
 
 -- K' is K but for the mapping, the marks of the part's uses, and the turned rows from row n on
 pub record Changed (lay : Layout) (wl : WorkLayout) (sp : SetPart) (n : ℕ) (K K' : List ℕ) : Type 0 where

@@ -1,5 +1,5 @@
 -- A use turned on tables: its row kept, and its mark. Assumes nothing.
-use Rattle.std.specs.Prelude.{ℕ, ◌+◌, ◌*◌, ◌≤◌, cond, List, [], ◌∷◌, set}
+use Rattle.std.specs.Prelude.{ℕ, ◌+◌, ◌*◌, ◌≤◌, cond, is_some, unwrap_or, List, [], ◌∷◌, set}
 use Rattle.rows.specs.Parts.{splice}
 use Rattle.layout.specs.declared.Layout.{Layout}
 use Rattle.turned.specs.declared.TurnedRow.{TurnedRow}
@@ -7,7 +7,7 @@ use Rattle.work_layout.specs.declared.WorkLayout.{WorkLayout}
 
 -- value, use number, whether it has a parameter, the parameter
 unfoldable pub turned_words : TurnedRow → List ℕ
-turned_words t = t.value.0 ∷ t.number ∷ cond t.has_param 1 0 ∷ t.param ∷ []
+turned_words t = t.value.0 ∷ t.number ∷ cond (is_some t.param) 1 0 ∷ unwrap_or t.param 0 ∷ []
 
 -- the words K once t is kept as turned row n and its use is marked
 unfoldable pub turned_once : List ℕ → WorkLayout → ℕ → TurnedRow → List ℕ

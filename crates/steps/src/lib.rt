@@ -1,7 +1,7 @@
 // The steps over the working part of a set (builder.rs `compute_constraints`).
 #![tactic(auto)]
 
-ghost use Rattle.std.specs.Prelude.{◌≡◌, true, cond, ◌+◌, ◌-◌, ◌*◌, ◌≤◌, ◌<◌};
+ghost use Rattle.std.specs.Prelude.{◌≡◌, true, ◌+◌, ◌-◌, ◌*◌, ◌≤◌, ◌<◌};
 ghost use Rattle.rows.specs.Parts.{splice};
 ghost use Rattle.rows.specs.RowsAt.{rows_at};
 ghost use Rattle.words.specs.Words.{word_count, words_of};
@@ -20,52 +20,25 @@ ghost use Rattle.virt_regs.specs.Encoding.{tables_end};
 ghost use Rattle.constraints.specs.Held.{held_of};
 ghost use Rattle.constraints.specs.Ready.{Ready, Stands};
 ghost use Rattle.turned.specs.Turned.{turned_row};
-ghost use Rattle.steps.specs.Built.{is_done};
 ghost use Rattle.steps.specs.Turns.{turned_words, turned_once, TurnRoom};
 
 use constraints::Held;
 use definition::{Inst, RegClass};
 use layout::Layout;
-use place_end::Ended;
 use set_part::SetPart;
 use turned::TurnedRow;
-use virt_regs::{Counts, OutLayout};
+use virt_regs::OutLayout;
 use work_layout::WorkLayout;
-
-// How the steps ended, the rows in use then, and how many uses are turned.
-#[derive(Clone, Copy)]
-pub struct StepsEnd {
-    pub end: Ended,
-    pub counts: Counts,
-    pub turned: usize,
-}
-
-// A flag as a word.
-fn flag(b: bool) -> u32
-    ensures { result ≡ cond b 1 0 }
-{
-    if b { 1 } else { 0 }
-}
 
 // Turned row n.
 fn put_turned(work: &mut [u8], turned: usize, n: usize, row: TurnedRow)
     requires { (turned + n * 4 + 4 ≤ word_count work.old) × (row.number < 4294967296) }
     ensures { words_of work.new ≡ splice (words_of work.old) (turned + n * 4) (turned_words row) }
 {
-    let value = row.value;
-    let number = row.number;
-    let has = flag(row.has_param);
-    words::put_4(work, turned + n * 4, value.0, number as u32, has, row.param);
-}
-
-// c - a; 0 where a is greater.
-pub fn saturating_sub(c: usize, a: usize) -> usize
-    ensures { result ≡ c - a }
-{
-    if c < a {
-        return 0;
-    }
-    c - a
+    let number = row.number as u32;
+    let has = u32::from(row.param.is_some());
+    let param = row.param.unwrap_or(0);
+    words::put_row(work, turned + n * 4, [row.value.0, number, has, param]);
 }
 
 // Turns the use at place i of a part: it is kept as turned row n, and marked.
@@ -81,11 +54,9 @@ pub fn turn_one(
     requires { Fits (word_count job.now) lay × PartOk (words_of job.now) lay sp × TurnRoom (word_count work.old) lay wl × (sp.first + i < sp.end) × (n < lay.uses.n) }
     ensures { words_of work.new ≡ turned_once (words_of work.old) wl n (turned_row (words_of work.old) wl.marks (words_of job.now) lay sp i) }
 {
-    let marks = wl.marks;
-    let turned = wl.turned;
-    let row = turned::turned_at(job, lay, work, marks, sp, i);
-    put_turned(work, turned, n, row);
-    turned::mark(work, marks, sp.first + i);
+    let row = turned::turned_at(job, lay, work, wl.marks, sp, i);
+    put_turned(work, wl.turned, n, row);
+    turned::mark(work, wl.marks, sp.first + i);
 }
 
 // The sides of a cut, and what is held of the uses before it.
@@ -123,15 +94,4 @@ pub fn cut_front(
     let r = scans::scan_uses(job, lay, out, ol, work, wl, first, left.first, left.end);
     let held = r.held;
     Front { left, right, held }
-}
-
-// Whether a register is placed.
-pub fn is_done(e: Ended) -> bool
-    ensures { result ≡ is_done e }
-{
-    match e {
-        Ended::Done => true,
-        Ended::Stopped(_) => false,
-        Ended::Full => false,
-    }
 }

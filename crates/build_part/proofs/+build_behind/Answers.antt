@@ -1,28 +1,33 @@
 -- A step ends the part, or the part behind a cut is built by the same steps. Assumes nothing.
 use native.Mathlib.Omega.{arith}
-use mathlib.Core.Path.{◌≡◌}
-use mathlib.Core.Bool.{true}
-use Rattle.place_part.proofs.Parts.{not-true, not-false}
-use Rattle.build_part.proofs.Behind.{step_ends, behind_ready, behind_built}
+use mathlib.Core.Path.{ap, ◌∙◌}
+use Rattle.std.specs.Prelude.{Ok}
+use Rattle.place_end.specs.Ends.{err_kept}
+use Rattle.build_part.proofs.Behind.{step_ends, step_fails, onward, behind_ready, behind_built}
 use Rattle.build_part.proofs.+build_behind.Goals as goal
 
-pub returns-then-not-s : goal.returns-then-not-s
-returns-then-not-s t c =
-    let o = c.step_in-s in
-    let both = step_ends _ _ _ _ _ _ _ _ _ _ _ _ _ _ o.ensures.stepped o.ensures.steps_to o.auto.work (not-true _ c.if-not-s.true) in
+pub returns-in_err-part : goal.returns-in_err-part
+returns-in_err-part t c =
+    let o = c.step_in in
+    let both = step_fails _ _ _ _ _ _ _ _ _ _ _ _ _ _ o.ensures.stepped o.ensures.steps_to o.auto.work _ c.in_err-part.was _ (err_kept _ _ c.from_residual.ensures.1) in
+    record { changed = both.0; builds_to = both.1 }
+
+pub returns-in-Over : goal.returns-in-Over
+returns-in-Over t c =
+    let o = c.step_in in
+    let both = step_ends _ _ _ _ _ _ _ _ _ _ _ _ _ _ o.ensures.stepped o.ensures.steps_to o.auto.work _ (c.in_ok-part.was ∙ ap Ok c.in-Over.is) in
     record { changed = both.0; builds_to = both.1 }
 
 pub build_behind-requires : goal.build_behind-requires
 build_behind-requires t c =
-    let o = c.step_in-s in
-    let q : o.result.go ≡ true = not-false _ c.if-not-s.false in (
-      omega (arith, c.decreases, (o.ensures.stepped.goes q).less),
-      (c.requires.0, behind_ready _ _ _ _ _ _ _ _ _ _ _ _ _ _ o.ensures.stepped o.ensures.steps_to o.auto.work c.requires.1 o.auto.out q),
+    let o = c.step_in in (
+      omega (arith, c.decreases, (onward _ _ _ _ _ _ _ _ _ _ _ _ _ _ o.ensures.stepped o.ensures.steps_to o.auto.work _ _ _ (c.in_ok-part.was ∙ ap Ok c.in-On.is)).less),
+      (c.requires.0, behind_ready _ _ _ _ _ _ _ _ _ _ _ _ _ _ o.ensures.stepped o.ensures.steps_to o.auto.work _ _ _ (c.in_ok-part.was ∙ ap Ok c.in-On.is) c.requires.1 o.auto.out),
     )
 
-pub returns : goal.returns
-returns t c =
-    let o = c.step_in-s in
+pub returns-in-On : goal.returns-in-On
+returns-in-On t c =
+    let o = c.step_in in
     let b = c.build_behind in
-    let both = behind_built _ _ _ _ _ _ _ _ _ _ _ _ _ _ o.ensures.stepped o.ensures.steps_to o.auto.work (not-false _ c.if-not-s.false) _ _ _ b.ensures.changed b.ensures.builds_to in
+    let both = behind_built _ _ _ _ _ _ _ _ _ _ _ _ _ _ o.ensures.stepped o.ensures.steps_to o.auto.work _ _ _ (c.in_ok-part.was ∙ ap Ok c.in-On.is) _ _ _ b.ensures.changed b.ensures.builds_to in
     record { changed = both.0; builds_to = both.1 }

@@ -1,5 +1,6 @@
 use native.Mathlib.Omega.{arith}
-use Prim.Native.Nat.{◌-◌}
+use mathlib.Core.Path.{sym, ◌∙◌}
+use borrow.Author.Tests.{not-true, not-false}
 use Rattle.conflict_round.proofs.Runs.{run_start, run_next, run_stop, run_done}
 use Rattle.conflict_round.proofs.run_end.Goals as goal
 
@@ -13,11 +14,11 @@ pub turned_use-u-requires : goal.turned_use-u-requires
 turned_use-u-requires c = let l = c.loop-e in
     (c.requires.0, omega (arith, c.loop-e-test.true, c.requires.1.within), c.requires.1.known l.e (omega (arith, l.invariant.some_row)) c.loop-e-test.true)
 
-pub returns-then-u-first : goal.returns-then-u-first
-returns-then-u-first c = run_stop _ _ _ _ _ _ _ _ c.loop-e.invariant _ c.turned_use-u.ensures c.if-u-first.true
+pub returns-then-ne : goal.returns-then-ne
+returns-then-ne c = run_stop _ _ _ _ _ _ _ _ c.loop-e.invariant _ c.turned_use-u.ensures (not-true _ (sym c.ne.ensures ∙ c.if-ne.true))
 
 pub loop-e-preserved : goal.loop-e-preserved
-loop-e-preserved c = run_next _ _ _ _ _ _ _ _ c.loop-e.invariant _ c.turned_use-u.ensures c.if-u-first.false c.loop-e-test.true
+loop-e-preserved c = run_next _ _ _ _ _ _ _ _ c.loop-e.invariant _ c.turned_use-u.ensures (not-false _ (sym c.ne.ensures ∙ c.if-ne.false)) c.loop-e-test.true
 
 pub returns : goal.returns
-returns c = run_done _ _ _ _ _ _ _ _ c.loop-e.invariant c.loop-e-test.false
+returns c = run_done _ _ _ _ _ _ _ _ c.loop-e.invariant c.loop-e-test.false (omega arith)

@@ -1,4 +1,3 @@
-use Prim.Native.Nat.{◌-◌}
 use Rattle.words.specs.Words.{words_of}
 use Rattle.set_runs.specs.Runs.{Running}
 use Rattle.conflict_round.proofs.Runs.{inst_at}
@@ -6,6 +5,3 @@ use Rattle.conflict_round.proofs.run_end.Given as goal
 
 abbrev pub invariant-loop-e : goal.invariant-loop-e
 invariant-loop-e l = Running (inst_at (words_of l.work) l.turned (words_of l.job) l.lay) l.a l.n l.first.pos.0 l.e
-
-abbrev pub decreases-loop-e : goal.decreases-loop-e
-decreases-loop-e l = l.n - l.e

@@ -1,6 +1,5 @@
 use native.Mathlib.Omega.{arith}
 use mathlib.Core.Path.{refl}
-use Prim.Native.Nat.{◌-◌}
 use Rattle.conflict_round.proofs.Kept.{stands_kept, ready_now, rows_now, count_is}
 use Rattle.conflict_round.proofs.Trying.{trying_start, trying_yes, trying_no, trying_end}
 use Rattle.conflict_round.proofs.try_rows.Goals as goal
@@ -8,44 +7,29 @@ use Rattle.conflict_round.proofs.try_rows.Goals as goal
 pub loop-i-init : goal.loop-i-init
 loop-i-init c = (trying_start _ _ _ _ _ _ _ _ _ _ c.requires.3, refl)
 
-pub admit_row-r-requires : goal.admit_row-r-requires
-admit_row-r-requires c = let v = c.loop-i.invariant in
+pub admit_row-requires : goal.admit_row-requires
+admit_row-requires c = let v = c.loop-i.invariant in
     let t = c.loop-i-test.true in
     (ready_now _ _ _ _ _ _ _ _ v.0.elsewhere c.requires.2 v.1 c.requires.0, c.requires.1, omega (arith, t, v.0.high, v.0.rows.within, v.1), v.0.rows.known c.loop-i.i v.0.low (omega (arith, t, v.0.high)), c.requires.4)
 
-pub overflow_add-i : goal.overflow_add-i
-overflow_add-i c = omega (arith, c.loop-i-test.true)
-
-pub loop-i-smaller-then-r : goal.loop-i-smaller-then-r
-loop-i-smaller-then-r c = omega (arith, c.loop-i-test.true)
-
-pub loop-i-preserved-then-r : goal.loop-i-preserved-then-r
-loop-i-preserved-then-r c = let v = c.loop-i.invariant in (
+pub loop-i-preserved-in-Some : goal.loop-i-preserved-in-Some
+loop-i-preserved-in-Some c = let v = c.loop-i.invariant in (
   trying_yes _ _ _ _ _ _ _ _ _ _ _ _ _ _ v.0 c.loop-i-test.true _
-      (λ st hs. c.admit_row-r.ensures st (stands_kept _ _ _ _ _ _ v.0.elsewhere c.requires.2 _ _ _ st hs)) c.if-r.true,
+      (λ st hs. c.admit_row.ensures st (stands_kept _ _ _ _ _ _ v.0.elsewhere c.requires.2 _ _ _ st hs)) _ c.in-Some.is,
   v.1,
 )
-
-pub overflow_sub-j : goal.overflow_sub-j
-overflow_sub-j c = omega (arith, c.loop-i-test.true)
 
 pub swap_rows-requires : goal.swap_rows-requires
 swap_rows-requires c = let v = c.loop-i.invariant in
     let t = c.loop-i-test.true in
     (omega (arith, t, v.0.high, v.0.rows.within, v.1), omega (arith, t, v.0.high, v.0.rows.within, v.1))
 
-pub loop-i-smaller : goal.loop-i-smaller
-loop-i-smaller c = omega (arith, c.loop-i-test.true)
-
 pub loop-i-preserved : goal.loop-i-preserved
 loop-i-preserved c = let v = c.loop-i.invariant in (
   trying_no _ _ _ _ _ _ _ _ _ _ _ _ _ _ v.0 c.loop-i-test.true _
-      (λ st hs. c.admit_row-r.ensures st (stands_kept _ _ _ _ _ _ v.0.elsewhere c.requires.2 _ _ _ st hs)) c.if-r.false _ refl _ c.swap_rows.ensures (count_is c.args.work.now c.loop-i.work v.1),
+      (λ st hs. c.admit_row.ensures st (stands_kept _ _ _ _ _ _ v.0.elsewhere c.requires.2 _ _ _ st hs)) c.in-None.is _ refl _ c.swap_rows.ensures (count_is c.args.work.now c.loop-i.work v.1),
   omega (arith, v.1, c.swap_rows.auto.work),
 )
-
-pub shape_of-work : goal.shape_of-work
-shape_of-work c = omega (arith, c.loop-i.invariant.1)
 
 pub returns : goal.returns
 returns c = let v = c.loop-i.invariant in

@@ -2,8 +2,8 @@ use Rattle.members.proofs.Narrowing.{job_classes}
 use Rattle.constraints.proofs.Admitted.{class_yes, class_no}
 use Rattle.constraints.proofs.admit_class.Goals as goal
 
-pub returns-in_default : goal.returns-in_default
-returns-in_default c = class_no _ _ _ _ (c.common_subclass.ensures _ (job_classes _ _)) c.in_default.is
+pub returns-in_err-class : goal.returns-in_err-class
+returns-in_err-class c = rw c.from_residual.ensures (class_no _ c.args.held _ _ (c.common_subclass.ensures _ (job_classes _ _)) c.in_err-class.was)
 
 pub returns : goal.returns
-returns c = class_yes _ _ _ _ (c.common_subclass.ensures _ (job_classes _ _)) _ c.in-Class.is
+returns c = class_yes _ c.args.held _ _ (c.common_subclass.ensures _ (job_classes _ _)) _ c.in_ok-class.was

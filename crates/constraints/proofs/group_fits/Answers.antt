@@ -1,14 +1,21 @@
+use mathlib.Core.Path.{sym, ◌∙◌}
+use borrow.Author.Tests.{not-true, not-false, ne_eqb}
+use Rattle.operands.proofs.Twice.{never}
 use Rattle.constraints.proofs.Admitted.{fits_first, fits_index, fits_mapping, fits_sets}
+use Rattle.constraints.proofs.group_fits.Goals.{then-same, else-same}
 use Rattle.constraints.proofs.group_fits.Goals as goal
 
-pub returns-then-other : goal.returns-then-other
-returns-then-other c = fits_index _ _ _ _ c.if-held.true c.if-other.true
+pub returns-then-not-held : goal.returns-then-not-held
+returns-then-not-held c = fits_first _ _ _ _ (not-true _ c.if-not-held.true)
 
 pub returns-then-mapping_fits : goal.returns-then-mapping_fits
-returns-then-mapping_fits c = fits_sets _ _ _ _ _ _ c.if-held.true c.if-other.false c.mapping_fits.ensures c.if-mapping_fits.true c.same_sets.ensures
+returns-then-mapping_fits c = elim c.if-same.branch [
+  | then-same w ↦ fits_sets _ _ _ _ _ _ (not-false _ c.if-not-held.false) w.if-same.true w.mapping_fits.ensures (sym w.value-is ∙ c.if-mapping_fits.true) c.same_sets.ensures
+  | else-same w ↦ never (sym c.if-mapping_fits.true ∙ w.value-is ∙ ne_eqb _ _ w.if-same.false)
+]
 
-pub returns-then-held : goal.returns-then-held
-returns-then-held c = fits_mapping _ _ _ _ _ c.if-held.true c.if-other.false c.mapping_fits.ensures c.if-mapping_fits.false
-
-pub returns : goal.returns
-returns c = fits_first _ _ _ _ c.if-held.false
+pub returns-else-mapping_fits : goal.returns-else-mapping_fits
+returns-else-mapping_fits c = elim c.if-same.branch [
+  | then-same w ↦ c.if-mapping_fits.false ∙ fits_mapping _ _ _ _ _ (not-false _ c.if-not-held.false) w.if-same.true w.mapping_fits.ensures (sym w.value-is ∙ c.if-mapping_fits.false)
+  | else-same w ↦ w.value-is ∙ ne_eqb _ _ w.if-same.false ∙ fits_index _ _ _ _ (not-false _ c.if-not-held.false) w.if-same.false
+]

@@ -1,8 +1,11 @@
-use Rattle.entry_kinds.proofs.Tests.{class_slot, class_by}
+use Rattle.std.proofs.Common.{rules, tests}
+use Rattle.entry_kinds.specs.Tests.{class_use_ok}
 use Rattle.entry_kinds.proofs.class_use_ok.Goals as goal
 
-pub returns-then-slot-ge65536 : goal.returns-then-slot-ge65536
-returns-then-slot-ge65536 c = class_slot _ _ _ c.if-slot-ge65536.true
+pub returns-then-slot-lt65536 : goal.returns-then-slot-lt65536
+unfolding class_use_ok
+returns-then-slot-lt65536 c = search (rules, tests)
 
-pub returns : goal.returns
-returns c = class_by _ _ _ c.if-slot-ge65536.false
+pub returns-else-slot-lt65536 : goal.returns-else-slot-lt65536
+unfolding class_use_ok
+returns-else-slot-lt65536 c = search (rules, tests)

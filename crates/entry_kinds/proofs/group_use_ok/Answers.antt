@@ -2,10 +2,10 @@ use Rattle.entry_kinds.proofs.Tests.{found_below, group_at, group_none}
 use Rattle.entry_kinds.proofs.group_use_ok.Goals as goal
 
 pub operand_fits-requires : goal.operand_fits-requires
-operand_fits-requires c = (c.requires.0, found_below _ _ _ _ _ _ c.requires.0 c.args.v _ _ c.args.class c.args.index _ c.find_operand.ensures _ c.in-At.is)
+operand_fits-requires c = (c.requires.0, found_below _ _ _ _ _ _ c.requires.0 c.args.v _ _ c.args.class c.args.index _ c.find_operand.ensures _ c.in-Some.is)
 
-pub returns-in-At : goal.returns-in-At
-returns-in-At c = group_at _ _ _ _ _ _ c.requires.0 _ _ _ _ _ _ c.find_operand.ensures _ c.in-At.is _ c.operand_fits.ensures
+pub returns-in-Some : goal.returns-in-Some
+returns-in-Some c = group_at _ _ _ _ _ _ c.requires.0 _ _ _ _ _ _ c.find_operand.ensures _ c.in-Some.is _ c.operand_fits.ensures
 
-pub returns-in-Nothing : goal.returns-in-Nothing
-returns-in-Nothing c = group_none _ _ _ _ _ _ c.requires.0 _ _ _ _ _ _ c.find_operand.ensures c.in-Nothing.is
+pub returns-in-None : goal.returns-in-None
+returns-in-None c = group_none _ _ _ _ _ _ c.requires.0 _ _ _ _ _ _ c.find_operand.ensures c.in-None.is

@@ -1,11 +1,12 @@
-use Rattle.entry_kinds.proofs.Tests.{tied_def, tied_index, tied_by}
+use Rattle.std.proofs.Common.{arith}
+use Rattle.std.proofs.lemmas.Bool.Decides.{nat_tests}
+use Rattle.entry_kinds.specs.Tests.{tied_use_ok}
+use Rattle.entry_kinds.proofs.Tests.{tied_by}
 use Rattle.entry_kinds.proofs.tied_use_ok.Goals as goal
 
-pub returns-then-def-ge65536 : goal.returns-then-def-ge65536
-returns-then-def-ge65536 c = tied_def _ _ _ _ _ c.if-def-ge65536.true
+pub returns-then-index-lt256 : goal.returns-then-index-lt256
+returns-then-index-lt256 c = tied_by _ _ _ _ _ _ c.if-index-lt256.true.0 c.if-index-lt256.true.1 c.class_use_ok.ensures
 
-pub returns-then-index-ge256 : goal.returns-then-index-ge256
-returns-then-index-ge256 c = tied_index _ _ _ _ _ c.if-def-ge65536.false c.if-index-ge256.true
-
-pub returns : goal.returns
-returns c = tied_by _ _ _ _ _ _ c.if-def-ge65536.false c.if-index-ge256.false c.class_use_ok.ensures
+pub returns-else-index-lt256 : goal.returns-else-index-lt256
+unfolding tied_use_ok
+returns-else-index-lt256 c = grind (arith, nat_tests)

@@ -1,4 +1,3 @@
-use Prim.Native.Nat.{◌-◌}
 use native.Mathlib.Omega.{arith}
 use Rattle.members.proofs.Narrowing.{narrow_start, narrow_next, narrow_stop, narrow_end}
 use Rattle.members.proofs.narrowed_by.Goals as goal
@@ -6,11 +5,11 @@ use Rattle.members.proofs.narrowed_by.Goals as goal
 pub loop-i-init : goal.loop-i-init
 loop-i-init c = narrow_start _ _ _ _ _
 
-pub returns-in_default : goal.returns-in_default
-returns-in_default c = narrow_stop c.loop-i.invariant _ _ c.place_word-w.ensures c.narrow.ensures c.in_default.is
+pub returns-in_err-class : goal.returns-in_err-class
+returns-in_err-class c = rw c.from_residual.ensures (narrow_stop c.loop-i.invariant _ _ c.place_word-w.ensures c.narrow.ensures c.in_err-class.was)
 
 pub loop-i-preserved : goal.loop-i-preserved
-loop-i-preserved c = narrow_next c.loop-i.invariant _ _ c.place_word-w.ensures c.narrow.ensures _ c.in-Class.is
+loop-i-preserved c = narrow_next c.loop-i.invariant _ _ c.place_word-w.ensures c.narrow.ensures _ c.in_ok-class.was
 
 pub returns : goal.returns
 returns c = narrow_end c.loop-i.invariant (omega arith)

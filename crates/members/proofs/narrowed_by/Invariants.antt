@@ -1,12 +1,7 @@
-use Prim.Native.Nat.{◌-◌}
-use Rattle.definition.specs.Types.{cls}
 use Rattle.words.specs.Words.{words_of}
 use Rattle.job.specs.Job.{job_of}
 use Rattle.members.proofs.Narrowing.{Narrowing}
 use Rattle.members.proofs.narrowed_by.Given as goal
 
 abbrev pub invariant-loop-i : goal.invariant-loop-i
-invariant-loop-i l = Narrowing l.ol (words_of l.out) (job_of (words_of l.job) l.lay) l.g (cls l.initial.class) l.i l.class
-
-abbrev pub decreases-loop-i : goal.decreases-loop-i
-decreases-loop-i l = 8 - l.i
+invariant-loop-i l = Narrowing l.ol (words_of l.out) (job_of (words_of l.job) l.lay) l.g l.initial.class l.i l.class

@@ -1,16 +1,10 @@
 use native.Mathlib.Omega.{arith}
-use mathlib.Core.Path.{sym, ap, ◌∙◌}
-use Rattle.operands.specs.Rows.{is_found}
+use mathlib.Core.Path.{◌∙◌}
 use Rattle.operands.proofs.Search.{next_less, taken_is}
 use Rattle.operands.proofs.is_again.Goals as goal
 
 pub find_from-requires : goal.find_from-requires
 find_from-requires c = (c.requires.0, c.requires.1, omega (arith, next_less _ _ _ c.requires.1 _ _ c.requires.2 c.word_at-before.ensures))
 
-pub returns-in-At : goal.returns-in-At
-returns-in-At c = ap is_found (sym c.in-At.is)
-    ∙ taken_is _ _ _ c.requires.1 _ _ _ _ c.requires.2 c.word_at-slot.ensures c.word_at-before.ensures c.find_from.ensures
-
-pub returns-in-Nothing : goal.returns-in-Nothing
-returns-in-Nothing c = ap is_found (sym c.in-Nothing.is)
-    ∙ taken_is _ _ _ c.requires.1 _ _ _ _ c.requires.2 c.word_at-slot.ensures c.word_at-before.ensures c.find_from.ensures
+pub returns : goal.returns
+returns c = c.is_some.ensures ∙ taken_is _ _ _ c.requires.1 _ _ _ _ c.requires.2 c.word_at-slot.ensures c.word_at-before.ensures c.find_from.ensures

@@ -1,18 +1,14 @@
-use native.Mathlib.Omega.{arith}
-use mathlib.Core.Path.{sym, ◌∙◌}
-use Prim.Native.Nat.{◌-◌}
+use Rattle.std.proofs.Common.{rules, tests, not, ◌∙◌}
+use Rattle.words.specs.Words.{words_of}
+use Rattle.operands.specs.Rows.{taken_before}
+use Rattle.operands.specs.Chains.{operands_of}
+use Rattle.function.specs.Every.{every_from_all}
 use Rattle.operands.proofs.Rows.{long}
-use Rattle.operands.proofs.Twice.{apart_start, apart_next, apart_stop, apart_done}
+use Rattle.operands.proofs.Twice.{apart_by}
 use Rattle.operands.proofs.no_twice.Goals as goal
 
-pub loop-k-init : goal.loop-k-init
-loop-k-init c = apart_start _ _
-
-pub returns-then-is_again : goal.returns-then-is_again
-returns-then-is_again c = apart_stop c.loop-k.invariant (long _ _ _) (omega arith) (sym c.is_again.ensures ∙ c.if-is_again.true)
-
-pub loop-k-preserved : goal.loop-k-preserved
-loop-k-preserved c = apart_next c.loop-k.invariant (long _ _ _) (omega arith) (sym c.is_again.ensures ∙ c.if-is_again.false)
-
 pub returns : goal.returns
-returns c = apart_done c.loop-k.invariant (long _ _ _) (omega arith)
+returns c =
+    let os = operands_of (words_of c.args.t.now) c.args.c in
+    every_from_all (λ k. not (taken_before os k)) (λ k. k) c.args.c.count c.all.ensures.ran (λ x b q k. search (rules, tests))
+    ∙ apart_by os c.args.c.count (long _ _ _)

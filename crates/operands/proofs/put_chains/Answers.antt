@@ -1,5 +1,4 @@
 use native.Mathlib.Omega.{arith}
-use Prim.Native.Nat.{◌-◌}
 use Rattle.operands.proofs.Rows.{inst_word}
 use Rattle.operands.proofs.Turns.{link_start, link_next, link_done, row_under}
 use Rattle.operands.proofs.put_chains.Goals as goal

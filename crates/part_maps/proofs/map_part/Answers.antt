@@ -1,5 +1,4 @@
 use mathlib.Core.Path.{refl, ◌∙◌}
-use Prim.Native.Nat.{◌-◌}
 use native.Mathlib.Omega.{arith}
 use Rattle.part_maps.proofs.Kept.{marked_kept, backed_marked}
 use Rattle.part_maps.proofs.Going.{run_start, run_outside, run_next, run_stop, run_end, ready_run, maps_part}
@@ -15,16 +14,10 @@ pub map_use-requires : goal.map_use-requires
 map_use-requires c = let r = ready_run _ _ _ _ _ _ _ _ _ _ _ c.loop-i.invariant.0 c.requires.1 c.loop-i.invariant.1 c.requires.0 in
     (r, backed_marked _ _ _ _ _ _ _ _ r (omega (arith, c.requires.2.within)) (omega (arith, c.loop-i-test.true, c.requires.2.fits)) c.marked_use-u.ensures, c.requires.3)
 
-pub shape_of-work-then-not-map_use : goal.shape_of-work-then-not-map_use
-shape_of-work-then-not-map_use c = omega (arith, c.loop-i.invariant.1, c.map_use)
-
 pub returns-then-not-map_use : goal.returns-then-not-map_use
 returns-then-not-map_use c = let o = run_outside _ _ _ _ _ _ _ _ _ _ c.loop-i.invariant.0 in
     maps_part _ _ _ _ _ _ _ _ c.requires.2
     (run_stop _ _ _ _ _ _ _ _ _ _ c.loop-i.invariant.0 c.loop-i-test.true _ (c.marked_use-u.ensures ∙ marked_kept _ _ _ _ o c.requires.1 _ _) _ _ c.map_use.ensures c.if-not-map_use.true-raw)
-
-pub overflow_add-i : goal.overflow_add-i
-overflow_add-i c = omega (arith, c.loop-i-test.true, c.requires.2.fits, c.requires.0.fits.uses)
 
 pub loop-i-preserved : goal.loop-i-preserved
 loop-i-preserved c = let o = run_outside _ _ _ _ _ _ _ _ _ _ c.loop-i.invariant.0 in (

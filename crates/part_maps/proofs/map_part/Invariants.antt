@@ -1,5 +1,4 @@
 use mathlib.Core.Path.{◌≡◌}
-use Prim.Native.Nat.{◌-◌}
 use lib.ListN.{length}
 use Rattle.words.specs.Words.{words_of}
 use Rattle.definition.specs.Types.{vrgroup}
@@ -8,7 +7,4 @@ use Rattle.part_maps.proofs.Going.{Run}
 use Rattle.part_maps.proofs.map_part.Given as goal
 
 abbrev pub invariant-loop-i : goal.invariant-loop-i
-invariant-loop-i l = Run (words_of l.job) (words_of l.initial.work) l.lay l.wl (vrgroup l.g) (marked_use (words_of l.initial.work) l.wl.marks (words_of l.job) l.lay) l.initial.i l.end l.i (words_of l.work) × (length l.work ≡ length l.initial.work)
-
-abbrev pub decreases-loop-i : goal.decreases-loop-i
-decreases-loop-i l = l.end - l.i
+invariant-loop-i l = Run (words_of l.job) (words_of l.initial.work) l.lay l.wl (vrgroup l.g) (marked_use (words_of l.initial.work) l.wl.marks (words_of l.job) l.lay) l.fn.sp.first l.i-end l.i (words_of l.work) × (length l.work ≡ length l.initial.work)

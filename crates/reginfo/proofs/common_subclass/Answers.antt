@@ -1,9 +1,5 @@
 use mathlib.Core.Path.{◌∙◌}
 use Rattle.reginfo.proofs.Common.{common_of}
-use Rattle.reginfo.proofs.common_subclass.Reads as reads
-use Rattle.reginfo.proofs.common_subclass.Lts as lts
-use Rattle.reginfo.proofs.lowest_common.Reads as lowest-common-reads
-use Rattle.reginfo.proofs.mask_of.Reads as mask-of-reads
 use Rattle.reginfo.proofs.common_subclass.Goals as goal
 
 -- src/lib.rt:74:1

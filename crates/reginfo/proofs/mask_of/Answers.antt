@@ -1,7 +1,4 @@
 use Rattle.reginfo.proofs.Common.{mask_known, mask_past}
-use Rattle.reginfo.proofs.mask_of.Reads as reads
-use Rattle.reginfo.proofs.mask_of.Lts as lts
-use Rattle.words.proofs.word_at.Reads as word-at-reads
 use Rattle.reginfo.proofs.mask_of.Goals as goal
 
 -- src/lib.rt:61:1

@@ -1,9 +1,5 @@
-use native.Mathlib.Omega.{arith}
 use Rattle.scans.proofs.Costs.{cost_known, cost_past}
 use Rattle.scans.proofs.cost_bits.Goals as goal
-
-pub word_at-requires : goal.word_at-requires
-word_at-requires c = omega (arith, c.requires.0.classes, c.if-k-n.true)
 
 pub returns-then-k-n : goal.returns-then-k-n
 returns-then-k-n c = cost_known _ _ _ _ _ (cc) c.if-k-n.true c.requires.1 c.word_at.ensures

@@ -1,4 +1,3 @@
-use Prim.Native.Nat.{◌-◌}
 use Rattle.words.specs.Words.{words_of}
 use Rattle.job.specs.Job.{job_of}
 use Rattle.constraints.specs.Ready.{Stands}
@@ -7,7 +6,4 @@ use Rattle.scans.proofs.Scanning.{Forward}
 use Rattle.scans.proofs.scan_uses.Given as goal
 
 abbrev pub invariant-loop-n : goal.invariant-loop-n
-invariant-loop-n l = Forward (λ st. Stands l.ol (words_of l.out) (words_of l.job) (words_of l.work) l.lay l.wl st) (job_of (words_of l.job) l.lay) (marked_use (words_of l.work) l.wl.marks (words_of l.job) l.lay) l.a l.b l.initial.held l.n l.held
-
-abbrev pub decreases-loop-n : goal.decreases-loop-n
-decreases-loop-n l = l.b - l.n
+invariant-loop-n l = Forward (λ st. Stands l.ol (words_of l.out) (words_of l.job) (words_of l.work) l.lay l.wl st) (job_of (words_of l.job) l.lay) (marked_use (words_of l.work) l.wl.marks (words_of l.job) l.lay) l.fn.a l.fn.b l.initial.held l.n l.held
