@@ -23,9 +23,10 @@ use Rattle.constraints.specs.Ready.{Ready}
 use Rattle.part_maps.specs.Maps.{MapApart}
 use Rattle.conflict_piece.specs.Conflict.{turned_rows_of, RowsOk}
 use Rattle.conflict_round.proofs.Kept.{rows_none}
-use Rattle.place_end.specs.declared.Ended.TheVariants as ended
-use Rattle.place_end.specs.declared.PlaceEnd.{PlaceEnd}
-use Rattle.steps.specs.declared.StepsEnd.{StepsEnd}
+use Rattle.std.specs.Prelude.{Result, Ok, Err}
+use Rattle.place_end.specs.declared.NotPlaced.{NotPlaced}
+use Rattle.place_end.specs.Ends.{Placed}
+use Rattle.build_part.specs.declared.StepsEnd.{StepsEnd}
 use Rattle.steps.specs.Turns.{TurnRoom}
 use Rattle.steps.specs.Laid.{Laid}
 use Rattle.steps.specs.Built.{Changed}
@@ -37,7 +38,6 @@ use Rattle.build_begin.specs.Begun.{Begun, Onward, KeptFrom, kept_none}
 use Rattle.build_begin.specs.Laid.{whole_segs, laid, onward_next, onward_set}
 use Rattle.build_begin.specs.Loop.{set_runs}
 use Rattle.conflicts.specs.Conflicts.{Between, EndsAs}
-use Rattle.conflicts.proofs.Going.{ended_state}
 use Rattle.build_sets.specs.Sets.{SetReady}
 
 -- the conflict registers change the mapping and turned rows alone
@@ -48,23 +48,19 @@ kept_between g f K K' b = record {
   marks = λ j h l. b.until j (omega (arith, g.mapping.marks)) l;
 }
 
--- how the steps ended, without the turned uses
-abbrev pub place_end : StepsEnd → PlaceEnd
-place_end r = record { end = r.end; counts = r.counts }
-
-module _ (J : Job) (ol : OutLayout) (W : List ℕ) (lay : Layout) (wl : WorkLayout) (O K : List ℕ) (r : StepsEnd) where
+module _ (J : Job) (ol : OutLayout) (W : List ℕ) (lay : Layout) (wl : WorkLayout) (O K : List ℕ) (r : Result StepsEnd NotPlaced) where
   -- steps that are done have left a state and turned uses
-  built_state : (o : Out Built) → BuiltFit J ol W lay wl O K r o → r.end ≡ ended.Done
-      → (b : Built) × (o ≡ done b) × StandsAs J ol O W K lay wl r.counts b.state × (turned_rows_of K wl.turned W lay 0 r.turned ≡ b.turned)
-  unfolding BuiltFit EndsAs
-  built_state (done b) a d = (b, refl, a.stands, a.turned)
-  built_state (refused f) a d = absurd (let x = ended_state J ol W lay wl O K (place_end r) (refused f) a d in let z : ◌≡◌ {A = ℕ} 0 1 = cc x.1 in omega arith)
+  built_state : (o : Out Built) (e : StepsEnd) → BuiltFit J ol W lay wl O K r o → r ≡ Ok e
+      → (b : Built) × (o ≡ done b) × StandsAs J ol O W K lay wl e.counts b.state × (turned_rows_of K wl.turned W lay 0 e.turned ≡ b.turned)
+  unfolding BuiltFit
+  built_state (done b) e a d = let n = subst (λ (y : Result StepsEnd NotPlaced). BuiltFit J ol W lay wl O K y (done b)) d a in (b, refl, n.stands, n.turned)
+  built_state (refused f) e a d = absurd (subst (λ (y : Result StepsEnd NotPlaced). BuiltFit J ol W lay wl O K y (refused f)) d a)
 
   -- and where they are not, that is the end
-  built_not : (o : Out Built) (k : Built → Out State) → BuiltFit J ol W lay wl O K r o → (r.end ≡ ended.Done → ⊥) → EndsAs J ol W lay wl O K (place_end r) (o >>= k)
+  built_not : (o : Out Built) (k : Built → Out State) (v : NotPlaced) → BuiltFit J ol W lay wl O K r o → r ≡ Err v → EndsAs J ol W lay wl O K (Err v) (o >>= k)
   unfolding BuiltFit EndsAs
-  built_not (done b) k a d = absurd (d a.end)
-  built_not (refused f) k a d = a
+  built_not (done b) k v a d = absurd (subst (λ (y : Result StepsEnd NotPlaced). BuiltFit J ol W lay wl O K y (done b)) d a)
+  built_not (refused f) k v a d = subst (λ (y : Result StepsEnd NotPlaced). BuiltFit J ol W lay wl O K y (refused f)) d a
 
 module _ (t w o : ℕ) (W K O : List ℕ) (lay : Layout) (wl : WorkLayout) (ol : OutLayout) (a b : ℕ) (c : Counts) (g : SetReady t w o W K O lay wl ol a b c) (sp : SetPart) (is : sp ≡ whole_part W lay a b) where
   -- the set's part is laid out for the steps
@@ -96,27 +92,29 @@ module _ (t w o : ℕ) (W K O : List ℕ) (lay : Layout) (wl : WorkLayout) (ol :
         ∙ (λ i. run J (room_of ol) (es i) (et i) st (segs i) (none i) >>= λ r. conflicts J (room_of ol) (es i) (et i) (runs same_inst r.turned) r.state)
 
     -- the steps ended with r and the words K₁ and O₁
-    module _ (K₁ O₁ : List ℕ) (r : StepsEnd) (ch : Changed lay wl sp 0 K K₁)
+    module _ (K₁ O₁ : List ℕ) (r : Result StepsEnd NotPlaced) (ch : Changed lay wl sp 0 K K₁)
         (k : (st : State) → StandsAs (job_of W lay) ol O W K lay wl c st
         → BuiltFit (job_of W lay) ol W lay wl O₁ K₁ r (run (job_of W lay) (room_of ol) vs top st (part_segs K wl.marks W lay sp) (turned_rows_of K wl.turned W lay 0 0))) where
       changed : Changed lay wl (whole_part W lay a b) 0 K K₁
       changed = subst (λ (x : SetPart). Changed lay wl x 0 K K₁) is ch
 
       -- not done
-      pub set_stop : (r.end ≡ ended.Done → ⊥)
+      pub set_stop : (v : NotPlaced) → r ≡ Err v → (x : Placed) → x ≡ Err v
           → (b < lay.segments.n → Onward t w W K₁ lay wl (seg_at W lay b).first)
-          × ((st : State) → StandsAs (job_of W lay) ol O W K lay wl c st → EndsAs (job_of W lay) ol W lay wl O₁ K₁ (place_end r) (build_set (job_of W lay) (room_of ol) (segs_from W lay a b) st))
-      set_stop d = (
+          × ((st : State) → StandsAs (job_of W lay) ol O W K lay wl c st → EndsAs (job_of W lay) ol W lay wl O₁ K₁ x (build_set (job_of W lay) (room_of ol) (segs_from W lay a b) st))
+      set_stop v d x e = (
         λ m. onward_set g.begun a b g.some_seg g.within g.onward changed (kept_none wl (next_use W lay (b - 1)) K₁) m,
-        λ st s. subst (λ (y : Out State). EndsAs J ol W lay wl O₁ K₁ (place_end r) y) (sym (set_is st)) (built_not J ol W lay wl O₁ K₁ r (ran st) (λ x. thence x) (k st s) d),
+        λ st s.
+            subst (λ (y : Placed). EndsAs J ol W lay wl O₁ K₁ y (build_set J (room_of ol) (segs_from W lay a b) st)) (sym e)
+            (subst (λ (y : Out State). EndsAs J ol W lay wl O₁ K₁ (Err v) y) (sym (set_is st)) (built_not J ol W lay wl O₁ K₁ r (ran st) (λ x. thence x) v (k st s) d)),
       )
 
       -- what the conflict registers need, of slices of w' and o' words now
-      pub set_turns : (w' o' : ℕ) → w ≡ w' → o ≡ o' → r.end ≡ ended.Done → RowsOk w' K₁ wl.turned lay 0 r.turned
-          → Ready t w' W K₁ lay wl × MapApart lay wl × TurnRoom w' lay wl × Builds o' W lay ol × (0 < lay.segments.n) × RowsOk w' K₁ wl.turned lay 0 r.turned
-          × ((st : State) × StandsAs (job_of W lay) ol O₁ W K₁ lay wl r.counts st)
-      set_turns w' o' ew eo d rows =
-          let x = built_state J ol W lay wl O₁ K₁ r (ran g.st) (k g.st g.stands) d in (
+      pub set_turns : (w' o' : ℕ) → w ≡ w' → o ≡ o' → (e : StepsEnd) → r ≡ Ok e → RowsOk w' K₁ wl.turned lay 0 e.turned
+          → Ready t w' W K₁ lay wl × MapApart lay wl × TurnRoom w' lay wl × Builds o' W lay ol × (0 < lay.segments.n) × RowsOk w' K₁ wl.turned lay 0 e.turned
+          × ((st : State) × StandsAs (job_of W lay) ol O₁ W K₁ lay wl e.counts st)
+      set_turns w' o' ew eo e d rows =
+          let x = built_state J ol W lay wl O₁ K₁ r (ran g.st) e (k g.st g.stands) d in (
             subst (λ (n : ℕ). Ready t n W K₁ lay wl) ew (onward_next g.begun a b g.some_seg g.within g.onward changed (kept_none wl (next_use W lay (b - 1)) K₁)).ready,
             g.begun.mapping,
             subst (λ (n : ℕ). TurnRoom n lay wl) ew g.begun.turns,
@@ -127,16 +125,16 @@ module _ (t w o : ℕ) (W K O : List ℕ) (lay : Layout) (wl : WorkLayout) (ol :
           )
 
       -- and what they leave
-      pub set_done : r.end ≡ ended.Done → (K₂ O₂ : List ℕ) (e : PlaceEnd) → Between lay wl K₁ K₂
-          → ((st : State) → StandsAs (job_of W lay) ol O₁ W K₁ lay wl r.counts st
-          → EndsAs (job_of W lay) ol W lay wl O₂ K₂ e (conflicts (job_of W lay) (room_of ol) vs top (runs same_inst (turned_rows_of K₁ wl.turned W lay 0 r.turned)) st))
+      pub set_done : (e : StepsEnd) → r ≡ Ok e → (K₂ O₂ : List ℕ) (x : Placed) → Between lay wl K₁ K₂
+          → ((st : State) → StandsAs (job_of W lay) ol O₁ W K₁ lay wl e.counts st
+          → EndsAs (job_of W lay) ol W lay wl O₂ K₂ x (conflicts (job_of W lay) (room_of ol) vs top (runs same_inst (turned_rows_of K₁ wl.turned W lay 0 e.turned)) st))
           → (b < lay.segments.n → Onward t w W K₂ lay wl (seg_at W lay b).first)
-          × ((st : State) → StandsAs (job_of W lay) ol O W K lay wl c st → EndsAs (job_of W lay) ol W lay wl O₂ K₂ e (build_set (job_of W lay) (room_of ol) (segs_from W lay a b) st))
-      set_done d K₂ O₂ e bt h = (
+          × ((st : State) → StandsAs (job_of W lay) ol O W K lay wl c st → EndsAs (job_of W lay) ol W lay wl O₂ K₂ x (build_set (job_of W lay) (room_of ol) (segs_from W lay a b) st))
+      set_done e d K₂ O₂ x bt h = (
         λ m. onward_set g.begun a b g.some_seg g.within g.onward changed (kept_between g.begun (next_use W lay (b - 1)) K₁ K₂ bt) m,
         λ st s.
-            let x = built_state J ol W lay wl O₁ K₁ r (ran st) (k st s) d in
-            let y : build_set J (room_of ol) (segs_from W lay a b) st ≡ conflicts J (room_of ol) vs top (runs same_inst (turned_rows_of K₁ wl.turned W lay 0 r.turned)) x.0.state =
-            set_is st ∙ ap (λ (z : Out Built). z >>= λ u. thence u) x.1 ∙ ap (λ (us : List Turned). conflicts J (room_of ol) vs top (runs same_inst us) x.0.state) (sym x.3) in
-            subst (λ (z : Out State). EndsAs J ol W lay wl O₂ K₂ e z) (sym y) (h x.0.state x.2),
+            let p = built_state J ol W lay wl O₁ K₁ r (ran st) e (k st s) d in
+            let y : build_set J (room_of ol) (segs_from W lay a b) st ≡ conflicts J (room_of ol) vs top (runs same_inst (turned_rows_of K₁ wl.turned W lay 0 e.turned)) p.0.state =
+            set_is st ∙ ap (λ (z : Out Built). z >>= λ u. thence u) p.1 ∙ ap (λ (us : List Turned). conflicts J (room_of ol) vs top (runs same_inst us) p.0.state) (sym p.3) in
+            subst (λ (z : Out State). EndsAs J ol W lay wl O₂ K₂ x z) (sym y) (h p.0.state p.2),
       )

@@ -18,10 +18,9 @@ ghost use Rattle.build_sets.specs.Sets.{SetReady, SetsReady};
 use build_part::build_part;
 use conflicts::conflicts;
 use layout::Layout;
-use place_end::{Ended, PlaceEnd};
+use place_end::NotPlaced;
 use set_part::whole_part;
 use set_runs::{set_at, set_end, top_at};
-use steps::is_done;
 use virt_regs::{Counts, OutLayout};
 use work_layout::WorkLayout;
 
@@ -36,7 +35,7 @@ pub fn build_set(
     a: usize,
     b: usize,
     c: Counts,
-) -> PlaceEnd
+) -> Result<Counts, NotPlaced>
     requires { SetReady (word_count job.now) (word_count work.old) (word_count out.old) (words_of job.now) (words_of work.old) (words_of out.old) lay wl ol a b c }
     ensures onward { b < lay.segments.n → Onward (word_count job.now) (word_count work.old) (words_of job.now) (words_of work.new) lay wl (seg_at (words_of job.now) lay b).first }
     ensures ends_as { (st : State) → StandsAs (job_of (words_of job.now) lay) ol (words_of out.old) (words_of job.now) (words_of work.old) lay wl c st
@@ -46,13 +45,8 @@ pub fn build_set(
     let sp = whole_part(job, lay, a, b);
     let set = set_at(job, lay, a);
     let top = top_at(job, lay, a);
-    let r = build_part(job, lay, out, ol, work, wl, set, top, sp, c, 0);
-    let end = r.end;
-    let counts = r.counts;
-    if !is_done(end) {
-        return PlaceEnd { end, counts };
-    }
-    conflicts(job, lay, out, ol, work, wl, set, top, r.turned, counts)
+    let r = build_part(job, lay, out, ol, work, wl, set, top, sp, c, 0)?;
+    conflicts(job, lay, out, ol, work, wl, set, top, r.turned, r.counts)
 }
 
 // "It takes the value sets by rising number": the segments of a job that is accepted stand in that order.
@@ -63,7 +57,7 @@ pub fn build_sets(
     ol: OutLayout,
     work: &mut [u8],
     wl: WorkLayout,
-) -> PlaceEnd
+) -> Result<Counts, NotPlaced>
     requires { SetsReady (word_count job.now) (word_count work.old) (word_count out.old) (words_of job.now) (words_of work.old) (words_of out.old) lay wl ol }
     ensures { EndsAs (job_of (words_of job.now) lay) ol (words_of job.now) lay wl (words_of out.new) (words_of work.new) result
         (build_from (words_of job.now) lay (room_of ol) 0 empty) }
@@ -78,16 +72,8 @@ pub fn build_sets(
     };
     while a < n {
         let b = set_end(job, lay, a);
-        let r = build_set(job, lay, out, ol, work, wl, a, b, c);
-        let end = r.end;
-        if !is_done(end) {
-            return r;
-        }
-        c = r.counts;
+        c = build_set(job, lay, out, ol, work, wl, a, b, c)?;
         a = b;
     }
-    PlaceEnd {
-        end: Ended::Done,
-        counts: c,
-    }
+    Ok(c)
 }

@@ -1,6 +1,9 @@
 -- The uses of a conflict piece and its row, written. Assumes nothing.
 use mathlib.Core.Path.{◌≡◌, refl, sym, ap, ◌∙◌, subst}
+use Rattle.std.specs.Int.{from_bool}
 use mathlib.Core.Bool.{Bool, true, false, not, cond}
+use Rattle.std.specs.Prelude as code
+use Rattle.std.specs.Prelude.{None, Some, is_some, unwrap_or}
 use mathlib.Core.Option.{Option, none, some}
 use mathlib.Core.List.{List, [], ◌∷◌, ◌++◌, map, append_assoc, append-nil}
 use Prim.Native.Nat.{ℕ, zero, suc, ◌+◌, ◌-◌, ◌*◌, ◌≤◌, ◌<◌}
@@ -8,7 +11,6 @@ use native.Mathlib.Nat.{add-zero}
 use native.Mathlib.Omega.{arith}
 use lib.Dec.{eqb}
 use lib.ListN.{length, get_or, length-append}
-use borrow.Author.Tests.{not-true, not-false}
 use Rattle.rows.specs.Tab.{tab, length_tab, tab_snoc}
 use Rattle.rows.specs.Parts.{splice}
 use Rattle.definition.specs.declared.Value.{Value}
@@ -29,7 +31,6 @@ use Rattle.virt_regs.specs.declared.PieceRow.{PieceRow}
 use Rattle.virt_regs.specs.Encoding.{seg_base, use_base, tables_end, use_words, piece_words, each_piece}
 use Rattle.virt_regs.specs.Counting.{count_uses_of}
 use Rattle.vreg_put.specs.Written.{Written, written_none, written_use, written_piece}
-use Rattle.conflict_piece.specs.declared.Param.{Param}
 use Rattle.conflict_piece.specs.Conflict.{row_use, turned_row_at, turned_rows_of, param_by, open_count, conflict_row}
 
 -- the use of a row
@@ -39,27 +40,23 @@ use_read K turned W lay k n u en eu = eu ∙ ap (λ (j : ℕ). use_row W (lay.us
 
 -- ---- the opening
 
-pub open_none : (ol : OutLayout) (O : List ℕ) (u : ℕ) (pos : Inst) (q : Param) → not q.has ≡ true → (0 ≡ open_count q) × ((p : ℕ) → Written ol O p u [] (opening pos (param_by q)) O)
-open_none ol O u pos q e = let z : q.has ≡ false = not-true q.has e in rw z (refl, λ p. written_none ol O p u)
+pub open_none : (ol : OutLayout) (O : List ℕ) (u : ℕ) (pos : Inst) (q : code.Option ℕ) → q ≡ None → (0 ≡ open_count q) × ((p : ℕ) → Written ol O p u [] (opening pos (param_by q)) O)
+open_none ol O u pos q e = rw e (refl, λ p. written_none ol O p u)
 
-pub open_some : (ol : OutLayout) (O O₁ : List ℕ) (u : ℕ) (pos : Inst) (q : Param) → not q.has ≡ false → tables_end ol ≤ length O → u + open_count q ≤ ol.uses
-    → O₁ ≡ splice O (use_base ol + u * 6) (use_words (record { pos = pos; kind = BlockparamIn q.index })) → (1 ≡ open_count q) × ((p : ℕ) → Written ol O p u [] (opening pos (param_by q)) O₁)
-open_some ol O O₁ u pos q e l =
-    let z : q.has ≡ true = not-false q.has e in
-    rw z
+pub open_some : (ol : OutLayout) (O O₁ : List ℕ) (u : ℕ) (pos : Inst) (q : code.Option ℕ) (i : ℕ) → q ≡ Some i → tables_end ol ≤ length O → u + open_count q ≤ ol.uses
+    → O₁ ≡ splice O (use_base ol + u * 6) (use_words (record { pos = pos; kind = BlockparamIn i })) → (1 ≡ open_count q) × ((p : ℕ) → Written ol O p u [] (opening pos (param_by q)) O₁)
+open_some ol O O₁ u pos q i e l =
+    rw e
     (λ h s.
-    let x : Use = record { pos = pos; kind = BlockparamIn q.index } in
+    let x : Use = record { pos = pos; kind = BlockparamIn i } in
     (refl, λ p. written_use ol O p u [] [] O O₁ x (written_none ol O p u) l (omega arith) (s ∙ ap (λ (k : ℕ). splice O (use_base ol + k * 6) (use_words x)) (sym (add-zero u)))))
 
-pub open_room : (q : Param) (u n : ℕ) → not q.has ≡ false → u + open_count q ≤ n → u < n
-open_room q u n e = let z : q.has ≡ true = not-false q.has e in rw z (λ h. omega arith)
+pub open_room : (q : code.Option ℕ) (i u n : ℕ) → q ≡ Some i → u + open_count q ≤ n → u < n
+open_room q i u n e = rw e (λ h. omega arith)
 
-pub open_count_lem : (pos : Inst) (q : Param) → length (opening pos (param_by q)) ≡ open_count q
-open_count_lem pos q = go q.has
-  where
-    go : (b : Bool) → length (opening pos (cond b (some q.index) none)) ≡ cond b 1 0
-    go true = refl
-    go false = refl
+pub open_count_lem : (pos : Inst) (q : code.Option ℕ) → length (opening pos (param_by q)) ≡ open_count q
+open_count_lem pos None = refl
+open_count_lem pos (Some i) = refl
 
 -- ---- the rows
 
@@ -109,19 +106,18 @@ pub piece_uses : (v : Value) (p : Inst) (q : Option ℕ) (ts : List Turned) → 
 unfolding uses_of conflict_piece
 piece_uses v p q ts = append-nil (opening p q ++ map (λ t. t.use') ts)
 
-row_words : (v : Value) (p : Inst) (q : Param) (u n : ℕ) (ts : List Turned) → n ≡ length (opening p (param_by q) ++ map (λ t. t.use') ts)
+row_words : (v : Value) (p : Inst) (q : code.Option ℕ) (u n : ℕ) (ts : List Turned) → n ≡ length (opening p (param_by q) ++ map (λ t. t.use') ts)
     → piece_words (conflict_row v p q u n) ≡ each_piece u (conflict_piece v p (param_by q) ts)
 unfolding conflict_row conflict_piece
-row_words v p q u n ts e = go q.has e
-  where
-    go : (b : Bool) → n ≡ length (opening p (cond b (some q.index) none) ++ map (λ t. t.use') ts)
-        → piece_words (record { value = v; «from» = record { 0 = 4 * p.0 }; to = record { 0 = 4 * p.0 + 2 }; flags = cond b 0 1; origin = 1; first = u; uses = n })
-        ≡ each_piece u (conflict_piece v p (cond b (some q.index) none) ts)
-    go true e = ap (λ (k : ℕ). v.0 ∷ (4 * p.0) ∷ (4 * p.0 + 2) ∷ 0 ∷ 1 ∷ u ∷ k ∷ []) e
-    go false e = ap (λ (k : ℕ). v.0 ∷ (4 * p.0) ∷ (4 * p.0 + 2) ∷ 1 ∷ 1 ∷ u ∷ k ∷ []) e
+row_words v p (Some i) u n ts e = ap (λ (k : ℕ). v.0 ∷ (4 * p.0) ∷ (4 * p.0 + 2) ∷ 0 ∷ 1 ∷ u ∷ k ∷ []) e
+row_words v p None u n ts e = ap (λ (k : ℕ). v.0 ∷ (4 * p.0) ∷ (4 * p.0 + 2) ∷ 1 ∷ 1 ∷ u ∷ k ∷ []) e
+
+pub live_in : (b : Bool) → from_bool b ≡ cond (not b) 0 1
+live_in true = refl
+live_in false = refl
 
 -- all of it
-pub conflict_written : (ol : OutLayout) (O O₁ O₂ O₃ : List ℕ) (p u k : ℕ) (v : Value) (pos : Inst) (q : Param) (K : List ℕ) (turned : ℕ) (W : List ℕ) (lay : Layout) (a b : ℕ) (r : PieceRow)
+pub conflict_written : (ol : OutLayout) (O O₁ O₂ O₃ : List ℕ) (p u k : ℕ) (v : Value) (pos : Inst) (q : code.Option ℕ) (K : List ℕ) (turned : ℕ) (W : List ℕ) (lay : Layout) (a b : ℕ) (r : PieceRow)
     → tables_end ol ≤ length O → p < ol.segs → k ≡ open_count q → ((i : ℕ) → Written ol O i u [] (opening pos (param_by q)) O₁)
     → ((O : List ℕ) (p v : ℕ) (us : List Use) → Written ol O p v [] us O₁ → u + k ≡ v + length us → Written ol O p v [] (us ++ tab (row_use K turned W lay) a (b - a)) O₂)
     → r ≡ conflict_row v pos q u (k + (b - a)) → O₃ ≡ splice O₂ (seg_base ol + p * 7) (piece_words r)
@@ -144,7 +140,7 @@ conflict_written ol O O₁ O₂ O₃ p u k v pos q K turned W lay a b r l h ek w
 
 -- ---- how many uses it has, and no fixed hint
 
-pub count_conflict : (v : Value) (pos : Inst) (q : Param) (K : List ℕ) (turned : ℕ) (W : List ℕ) (lay : Layout) (a b : ℕ)
+pub count_conflict : (v : Value) (pos : Inst) (q : code.Option ℕ) (K : List ℕ) (turned : ℕ) (W : List ℕ) (lay : Layout) (a b : ℕ)
     → uses_of_pieces (conflict_piece v pos (param_by q) (turned_rows_of K turned W lay a b) ∷ []) ≡ open_count q + (b - a)
 count_conflict v pos q K turned W lay a b =
     let ts : List Turned = turned_rows_of K turned W lay a b in
@@ -163,13 +159,13 @@ hint_conflict v pos q ts = refl
 -- ---- a row stands for the turned use that was kept in it
 
 pub row_stands : (K K₀ : List ℕ) (turned marks : ℕ) (W : List ℕ) (lay : Layout) (k : ℕ) (t : TurnedRow) → get_or K (turned + k * 4) 0 ≡ t.value.0 → get_or K (turned + k * 4 + 1) 0 ≡ t.number
-    → get_or K (turned + k * 4 + 2) 0 ≡ cond t.has_param 1 0 → get_or K (turned + k * 4 + 3) 0 ≡ t.param → get_or K₀ (marks + t.number) 0 ≡ 0
+    → get_or K (turned + k * 4 + 2) 0 ≡ cond (is_some t.param) 1 0 → get_or K (turned + k * 4 + 3) 0 ≡ unwrap_or t.param 0 → get_or K₀ (marks + t.number) 0 ≡ 0
     → turned_row_at K turned W lay k ≡ row_turned K₀ marks W lay t
 unfolding turned_row_at row_use row_turned marked_use
-row_stands K K₀ turned marks W lay k t ev en eh ep em = rw (ev, en, ep, em, eh) (go t.has_param)
+row_stands K K₀ turned marks W lay k t ev en eh ep em = rw (ev, en, ep, em, eh) (go t.param)
   where
-    go : (b : Bool)
-        → ◌≡◌ {A = Turned} (record { value = t.value; use' = use_row W (lay.uses.at + t.number * 6); param = cond (eqb (cond b 1 0) 0) none (some t.param) })
-        (record { value = t.value; use' = use_row W (lay.uses.at + t.number * 6); param = cond b (some t.param) none })
-    go true = refl
-    go false = refl
+    go : (q : code.Option ℕ)
+        → ◌≡◌ {A = Turned} (record { value = t.value; use' = use_row W (lay.uses.at + t.number * 6); param = cond (eqb (cond (is_some q) 1 0) 0) none (some (unwrap_or q 0)) })
+        (record { value = t.value; use' = use_row W (lay.uses.at + t.number * 6); param = param_by q })
+    go None = refl
+    go (Some i) = refl

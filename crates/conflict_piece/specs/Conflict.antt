@@ -1,6 +1,7 @@
 -- The rows of turned uses in the work slice, and the piece of a conflict register. Assumes nothing.
-use Rattle.std.specs.Prelude.{ℕ, ◌+◌, ◌-◌, ◌*◌, ◌≤◌, ◌<◌, cond, List, eqb, get_or}
-use Rattle.std.proofs.Math.Option.{Option, none, some}
+use Rattle.std.specs.Prelude as code
+use Rattle.std.specs.Prelude.{ℕ, ◌+◌, ◌-◌, ◌*◌, ◌≤◌, ◌<◌, cond, List, eqb, get_or, is_some}
+use Rattle.std.proofs.Math.Option.{none, some}
 use Rattle.rows.specs.Tab.{tab}
 use Rattle.definition.specs.declared.Value.{Value}
 use Rattle.definition.specs.declared.Inst.{Inst}
@@ -8,8 +9,8 @@ use Rattle.definition.specs.declared.Use.{Use}
 use Rattle.definition.specs.Types.{Turned, val, point}
 use Rattle.uses.specs.Rows.{use_row}
 use Rattle.layout.specs.declared.Layout.{Layout}
+pub use Rattle.turned.specs.Turned.{param_by}
 use Rattle.virt_regs.specs.declared.PieceRow.{PieceRow}
-use Rattle.conflict_piece.specs.declared.Param.{Param}
 
 -- the use of row k: as it stands in the job
 unfoldable pub row_use : List ℕ → ℕ → List ℕ → Layout → ℕ → Use
@@ -36,20 +37,17 @@ pub record RowsOk (w : ℕ) (K : List ℕ) (turned : ℕ) (lay : Layout) (a b : 
   pub within : turned + b * 4 ≤ w
   pub known : (k : ℕ) → a ≤ k → k < b → get_or K (turned + k * 4 + 1) 0 < lay.uses.n
 
-abbrev pub param_by : Param → Option ℕ
-param_by q = cond q.has (some q.index) none
-
 -- how many uses the opening has
-abbrev pub open_count : Param → ℕ
-open_count q = cond q.has 1 0
+abbrev pub open_count : code.Option ℕ → ℕ
+open_count q = cond (is_some q) 1 0
 
 -- the row of the piece: its first use is use u, and it has n
-unfoldable pub conflict_row : Value → Inst → Param → ℕ → ℕ → PieceRow
+unfoldable pub conflict_row : Value → Inst → code.Option ℕ → ℕ → ℕ → PieceRow
 conflict_row v p q u n = record {
   value = v;
   «from» = point (4 * p.0);
   to = point (4 * p.0 + 2);
-  flags = cond q.has 0 1;
+  flags = cond (is_some q) 0 1;
   origin = 1;
   first = u;
   uses = n;

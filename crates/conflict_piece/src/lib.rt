@@ -1,7 +1,7 @@
 // The piece of a conflict register, from rows of turned uses in the work slice: four words each, value, use number, whether it has a parameter (0 or 1), the parameter.
 #![tactic(auto)]
 
-ghost use Rattle.std.specs.Prelude.{◌≡◌, cond, List, [], ◌∷◌, ◌++◌, ℕ, ◌+◌, ◌-◌, ◌*◌, ◌≤◌, ◌<◌, length, get_or};
+ghost use Rattle.std.specs.Prelude.{◌≡◌, List, [], ◌∷◌, ◌++◌, ℕ, ◌+◌, ◌-◌, ◌*◌, ◌≤◌, ◌<◌, length, get_or};
 ghost use Rattle.std.proofs.Math.Option.{Option};
 ghost use Rattle.rows.specs.Tab.{tab};
 ghost use Rattle.words.specs.Words.{word_count, words_of};
@@ -20,32 +20,23 @@ use layout::Layout;
 use virt_regs::{OutLayout, PieceRow};
 use work_layout::WorkLayout;
 
-// The block parameter, if there is one, that the list of a turned use began with.
-#[derive(Clone, Copy)]
-pub struct Param {
-    pub has: bool,
-    pub index: u32,
-}
-
 // The use of turned row k, as it stands in the job.
 pub fn turned_use(job: &[u8], lay: Layout, work: &[u8], turned: usize, k: usize) -> Use
     requires { Fits (word_count job.now) lay × (turned + k * 4 + 4 ≤ word_count work.now) × (get_or (words_of work.now) (turned + k * 4 + 1) 0 < lay.uses.n) }
     ensures { result ≡ row_use (words_of work.now) turned (words_of job.now) lay k }
 {
     let n = words::word_at(work, turned + k * 4 + 1) as usize;
-    let at = lay.uses.at;
-    uses::use_at(job, at + n * 6)
+    uses::use_at(job, lay.uses.at + n * 6)
 }
 
 // "If the list of the first turned use began with a BlockparamIn at p, the piece begins with it too": how many uses are written, from use row u on.
-fn write_opening(out: &mut [u8], ol: OutLayout, u: usize, pos: Inst, param: Param) -> usize
+fn write_opening(out: &mut [u8], ol: OutLayout, u: usize, pos: Inst, param: Option<u32>) -> usize
     requires { (tables_end ol ≤ word_count out.old) × (u + open_count param ≤ ol.uses) }
     ensures { (result ≡ open_count param) × ((p : ℕ) → Written ol (words_of out.old) p u [] (opening pos (param_by param)) (words_of out.new)) }
 {
-    if !param.has {
+    let Some(blockparam_idx) = param else {
         return 0;
-    }
-    let blockparam_idx = param.index;
+    };
     let x = Use {
         pos,
         kind: UseKind::BlockparamIn { blockparam_idx },
@@ -69,23 +60,14 @@ fn write_turned(
     requires { Fits (word_count job.now) lay × RowsOk (word_count work.now) (words_of work.now) turned lay a b × (tables_end ol ≤ word_count out.old) × (u + (b - a) ≤ ol.uses) }
     ensures { (O : List ℕ) (p v : ℕ) (us : List Use) → Written ol O p v [] us (words_of out.old) → u ≡ v + length us → Written ol O p v [] (us ++ tab (row_use (words_of work.now) turned (words_of job.now) lay) a (b - a)) (words_of out.new) }
 {
-    let mut i = a;
-    while i < b {
+    for i in a..b {
         let x = turned_use(job, lay, work, turned, i);
         vreg_put::put_use(out, ol, u + (i - a), x);
-        i += 1;
     }
 }
 
-// The flags of a conflict piece: live-in, without a parameter.
-fn conflict_flags(has: bool) -> u32
-    ensures { result ≡ cond has 0 1 }
-{
-    if has { 0 } else { 1 }
-}
-
-// "A conflict piece covers [4p, 4p+2)."
-fn conflict_row(value: Value, pos: Inst, param: Param, u: usize, n: usize) -> PieceRow
+// "A conflict piece covers [4p, 4p+2)." Its flags: live-in, without a parameter.
+fn conflict_row(value: Value, pos: Inst, param: Option<u32>, u: usize, n: usize) -> PieceRow
     requires { (4 * pos.0 + 2 < 4294967296) × (u < 4294967296) × (n < 4294967296) }
     ensures { result ≡ conflict_row value pos param u n }
 {
@@ -94,7 +76,7 @@ fn conflict_row(value: Value, pos: Inst, param: Param, u: usize, n: usize) -> Pi
         value,
         from: LiveRangePoint(at),
         to: LiveRangePoint(at + 2),
-        flags: conflict_flags(param.has),
+        flags: u32::from(param.is_none()),
         origin: 1,
         first: u as u32,
         uses: n as u32,
@@ -111,7 +93,7 @@ pub fn write_conflict(
     b: usize,
     value: Value,
     pos: Inst,
-    param: Param,
+    param: Option<u32>,
     out: &mut [u8],
     ol: OutLayout,
     p: usize,
@@ -141,13 +123,11 @@ pub fn map_conflict(
     ensures { (v : Value) (p : Inst) (q : Option ℕ) → Maps (words_of job.now) (words_of work.old) lay wl (map_uses (vrgroup g) (uses_of (segs_of (conflict_piece v p q (turned_rows_of (words_of work.old) wl.turned (words_of job.now) lay a b) ∷ [])))) result (words_of work.new) }
 {
     let turned = wl.turned;
-    let mut i = a;
-    while i < b {
+    for i in a..b {
         let u = turned_use(job, lay, work, turned, i);
         if !part_maps::map_use(job, lay, work, wl, u, g) {
             return false;
         }
-        i += 1;
     }
     true
 }

@@ -1,7 +1,7 @@
 -- Instruction after instruction. Assumes nothing.
 use mathlib.Core.Path.{◌≡◌, refl, sym, ap, ◌∙◌, subst}
 use mathlib.Core.List.{List, ◌∷◌}
-use Prim.Native.Nat.{ℕ, ◌-◌, ◌≤◌, ◌<◌}
+use Prim.Native.Nat.{ℕ, ◌≤◌, ◌<◌}
 use native.Mathlib.Omega.{arith}
 use Rattle.definition.specs.declared.RegClass.{RegClass}
 use Rattle.definition.specs.declared.ValueSet.{ValueSet}
@@ -16,26 +16,25 @@ use Rattle.virt_regs.specs.Encoding.{room_of}
 use Rattle.work_layout.specs.declared.WorkLayout.{WorkLayout}
 use Rattle.conflict_piece.specs.Conflict.{turned_rows_of}
 use Rattle.conflict_round.proofs.Kept.{rows_none, rows_part}
-use Rattle.place_end.specs.declared.Ended.TheVariants as ended
-use Rattle.place_end.specs.declared.PlaceEnd.{PlaceEnd}
-use Rattle.place_end.specs.Ends.{Answers}
-use Rattle.steps.proofs.Ways.{placed_state}
+use Rattle.std.specs.Prelude.{Ok, Err}
+use Rattle.place_end.specs.declared.NotPlaced.{NotPlaced}
+use Rattle.place_end.specs.Ends.{Placed}
 use Rattle.build_state.specs.Fits.{StandsAs}
 use Rattle.conflicts.specs.Conflicts.{Between, Rounded, EndsAs, Given}
 use Rattle.conflicts.proofs.Kept.{between_none, between_then, between_ready, rounded_rows, rounded_known}
 
-module _ (J : Job) (ol : OutLayout) (W : List ℕ) (lay : Layout) (wl : WorkLayout) (O K : List ℕ) (r : PlaceEnd) where
+module _ (J : Job) (ol : OutLayout) (W : List ℕ) (lay : Layout) (wl : WorkLayout) (O K : List ℕ) (r : Placed) where
   -- an end that is done has left a state
-  pub ended_state : (o : Out State) → EndsAs J ol W lay wl O K r o → r.end ≡ ended.Done → (st : State) × (o ≡ done st) × StandsAs J ol O W K lay wl r.counts st
-  unfolding EndsAs Answers
-  ended_state (done st) a d = (st, refl, a.1)
-  ended_state (refused f) a d = absurd (let x = placed_state J ol W lay wl O K r (refused f) a d in let z : ◌≡◌ {A = ℕ} 0 1 = cc x.1 in omega arith)
+  pub ended_state : (o : Out State) (c : Counts) → EndsAs J ol W lay wl O K r o → r ≡ Ok c → (st : State) × (o ≡ done st) × StandsAs J ol O W K lay wl c st
+  unfolding EndsAs
+  ended_state (done st) c a d = (st, refl, subst (λ (y : Placed). EndsAs J ol W lay wl O K y (done st)) d a)
+  ended_state (refused f) c a d = absurd (subst (λ (y : Placed). EndsAs J ol W lay wl O K y (refused f)) d a)
 
   -- and one that is not lasts
-  pub ended_not : (o : Out State) (k : State → Out State) → EndsAs J ol W lay wl O K r o → (r.end ≡ ended.Done → ⊥) → EndsAs J ol W lay wl O K r (o >>= k)
+  pub ended_not : (o : Out State) (k : State → Out State) (v : NotPlaced) → EndsAs J ol W lay wl O K r o → r ≡ Err v → EndsAs J ol W lay wl O K (Err v) (o >>= k)
   unfolding EndsAs
-  ended_not (done st) k a d = absurd (d a.0)
-  ended_not (refused f) k a d = a
+  ended_not (done st) k v a d = absurd (subst (λ (y : Placed). EndsAs J ol W lay wl O K y (done st)) d a)
+  ended_not (refused f) k v a d = subst (λ (y : Placed). EndsAs J ol W lay wl O K y (refused f)) d a
 
 -- the instructions of rows before a have their registers: those from a on give the whole answer
 pub record Going (t w o : ℕ) (W : List ℕ) (lay : Layout) (wl : WorkLayout) (ol : OutLayout) (set' : ValueSet) (top : RegClass) (n : ℕ) (c₀ : Counts) (K₀ O₀ K O : List ℕ) (a : ℕ) (c : Counts) : Type 0 where
@@ -58,7 +57,7 @@ module _ (t w o : ℕ) (W : List ℕ) (lay : Layout) (wl : WorkLayout) (ol : Out
 
     -- the next instruction's, with the answer e and the words K₁ and O₁ then
     module _ (m : ℕ) (lo : a < m) (hi : m ≤ n)
-        (q : runs same_inst (turned_rows_of K wl.turned W lay a n) ≡ turned_rows_of K wl.turned W lay a m ∷ runs same_inst (turned_rows_of K wl.turned W lay m n)) (K₁ O₁ : List ℕ) (e : PlaceEnd)
+        (q : runs same_inst (turned_rows_of K wl.turned W lay a n) ≡ turned_rows_of K wl.turned W lay a m ∷ runs same_inst (turned_rows_of K wl.turned W lay m n)) (K₁ O₁ : List ℕ) (e : Placed)
         (r : Rounded lay wl m K K₁)
         (k : (st : State) → StandsAs (job_of W lay) ol O W K lay wl c st → EndsAs (job_of W lay) ol W lay wl O₁ K₁ e (at_inst (job_of W lay) (room_of ol) set' top st (turned_rows_of K wl.turned W lay a m))) where
       way : (st : State) → conflicts J (room_of ol) set' top (runs same_inst (turned_rows_of K wl.turned W lay a n)) st
@@ -69,16 +68,16 @@ module _ (t w o : ℕ) (W : List ℕ) (lay : Layout) (wl : WorkLayout) (ol : Out
           ∙ ap (λ (us : List Turned). at_inst J (room_of ol) set' top st (turned_rows_of K wl.turned W lay a m) >>= λ st'. conflicts J (room_of ol) set' top (runs same_inst us) st')
           (sym (rounded_rows lay wl m m n K K₁ r (omega arith) W))
 
-      next_state : e.end ≡ ended.Done → (st : State) → StandsAs J ol O W K lay wl c st
-          → (st' : State) × StandsAs J ol O₁ W K₁ lay wl e.counts st'
+      next_state : (c₁ : Counts) → e ≡ Ok c₁ → (st : State) → StandsAs J ol O W K lay wl c st
+          → (st' : State) × StandsAs J ol O₁ W K₁ lay wl c₁ st'
           × (conflicts J (room_of ol) set' top (runs same_inst (turned_rows_of K wl.turned W lay a n)) st ≡ conflicts J (room_of ol) set' top (runs same_inst (turned_rows_of K₁ wl.turned W lay m n)) st')
-      next_state h st s =
-          let x = ended_state J ol W lay wl O₁ K₁ e (at_inst J (room_of ol) set' top st (turned_rows_of K wl.turned W lay a m)) (k st s) h in
+      next_state c₁ h st s =
+          let x = ended_state J ol W lay wl O₁ K₁ e (at_inst J (room_of ol) set' top st (turned_rows_of K wl.turned W lay a m)) c₁ (k st s) h in
           (x.0, x.2, way st ∙ ap (λ (y : Out State). y >>= λ st'. conflicts J (room_of ol) set' top (runs same_inst (turned_rows_of K₁ wl.turned W lay m n)) st') x.1)
 
-      pub going_next : e.end ≡ ended.Done → Going t w o W lay wl ol set' top n c₀ K₀ O₀ K₁ O₁ m e.counts
-      going_next h =
-          let now = next_state h v.given.st v.given.stands in
+      pub going_next : (c₁ : Counts) → e ≡ Ok c₁ → Going t w o W lay wl ol set' top n c₀ K₀ O₀ K₁ O₁ m c₁
+      going_next c₁ h =
+          let now = next_state c₁ h v.given.st v.given.stands in
           record {
             given =
                 record {
@@ -92,24 +91,26 @@ module _ (t w o : ℕ) (W : List ℕ) (lay : Layout) (wl : WorkLayout) (ol : Out
                   stands = now.1;
                 };
             between = between_then lay wl K₀ K K₁ v.between r.between;
-            on = λ st s. let p = v.on st s in let d = next_state h p.0 p.1 in (d.0, d.1, p.2 ∙ d.2);
+            on = λ st s. let p = v.on st s in let d = next_state c₁ h p.0 p.1 in (d.0, d.1, p.2 ∙ d.2);
           }
 
-      pub going_stop : (e.end ≡ ended.Done → ⊥) → (st : State) → StandsAs (job_of W lay) ol O₀ W K₀ lay wl c₀ st
-          → EndsAs (job_of W lay) ol W lay wl O₁ K₁ e (conflicts (job_of W lay) (room_of ol) set' top (runs same_inst (turned_rows_of K₀ wl.turned W lay 0 n)) st)
-      going_stop h st s =
+      pub going_stop : (y : NotPlaced) → e ≡ Err y → (x : Placed) → x ≡ Err y → (st : State) → StandsAs (job_of W lay) ol O₀ W K₀ lay wl c₀ st
+          → EndsAs (job_of W lay) ol W lay wl O₁ K₁ x (conflicts (job_of W lay) (room_of ol) set' top (runs same_inst (turned_rows_of K₀ wl.turned W lay 0 n)) st)
+      going_stop y h x q' st s =
           let p = v.on st s in
-          subst (λ (y : Out State). EndsAs J ol W lay wl O₁ K₁ e y) (sym (p.2 ∙ way p.0))
-          (ended_not J ol W lay wl O₁ K₁ e (at_inst J (room_of ol) set' top p.0 (turned_rows_of K wl.turned W lay a m)) (λ st'. conflicts J (room_of ol) set' top (runs same_inst (turned_rows_of K₁ wl.turned W lay m n)) st') (k p.0 p.1) h)
+          subst (λ (z : Placed). EndsAs J ol W lay wl O₁ K₁ z (conflicts J (room_of ol) set' top (runs same_inst (turned_rows_of K₀ wl.turned W lay 0 n)) st)) (sym q')
+          (subst (λ (z : Out State). EndsAs J ol W lay wl O₁ K₁ (Err y) z) (sym (p.2 ∙ way p.0))
+          (ended_not J ol W lay wl O₁ K₁ e (at_inst J (room_of ol) set' top p.0 (turned_rows_of K wl.turned W lay a m)) (λ st'. conflicts J (room_of ol) set' top (runs same_inst (turned_rows_of K₁ wl.turned W lay m n)) st') y (k p.0 p.1) h))
 
     none_left : n ≤ a → (st : State) → conflicts J (room_of ol) set' top (runs same_inst (turned_rows_of K wl.turned W lay a n)) st ≡ done st
     unfolding conflicts runs
     none_left l st = ap (λ (us : List Turned). conflicts J (room_of ol) set' top (runs same_inst us) st) (rows_none K wl.turned W lay a n l)
 
     -- no row is left
-    pub going_end : n ≤ a → (e : PlaceEnd) → e.end ≡ ended.Done → e.counts ≡ c → (st : State) → StandsAs (job_of W lay) ol O₀ W K₀ lay wl c₀ st
-        → EndsAs (job_of W lay) ol W lay wl O K e (conflicts (job_of W lay) (room_of ol) set' top (runs same_inst (turned_rows_of K₀ wl.turned W lay 0 n)) st)
+    pub going_end : n ≤ a → (x : Placed) → x ≡ Ok c → (st : State) → StandsAs (job_of W lay) ol O₀ W K₀ lay wl c₀ st
+        → EndsAs (job_of W lay) ol W lay wl O K x (conflicts (job_of W lay) (room_of ol) set' top (runs same_inst (turned_rows_of K₀ wl.turned W lay 0 n)) st)
     unfolding EndsAs
-    going_end l e h ec st s =
+    going_end l x h st s =
         let p = v.on st s in
-        subst (λ (y : Out State). EndsAs J ol W lay wl O K e y) (sym (p.2 ∙ none_left l p.0)) (h, subst (λ (i : Counts). StandsAs J ol O W K lay wl i p.0) (sym ec) p.1)
+        subst (λ (z : Placed). EndsAs J ol W lay wl O K z (conflicts J (room_of ol) set' top (runs same_inst (turned_rows_of K₀ wl.turned W lay 0 n)) st)) (sym h)
+        (subst (λ (z : Out State). EndsAs J ol W lay wl O K (Ok c) z) (sym (p.2 ∙ none_left l p.0)) p.1)

@@ -1,5 +1,6 @@
 -- The first turned use of an instruction, read off its row. Assumes nothing.
-use mathlib.Core.Path.{◌≡◌, sym, ap, subst, ◌∙◌}
+use Rattle.std.specs.Prelude as code
+use mathlib.Core.Path.{◌≡◌, refl, sym, ap, subst, ◌∙◌}
 use mathlib.Core.Bool.{Bool, true, false, not, cond}
 use mathlib.Core.Option.{Option, none, some}
 use mathlib.Core.List.{List, ◌∷◌}
@@ -21,24 +22,24 @@ use Rattle.job.specs.Job.{job_by, job_of}
 use Rattle.virt_regs.specs.declared.OutLayout.{OutLayout}
 use Rattle.work_layout.specs.declared.WorkLayout.{WorkLayout}
 use Rattle.constraints.specs.Ready.{Ready}
-use Rattle.conflict_piece.specs.declared.Param.{Param}
 use Rattle.conflict_piece.specs.Conflict.{row_use, turned_row_at, turned_rows_of, param_by}
 use Rattle.conflict_round.proofs.Kept.{rows_more, rows_long}
-use Rattle.place_end.specs.declared.Ended.TheVariants as ended
-use Rattle.place_end.specs.declared.PlaceEnd.{PlaceEnd}
+use Rattle.place_end.specs.declared.NotPlaced.TheVariants as not_placed
+use Rattle.place_end.specs.Ends.{Placed}
+use Rattle.std.specs.Prelude.{Err}
 use Rattle.conflicts.specs.declared.First.{First}
 use Rattle.conflicts.specs.Conflicts.{EndsAs, IsFirst}
 
 abbrev param_of : ℕ → ℕ → Option ℕ
 param_of h i = cond (eqb h 0) none (some i)
 
-pub param_none : (h₀ i₀ h i : ℕ) → h ≡ h₀ → i ≡ i₀ → h ≡ 0 → param_of h₀ i₀ ≡ param_by (record { has = false; index = i })
-param_none h₀ i₀ h i eh ei z = ap (λ (b : Bool). cond b none (some i₀)) (eq-eqb h₀ 0 (sym eh ∙ z))
+pub param_none : (h₀ i₀ h : ℕ) → h ≡ h₀ → h ≡ 0 → param_of h₀ i₀ ≡ none
+param_none h₀ i₀ h eh z = ap (λ (b : Bool). cond b none (some i₀)) (eq-eqb h₀ 0 (sym eh ∙ z))
 
-pub param_some : (h₀ i₀ h i : ℕ) → h ≡ h₀ → i ≡ i₀ → (h ≡ 0 → ⊥) → param_of h₀ i₀ ≡ param_by (record { has = true; index = i })
+pub param_some : (h₀ i₀ h i : ℕ) → h ≡ h₀ → i ≡ i₀ → (h ≡ 0 → ⊥) → param_of h₀ i₀ ≡ some i
 param_some h₀ i₀ h i eh ei z = ap (λ (b : Bool). cond b none (some i₀)) (ne_eqb h₀ 0 (λ q. z (eh ∙ q))) ∙ ap (λ (n : ℕ). some n) (sym ei)
 
-pub first_is : (K : List ℕ) (turned : ℕ) (W : List ℕ) (lay : Layout) (k v : ℕ) (u : Use) (q : Param) → v ≡ get_or K (turned + k * 4) 0 → u ≡ row_use K turned W lay k
+pub first_is : (K : List ℕ) (turned : ℕ) (W : List ℕ) (lay : Layout) (k v : ℕ) (u : Use) (q : code.Option ℕ) → v ≡ get_or K (turned + k * 4) 0 → u ≡ row_use K turned W lay k
     → param_of (get_or K (turned + k * 4 + 2) 0) (get_or K (turned + k * 4 + 3) 0) ≡ param_by q → IsFirst (record { value = val v; pos = u.pos; param = q }) (turned_row_at K turned W lay k)
 unfolding turned_row_at
 first_is K turned W lay k v u q ev eu eq = record { value = ap val (sym ev); pos = ap (λ (x : Use). x.pos) (sym eu); param = eq }
@@ -81,9 +82,9 @@ module _ (J : Job) (room : Room) (set' : ValueSet) (top : RegClass) (st : State)
       ∙ ap (λ (k : ℕ). rounds k J room set' top x st us) (rows_long K turned W lay a b)
 
 -- what ends as the same answer
-pub ends_by : (J : Job) (ol : OutLayout) (W : List ℕ) (lay : Layout) (wl : WorkLayout) (O K : List ℕ) (r : PlaceEnd) (o o' : Out State) → o ≡ o' → EndsAs J ol W lay wl O K r o' → EndsAs J ol W lay wl O K r o
+pub ends_by : (J : Job) (ol : OutLayout) (W : List ℕ) (lay : Layout) (wl : WorkLayout) (O K : List ℕ) (r : Placed) (o o' : Out State) → o ≡ o' → EndsAs J ol W lay wl O K r o' → EndsAs J ol W lay wl O K r o
 ends_by J ol W lay wl O K r o o' e x = subst (λ (y : Out State). EndsAs J ol W lay wl O K r y) (sym e) x
 
-pub ends_differ : (J : Job) (ol : OutLayout) (W : List ℕ) (lay : Layout) (wl : WorkLayout) (O K : List ℕ) (r : PlaceEnd) → r.end ≡ ended.Stopped ValuesDiffer → EndsAs J ol W lay wl O K r (refused (Stopped ValuesDiffer))
+pub ends_differ : (J : Job) (ol : OutLayout) (W : List ℕ) (lay : Layout) (wl : WorkLayout) (O K : List ℕ) (r : Placed) → r ≡ Err (not_placed.Stopped ValuesDiffer) → EndsAs J ol W lay wl O K r (refused (Stopped ValuesDiffer))
 unfolding EndsAs
-ends_differ J ol W lay wl O K r e = e
+ends_differ J ol W lay wl O K r e = subst (λ (y : Placed). EndsAs J ol W lay wl O K y (refused (Stopped ValuesDiffer))) (sym e) refl

@@ -30,7 +30,6 @@ use Rattle.virt_regs.specs.declared.Counts.{Counts}
 use Rattle.virt_regs.specs.Encoding.{room_of, counts_of}
 use Rattle.vreg_weight.specs.Weighed.{Weighable}
 use Rattle.work_layout.specs.declared.WorkLayout.{WorkLayout}
-use Rattle.constraints.specs.declared.Held.{Held}
 use Rattle.constraints.specs.Held.{held_of}
 use Rattle.constraints.specs.Ready.{Ready, Stands}
 use Rattle.part_maps.specs.Maps.{Outside}
@@ -41,16 +40,17 @@ use Rattle.conflict_round.specs.Rounds.{Elsewhere, try_all, Tried}
 use Rattle.place_laws.specs.Kept.{weighable}
 use Rattle.conflict_round.proofs.Kept.{ready_kept, stands_kept, rows_none, rows_long, rows_now, rows_part}
 use Rattle.place_laws.specs.Held.{HeldFits}
-use Rattle.place_end.specs.declared.Ended.TheVariants as ended
-use Rattle.place_end.specs.declared.PlaceEnd.{PlaceEnd}
-use Rattle.place_end.specs.Ends.{Sane, DoneAs, Answers, Ends}
+use Rattle.std.specs.Prelude.{Result, Ok, Err}
+use Rattle.place_end.specs.declared.NotPlaced.{NotPlaced}
+use Rattle.place_end.specs.declared.NotPlaced.TheVariants as not_placed
+use Rattle.place_end.specs.Ends.{Placed, placed_state, Sane, DoneAs, Answers, Ends}
 use Rattle.place_conflict.specs.Asks.{Asks, pieces_of, HeldIn, rows_kept, rows_ok}
-use Rattle.steps.proofs.Ways.{placed_state}
 use Rattle.build_state.specs.Builds.{Builds}
 use Rattle.build_state.specs.Fits.{StandsAs}
 use Rattle.build_state.specs.Held.{held_fits}
 use Rattle.build_state.specs.Rounds.{try_scan, conflict_fits}
 use Rattle.conflicts.specs.declared.First.{First}
+use Rattle.conflicts.specs.declared.RoundEnd.{RoundEnd}
 use Rattle.conflicts.specs.Conflicts.{Rounded, EndsAs, Given, IsFirst, RoundAs}
 use Rattle.conflicts.proofs.Kept.{turned_apart, rounded_then, rounded_tried, rounded_placed}
 
@@ -164,18 +164,16 @@ module _ (t w o : ℕ) (W K O : List ℕ) (lay : Layout) (wl : WorkLayout) (ol :
     some_use : 0 < length us
     some_use = omega (arith, rows_long K wl.turned W lay a b)
 
-    pub tried_none : r.end ≡ a → (e : PlaceEnd) → e.end ≡ ended.Stopped NoneAdmitted → (left : List Turned)
-        → RoundAs (job_of W lay) ol W lay wl O K₁ e left (room_of ol) set' top x f st (turned_rows_of K wl.turned W lay a b)
-    unfolding EndsAs
-    tried_none z e q left =
+    pub tried_none : r.end ≡ a → (e : Result RoundEnd NotPlaced) → e ≡ Err (not_placed.Stopped NoneAdmitted)
+        → RoundAs (job_of W lay) ol W lay wl O K₁ b (room_of ol) set' top x f st (turned_rows_of K wl.turned W lay a b) e
+    unfolding RoundAs EndsAs
+    tried_none z e q =
         let no_one : (try_all J st top us).taken ≡ [] = sym (d.answers st s.stands).taken ∙ rows_none K₁ wl.turned W lay a r.end (omega arith) in
-        record {
-          on = λ h. absurd (let y : ended.Stopped NoneAdmitted ≡ ended.Done = sym q ∙ h in let n : ◌≡◌ {A = ℕ} 0 1 = cc in omega arith);
-          off = λ h. subst (λ (o : Out State). EndsAs J ol W lay wl O K₁ e o) (sym (round_none f J (room_of ol) set' top x st us some_use no_one)) q;
-        }
+        subst (λ (y : Result RoundEnd NotPlaced). RoundAs J ol W lay wl O K₁ b (room_of ol) set' top x f st us y) (sym q)
+        (subst (λ (o : Out State). EndsAs J ol W lay wl O K₁ (Err (not_placed.Stopped NoneAdmitted)) o) (sym (round_none f J (room_of ol) set' top x st us some_use no_one)) refl)
 
   -- ---- their register is placed, with the answer e and the words O₂ and K₂ then
-  module _ (set' : ValueSet) (l : a < b) (z : r.end ≡ a → ⊥) (x : First) (O₂ K₂ : List ℕ) (e : PlaceEnd)
+  module _ (set' : ValueSet) (l : a < b) (z : r.end ≡ a → ⊥) (x : First) (O₂ K₂ : List ℕ) (e : Placed)
       (p : (st : State) → Stands ol O W K₁ lay wl st → c ≡ counts_of st → Sane (job_of W lay) st → HeldFits (job_of W lay) st r.held
       → Ends (job_of W lay) ol W lay wl K₁ O₂ K₂ e (place (job_of W lay) (room_of ol) set' (held_of r.held) (pieces_of K₁ wl.turned W lay a r.end x.value x.pos x.param) st)) where
     abbrev placed : State → Out State
@@ -229,8 +227,8 @@ module _ (t w o : ℕ) (W K O : List ℕ) (lay : Layout) (wl : WorkLayout) (ol :
           ∙ ap (λ (o : Out State). o >>= λ st'. rounds f J (room_of ol) set' top y st' q.left) same_place
           ∙ ap (λ (l : List Turned). placed st >>= λ st'. rounds f J (room_of ol) set' top y st' l) same_left
 
-      stands_as : (st' : State) → placed st ≡ done st' → DoneAs J ol W lay wl O₂ K₂ e st' → StandsAs J ol O₂ W K₂ lay wl e.counts st'
-      stands_as st' p' d' =
+      stands_as : (n : Counts) (st' : State) → placed st ≡ done st' → DoneAs J ol W lay wl O₂ K₂ n st' → StandsAs J ol O₂ W K₂ lay wl n st'
+      stands_as n st' p' d' =
           record {
             stands = d'.stands;
             counts = d'.counts;
@@ -238,23 +236,28 @@ module _ (t w o : ℕ) (W K O : List ℕ) (lay : Layout) (wl : WorkLayout) (ol :
                 conflict_fits J g.builds.masks g.builds.sizes (room_of ol) set' top (held_of r.held) x.value x.pos (param_by x.param) ts st st' (scanned st s) fit p' s.fits d'.sane;
           }
 
-      refused_as : (o : Out State) → Answers J ol W lay wl O₂ K₂ e o → (e.end ≡ ended.Done → ⊥) → EndsAs J ol W lay wl O₂ K₂ e (o >>= λ st'. rounds f J (room_of ol) set' top y st' left₂)
+      refused_as : (u : NotPlaced) (o : Out State) → Answers J ol W lay wl O₂ K₂ (Err u) o → EndsAs J ol W lay wl O₂ K₂ (Err u) (o >>= λ st'. rounds f J (room_of ol) set' top y st' left₂)
       unfolding Answers EndsAs
-      refused_as (done st') h n = absurd (n h.end)
-      refused_as (refused v) h n = h
+      refused_as u (done st') h = absurd h
+      refused_as u (refused v) h = h
 
-      pub tried_as : RoundAs (job_of W lay) ol W lay wl O₂ K₂ e (turned_rows_of K₂ wl.turned W lay r.end b) (room_of ol) set' top y f st (turned_rows_of K wl.turned W lay a b)
-      tried_as =
-          record {
-            on =
-                λ h.
-                let v = placed_state J ol W lay wl O₂ K₂ e (placed st) (ends st s).answers h in (
-                  v.0,
-                  stands_as v.0 v.1 v.2,
-                  way ∙ ap (λ (o : Out State). o >>= λ st'. rounds f J (room_of ol) set' top y st' left₂) v.1,
-                );
-            off = λ h. subst (λ (o : Out State). EndsAs J ol W lay wl O₂ K₂ e o) (sym way) (refused_as (placed st) (ends st s).answers h);
-          }
+      -- a register is placed, or that is the end
+      pub tried_on : (n : Counts) → e ≡ Ok n → RoundAs (job_of W lay) ol W lay wl O₂ K₂ b (room_of ol) set' top y f st (turned_rows_of K wl.turned W lay a b) (Ok (record { counts = n; next = r.end }))
+      unfolding RoundAs
+      tried_on n h =
+          let v = placed_state J ol W lay wl O₂ K₂ e (placed st) n (ends st s).answers h in (
+            v.0,
+            stands_as n v.0 v.1 v.2,
+            way ∙ ap (λ (o : Out State). o >>= λ st'. rounds f J (room_of ol) set' top y st' left₂) v.1,
+          )
+
+      pub tried_off : (u : NotPlaced) → e ≡ Err u → (z : Result RoundEnd NotPlaced) → z ≡ Err u
+          → RoundAs (job_of W lay) ol W lay wl O₂ K₂ b (room_of ol) set' top y f st (turned_rows_of K wl.turned W lay a b) z
+      unfolding RoundAs
+      tried_off u h z k =
+          subst (λ (j : Result RoundEnd NotPlaced). RoundAs J ol W lay wl O₂ K₂ b (room_of ol) set' top y f st us j) (sym k)
+          (subst (λ (o : Out State). EndsAs J ol W lay wl O₂ K₂ (Err u) o) (sym way)
+          (refused_as u (placed st) (subst (λ (j : Placed). Answers J ol W lay wl O₂ K₂ j (placed st)) h (ends st s).answers)))
 
 -- ---- of slices
 
@@ -274,7 +277,3 @@ tried_requires job s₀ s out lay wl ol a b c top r x e g d i =
     subst (λ (n : ℕ). Asks (word_count job) (n / 4) (word_count out) (words_of job) (words_of s) (words_of out) lay wl ol a r.end x.pos c (HeldIn (job_of (words_of job) lay) r.held)) (sym e)
     (tried_asks (word_count job) (word_count s₀) (word_count out) (words_of job) (words_of s₀) (words_of out) lay wl ol a b c g top (words_of s) r d x i) in
     (weighable job s lay wl k.ready g.builds.book, k)
-
--- a stop is not done
-pub not_stopped : ended.Stopped NoneAdmitted ≡ ended.Done → ⊥
-not_stopped h = let n : ◌≡◌ {A = ℕ} 0 1 = cc in absurd (omega arith)

@@ -16,10 +16,12 @@ use Rattle.virt_regs.specs.Encoding.{room_of}
 use Rattle.work_layout.specs.declared.WorkLayout.{WorkLayout}
 use Rattle.conflict_piece.specs.Conflict.{turned_rows_of, RowsOk, param_by}
 use Rattle.conflict_round.proofs.Kept.{rows_none}
-use Rattle.place_end.specs.declared.Ended.TheVariants as ended
-use Rattle.place_end.specs.declared.PlaceEnd.{PlaceEnd}
+use Rattle.std.specs.Prelude.{Result, Ok, Err}
+use Rattle.place_end.specs.declared.NotPlaced.{NotPlaced}
+use Rattle.place_end.specs.Ends.{Placed}
 use Rattle.build_state.specs.Fits.{StandsAs}
 use Rattle.conflicts.specs.declared.First.{First}
+use Rattle.conflicts.specs.declared.RoundEnd.{RoundEnd}
 use Rattle.conflicts.specs.Conflicts.{Rounded, EndsAs, Given, IsFirst, RoundAs}
 use Rattle.conflicts.proofs.Kept.{rounded_none, rounded_then, between_ready}
 
@@ -58,16 +60,22 @@ module _ (t w o : ℕ) (W : List ℕ) (lay : Layout) (wl : WorkLayout) (ol : Out
     from f y st = rounds f J (room_of ol) set' top y st (turned_rows_of K wl.turned W lay a b)
 
     -- one round more, with the answer e and the words K₁ and O₁ then
-    module _ (l : a < b) (K₁ O₁ : List ℕ) (e : PlaceEnd) (n : ℕ)
+    module _ (l : a < b) (K₁ O₁ : List ℕ) (r : Result RoundEnd NotPlaced)
         (k : (st : State) (y : Turned) (f : ℕ) → StandsAs (job_of W lay) ol O W K lay wl c st → IsFirst x y
-        → RoundAs (job_of W lay) ol W lay wl O₁ K₁ e (turned_rows_of K₁ wl.turned W lay n b) (room_of ol) set' top y f st (turned_rows_of K wl.turned W lay a b)) where
-      pub rounding_next : e.end ≡ ended.Done → a < n → n ≤ b → Rounded lay wl b K K₁ → RowsOk w K₁ wl.turned lay n b → Rounding t w o W lay wl ol set' top x a₀ b c₀ K₀ O₀ K₁ O₁ n e.counts
-      rounding_next h m m₁ r ok =
-          let now = (k v.given.st (first_of x) 0 v.given.stands (first_of_lem x)).on h in
+        → RoundAs (job_of W lay) ol W lay wl O₁ K₁ b (room_of ol) set' top y f st (turned_rows_of K wl.turned W lay a b) r) where
+      is : (e : Result RoundEnd NotPlaced) → r ≡ e → (st : State) (y : Turned) (f : ℕ) → StandsAs J ol O W K lay wl c st → IsFirst x y
+          → RoundAs J ol W lay wl O₁ K₁ b (room_of ol) set' top y f st (turned_rows_of K wl.turned W lay a b) e
+      is e h st y f s i = subst (λ (z : Result RoundEnd NotPlaced). RoundAs J ol W lay wl O₁ K₁ b (room_of ol) set' top y f st (turned_rows_of K wl.turned W lay a b) z) h (k st y f s i)
+
+      pub rounding_next : (e : RoundEnd) → r ≡ Ok e → a < e.next → e.next ≤ b → Rounded lay wl b K K₁ → RowsOk w K₁ wl.turned lay e.next b
+          → Rounding t w o W lay wl ol set' top x a₀ b c₀ K₀ O₀ K₁ O₁ e.next e.counts
+      unfolding RoundAs
+      rounding_next e h m m₁ d ok =
+          let now = is (Ok e) h v.given.st (first_of x) 0 v.given.stands (first_of_lem x) in
           record {
             given =
                 record {
-                  ready = between_ready t w W K K₁ lay wl v.given.apart v.given.turns r.between v.given.ready;
+                  ready = between_ready t w W K K₁ lay wl v.given.apart v.given.turns d.between v.given.ready;
                   apart = v.given.apart;
                   turns = v.given.turns;
                   builds = v.given.builds;
@@ -76,29 +84,33 @@ module _ (t w o : ℕ) (W : List ℕ) (lay : Layout) (wl : WorkLayout) (ol : Out
                   st = now.0;
                   stands = now.1;
                 };
-            rounded = rounded_then lay wl b K₀ K K₁ v.rounded r;
+            rounded = rounded_then lay wl b K₀ K K₁ v.rounded d;
             on = λ st y f s i q. let p = v.on st y f s i q in go st y f i p.0 p.1 p.2 p.3 p.4;
           }
         where
           go : (st : State) (y : Turned) (f : ℕ) → IsFirst x y → (st' : State) (g : ℕ) → b - a ≤ g → StandsAs J ol O W K lay wl c st' → before f y st ≡ from g y st'
-              → (st'' : State) × (g' : ℕ) × (b - n ≤ g') × StandsAs J ol O₁ W K₁ lay wl e.counts st'' × (before f y st ≡ rounds g' J (room_of ol) set' top y st'' (turned_rows_of K₁ wl.turned W lay n b))
+              → (st'' : State) × (g' : ℕ) × (b - e.next ≤ g') × StandsAs J ol O₁ W K₁ lay wl e.counts st'' × (before f y st ≡ rounds g' J (room_of ol) set' top y st'' (turned_rows_of K₁ wl.turned W lay e.next b))
           go st y f i st' zero q s p = absurd (omega arith)
-          go st y f i st' (suc g) q s p = let d = (k st' y g s i).on h in (d.0, g, omega arith, d.1, p ∙ d.2)
+          go st y f i st' (suc g) q s p = let d = is (Ok e) h st' y g s i in (d.0, g, omega arith, d.1, p ∙ d.2)
 
-      pub rounding_stop : (e.end ≡ ended.Done → ⊥) → (st : State) (y : Turned) (f : ℕ) → StandsAs (job_of W lay) ol O₀ W K₀ lay wl c₀ st → IsFirst x y → b - a₀ ≤ f
-          → EndsAs (job_of W lay) ol W lay wl O₁ K₁ e (rounds f (job_of W lay) (room_of ol) set' top y st (turned_rows_of K₀ wl.turned W lay a₀ b))
-      rounding_stop h st y f s i q = let p = v.on st y f s i q in go p.0 p.1 p.2 p.3 p.4
+      pub rounding_stop : (u : NotPlaced) → r ≡ Err u → (z : Placed) → z ≡ Err u → (st : State) (y : Turned) (f : ℕ) → StandsAs (job_of W lay) ol O₀ W K₀ lay wl c₀ st → IsFirst x y → b - a₀ ≤ f
+          → EndsAs (job_of W lay) ol W lay wl O₁ K₁ z (rounds f (job_of W lay) (room_of ol) set' top y st (turned_rows_of K₀ wl.turned W lay a₀ b))
+      unfolding RoundAs
+      rounding_stop u h z e st y f s i q =
+          let p = v.on st y f s i q in
+          subst (λ (j : Placed). EndsAs J ol W lay wl O₁ K₁ j (before f y st)) (sym e) (go p.0 p.1 p.2 p.3 p.4)
         where
-          go : (st' : State) (g : ℕ) → b - a ≤ g → StandsAs J ol O W K lay wl c st' → before f y st ≡ from g y st' → EndsAs J ol W lay wl O₁ K₁ e (before f y st)
+          go : (st' : State) (g : ℕ) → b - a ≤ g → StandsAs J ol O W K lay wl c st' → before f y st ≡ from g y st' → EndsAs J ol W lay wl O₁ K₁ (Err u) (before f y st)
           go st' zero q s p = absurd (omega arith)
-          go st' (suc g) q s p = subst (λ (r : Out State). EndsAs J ol W lay wl O₁ K₁ e r) (sym p) ((k st' y g s i).off h)
+          go st' (suc g) q s p = subst (λ (j : Out State). EndsAs J ol W lay wl O₁ K₁ (Err u) j) (sym p) (is (Err u) h st' y g s i)
 
     -- all rows are placed
-    pub rounding_end : b ≤ a → (e : PlaceEnd) → e.end ≡ ended.Done → e.counts ≡ c → (st : State) (y : Turned) (f : ℕ) → StandsAs (job_of W lay) ol O₀ W K₀ lay wl c₀ st → IsFirst x y → b - a₀ ≤ f
-        → EndsAs (job_of W lay) ol W lay wl O K e (rounds f (job_of W lay) (room_of ol) set' top y st (turned_rows_of K₀ wl.turned W lay a₀ b))
+    pub rounding_end : b ≤ a → (z : Placed) → z ≡ Ok c → (st : State) (y : Turned) (f : ℕ) → StandsAs (job_of W lay) ol O₀ W K₀ lay wl c₀ st → IsFirst x y → b - a₀ ≤ f
+        → EndsAs (job_of W lay) ol W lay wl O K z (rounds f (job_of W lay) (room_of ol) set' top y st (turned_rows_of K₀ wl.turned W lay a₀ b))
     unfolding EndsAs
-    rounding_end l e h ec st y f s i q =
+    rounding_end l z h st y f s i q =
         let p = v.on st y f s i q in
-        let z : before f y st ≡ done p.0 =
+        let d : before f y st ≡ done p.0 =
         p.4 ∙ ap (λ (us : List Turned). rounds p.1 J (room_of ol) set' top y p.0 us) (rows_none K wl.turned W lay a b l) ∙ rounds_none p.1 J (room_of ol) set' top y p.0 in
-        subst (λ (r : Out State). EndsAs J ol W lay wl O K e r) (sym z) (h, subst (λ (n : Counts). StandsAs J ol O W K lay wl n p.0) (sym ec) p.3)
+        subst (λ (j : Placed). EndsAs J ol W lay wl O K j (before f y st)) (sym h)
+        (subst (λ (j : Out State). EndsAs J ol W lay wl O K (Ok c) j) (sym d) p.3)

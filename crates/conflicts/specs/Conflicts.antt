@@ -1,5 +1,5 @@
 -- What placing the conflict registers of a set asks, and what it leaves behind. Assumes nothing.
-use Rattle.std.specs.Prelude.{◌≡◌, List, ℕ, suc, ◌+◌, ◌*◌, ◌≤◌, ◌<◌, length, get_or}
+use Rattle.std.specs.Prelude.{◌≡◌, List, ℕ, suc, ◌+◌, ◌*◌, ◌≤◌, ◌<◌, length, get_or, Result, Ok, Err}
 use Rattle.definition.specs.declared.RegClass.{RegClass}
 use Rattle.definition.specs.declared.ValueSet.{ValueSet}
 use Rattle.definition.specs.Types.{Job, Room, State, Turned, Out, done, refused}
@@ -11,14 +11,14 @@ use Rattle.virt_regs.specs.declared.Counts.{Counts}
 use Rattle.work_layout.specs.declared.WorkLayout.{WorkLayout}
 use Rattle.constraints.specs.Ready.{Ready}
 use Rattle.part_maps.specs.Maps.{MapApart}
-use Rattle.conflict_piece.specs.Conflict.{RowsOk, param_by}
-use Rattle.place_end.specs.declared.Ended.TheVariants as ended
-use Rattle.place_end.specs.declared.PlaceEnd.{PlaceEnd}
-use Rattle.place_end.specs.Ends.{end_of}
+use Rattle.conflict_piece.specs.Conflict.{turned_rows_of, RowsOk, param_by}
+use Rattle.place_end.specs.declared.NotPlaced.{NotPlaced}
+use Rattle.place_end.specs.Ends.{Placed, end_of}
 use Rattle.steps.specs.Turns.{TurnRoom}
 use Rattle.build_state.specs.Builds.{Builds}
 use Rattle.build_state.specs.Fits.{StandsAs}
 use Rattle.conflicts.specs.declared.First.{First}
+use Rattle.conflicts.specs.declared.RoundEnd.{RoundEnd}
 
 -- K' is K but for the words of the mapping and those from the turned rows on
 pub record Between (lay : Layout) (wl : WorkLayout) (K K' : List ℕ) : Type 0 where
@@ -32,9 +32,11 @@ pub record Rounded (lay : Layout) (wl : WorkLayout) (b : ℕ) (K K' : List ℕ) 
   pub behind : (j : ℕ) → wl.turned + b * 4 ≤ j → get_or K' j 0 ≡ get_or K j 0
 
 -- a state, which the words O of the result tables and K of the work slice stand for, or a refusal
-unfoldable pub EndsAs : Job → OutLayout → List ℕ → Layout → WorkLayout → List ℕ → List ℕ → PlaceEnd → Out State → Type 0
-EndsAs J ol W lay wl O K r (done st) = (r.end ≡ ended.Done) × StandsAs J ol O W K lay wl r.counts st
-EndsAs J ol W lay wl O K r (refused f) = end_of f r.end
+unfoldable pub EndsAs : Job → OutLayout → List ℕ → Layout → WorkLayout → List ℕ → List ℕ → Placed → Out State → Type 0
+EndsAs J ol W lay wl O K (Ok c) (done st) = StandsAs J ol O W K lay wl c st
+EndsAs J ol W lay wl O K (Err e) (refused f) = end_of f e
+EndsAs J ol W lay wl O K (Ok c) (refused f) = ⊥
+EndsAs J ol W lay wl O K (Err e) (done st) = ⊥
 
 -- The job has t words, the work slice w and the result tables o; rows a to b - 1 are turned uses of the job, and the slices stand for some state with the counts c.
 pub record Given (t w o : ℕ) (W K O : List ℕ) (lay : Layout) (wl : WorkLayout) (ol : OutLayout) (a b : ℕ) (c : Counts) : Type 0 where
@@ -53,8 +55,8 @@ pub record IsFirst (x : First) (t : Turned) : Type 0 where
   pub pos : t.use'.pos ≡ x.pos
   pub param : t.param ≡ param_by x.param
 
--- One round over the turned uses us, which ended with r and the slices' words O and K: a register is placed and those left over are still to do; or that is the end.
-pub record RoundAs (J : Job) (ol : OutLayout) (W : List ℕ) (lay : Layout) (wl : WorkLayout) (O K : List ℕ) (r : PlaceEnd) (left : List Turned) (room : Room) (set' : ValueSet) (top : RegClass) (t : Turned) (f : ℕ)
-    (st : State) (us : List Turned) : Type 0 where
-  pub on : r.end ≡ ended.Done → (st' : State) × StandsAs J ol O W K lay wl r.counts st' × (rounds (suc f) J room set' top t st us ≡ rounds f J room set' top t st' left)
-  pub off : (r.end ≡ ended.Done → ⊥) → EndsAs J ol W lay wl O K r (rounds (suc f) J room set' top t st us)
+-- One round over the turned uses us, which ended with the slices' words O and K: a register is placed and the rows left over, up to row b - 1, are still to do; or that is the end.
+unfoldable pub RoundAs : Job → OutLayout → List ℕ → Layout → WorkLayout → List ℕ → List ℕ → ℕ → Room → ValueSet → RegClass → Turned → ℕ → State → List Turned → Result RoundEnd NotPlaced → Type 0
+RoundAs J ol W lay wl O K b room set' top t f st us (Ok r) =
+    (st' : State) × StandsAs J ol O W K lay wl r.counts st' × (rounds (suc f) J room set' top t st us ≡ rounds f J room set' top t st' (turned_rows_of K wl.turned W lay r.next b))
+RoundAs J ol W lay wl O K b room set' top t f st us (Err e) = EndsAs J ol W lay wl O K (Err e) (rounds (suc f) J room set' top t st us)

@@ -1,7 +1,7 @@
 // builder.rs emit_vregs_for_conflicts: the conflict registers of a set, from its rows of turned uses.
 #![tactic(auto)]
 
-ghost use Rattle.std.specs.Prelude.{◌≡◌, cond, ℕ, ◌+◌, ◌-◌, ◌*◌, ◌≤◌, ◌<◌, eqb, get_or};
+ghost use Rattle.std.specs.Prelude.{◌≡◌, IfOk, cond, ℕ, ◌+◌, ◌-◌, ◌*◌, ◌≤◌, ◌<◌, eqb, get_or};
 ghost use Rattle.std.proofs.Math.Option.{none, some};
 ghost use Rattle.words.specs.Words.{word_count, words_of};
 ghost use Rattle.definition.specs.Types.{State, Turned};
@@ -13,19 +13,17 @@ ghost use Rattle.virt_regs.specs.Encoding.{room_of};
 ghost use Rattle.constraints.specs.Ready.{Ready};
 ghost use Rattle.part_maps.specs.Maps.{MapApart};
 ghost use Rattle.conflict_piece.specs.Conflict.{turned_row_at, turned_rows_of, RowsOk, param_by};
-ghost use Rattle.place_end.specs.declared.Ended.TheVariants as ended;
 ghost use Rattle.steps.specs.Turns.{TurnRoom};
 ghost use Rattle.build_state.specs.Builds.{Builds};
 ghost use Rattle.build_state.specs.Fits.{StandsAs};
 ghost use Rattle.conflicts.specs.Conflicts.{Between, Rounded, EndsAs, Given, IsFirst, RoundAs};
 
-use conflict_piece::{Param, turned_use};
+use conflict_piece::turned_use;
 use conflict_round::{one_value, run_end, try_rows};
 use definition::{Inst, RegClass, Stop, Value, ValueSet};
 use layout::Layout;
 use place_conflict::place_conflict;
-use place_end::{Ended, PlaceEnd};
-use steps::is_done;
+use place_end::NotPlaced;
 use virt_regs::{Counts, OutLayout};
 use work_layout::WorkLayout;
 
@@ -34,27 +32,26 @@ use work_layout::WorkLayout;
 pub struct First {
     pub value: Value,
     pub pos: Inst,
-    pub param: Param,
+    pub param: Option<u32>,
 }
 
-// How a round ended, and the first of the rows left over.
+// A round placed a register: the rows in use then, and the first of the rows left over.
 #[derive(Clone, Copy)]
 pub struct RoundEnd {
-    pub end: PlaceEnd,
+    pub counts: Counts,
     pub next: usize,
 }
 
 // The parameter of row k.
-fn param_at(work: &[u8], turned: usize, k: usize) -> Param
+fn param_at(work: &[u8], turned: usize, k: usize) -> Option<u32>
     requires { turned + k * 4 + 4 ≤ word_count work.now }
     ensures { cond (eqb (get_or (words_of work.now) (turned + k * 4 + 2) 0) 0) none (some (get_or (words_of work.now) (turned + k * 4 + 3) 0)) ≡ param_by result }
 {
-    let has = words::word_at(work, turned + k * 4 + 2);
-    let index = words::word_at(work, turned + k * 4 + 3);
-    if has == 0 {
-        return Param { has: false, index };
+    if words::word_at(work, turned + k * 4 + 2) == 0 {
+        None
+    } else {
+        Some(words::word_at(work, turned + k * 4 + 3))
     }
-    Param { has: true, index }
 }
 
 // Row k as the first of its instruction.
@@ -62,11 +59,11 @@ fn first_at(job: &[u8], lay: Layout, work: &[u8], turned: usize, k: usize) -> Fi
     requires { Fits (word_count job.now) lay × (turned + k * 4 + 4 ≤ word_count work.now) × (get_or (words_of work.now) (turned + k * 4 + 1) 0 < lay.uses.n) }
     ensures { IsFirst result (turned_row_at (words_of work.now) turned (words_of job.now) lay k) }
 {
-    let value = Value(words::word_at(work, turned + k * 4));
-    let u = turned_use(job, lay, work, turned, k);
-    let pos = u.pos;
-    let param = param_at(work, turned, k);
-    First { value, pos, param }
+    First {
+        value: Value(words::word_at(work, turned + k * 4)),
+        pos: turned_use(job, lay, work, turned, k).pos,
+        param: param_at(work, turned, k),
+    }
 }
 
 // "From the top class, the turned uses are tried": one register for those of rows a to b - 1 that are admitted.
@@ -83,27 +80,24 @@ fn place_round(
     a: usize,
     b: usize,
     c: Counts,
-) -> RoundEnd
+) -> Result<RoundEnd, NotPlaced>
     requires { Given (word_count job.now) (word_count work.old) (word_count out.old) (words_of job.now) (words_of work.old) (words_of out.old) lay wl ol a b c × (a < b) × (x.pos.0 < insts_of (job_of (words_of job.now) lay).blocks) }
-    ensures onto_next { (result.end.end ≡ ended.Done → a < result.next) × (result.next ≤ b) × Rounded lay wl b (words_of work.old) (words_of work.new) × RowsOk (word_count work.new) (words_of work.new) wl.turned lay result.next b }
+    ensures rounded { Rounded lay wl b (words_of work.old) (words_of work.new) }
+    ensures onto_next { IfOk result (λ r. (a < r.next) × (r.next ≤ b) × RowsOk (word_count work.new) (words_of work.new) wl.turned lay r.next b) }
     ensures round_as { (st : State) (t : Turned) (f : ℕ) → StandsAs (job_of (words_of job.now) lay) ol (words_of out.old) (words_of job.now) (words_of work.old) lay wl c st → IsFirst x t
-        → RoundAs (job_of (words_of job.now) lay) ol (words_of job.now) lay wl (words_of out.new) (words_of work.new) result.end (turned_rows_of (words_of work.new) wl.turned (words_of job.now) lay result.next b) (room_of ol) set top t f st
-        (turned_rows_of (words_of work.old) wl.turned (words_of job.now) lay a b) }
+        → RoundAs (job_of (words_of job.now) lay) ol (words_of job.now) lay wl (words_of out.new) (words_of work.new) b (room_of ol) set top t f st
+        (turned_rows_of (words_of work.old) wl.turned (words_of job.now) lay a b) result }
 {
     let r = try_rows(job, lay, out, ol, work, wl, top, a, b);
     let next = r.end;
     if next == a {
-        let end = PlaceEnd {
-            end: Ended::Stopped(Stop::NoneAdmitted),
-            counts: c,
-        };
-        return RoundEnd { end, next };
+        return Err(NotPlaced::Stopped(Stop::NoneAdmitted));
     }
     let held = r.held;
-    let end = place_conflict(
+    let counts = place_conflict(
         job, lay, out, ol, work, wl, a, next, x.value, x.pos, x.param, set, held, c,
-    );
-    RoundEnd { end, next }
+    )?;
+    Ok(RoundEnd { counts, next })
 }
 
 // "those left over start the next register": the registers of rows a to b - 1, of one instruction and value.
@@ -120,7 +114,7 @@ pub fn place_rounds(
     a: usize,
     b: usize,
     c: Counts,
-) -> PlaceEnd
+) -> Result<Counts, NotPlaced>
     requires { Given (word_count job.now) (word_count work.old) (word_count out.old) (words_of job.now) (words_of work.old) (words_of out.old) lay wl ol a b c × (x.pos.0 < insts_of (job_of (words_of job.now) lay).blocks) }
     ensures rounded { Rounded lay wl b (words_of work.old) (words_of work.new) }
     ensures ends_as { (st : State) (t : Turned) (f : ℕ) → StandsAs (job_of (words_of job.now) lay) ol (words_of out.old) (words_of job.now) (words_of work.old) lay wl c st → IsFirst x t → b - a ≤ f
@@ -130,19 +124,11 @@ pub fn place_rounds(
     let mut i = a;
     let mut n = c;
     while i < b {
-        let r = place_round(job, lay, out, ol, work, wl, set, top, x, i, b, n);
-        let placed = r.end;
-        let end = placed.end;
-        if !is_done(end) {
-            return placed;
-        }
-        n = placed.counts;
+        let r = place_round(job, lay, out, ol, work, wl, set, top, x, i, b, n)?;
+        n = r.counts;
         i = r.next;
     }
-    PlaceEnd {
-        end: Ended::Done,
-        counts: n,
-    }
+    Ok(n)
 }
 
 // The registers of rows a to b - 1, of one instruction: "conflict uses of one instruction differ in value" is a stop.
@@ -158,7 +144,7 @@ pub fn at_inst(
     a: usize,
     b: usize,
     c: Counts,
-) -> PlaceEnd
+) -> Result<Counts, NotPlaced>
     requires { Given (word_count job.now) (word_count work.old) (word_count out.old) (words_of job.now) (words_of work.old) (words_of out.old) lay wl ol a b c × (a < b) }
     ensures rounded { Rounded lay wl b (words_of work.old) (words_of work.new) }
     ensures ends_as { (st : State) → StandsAs (job_of (words_of job.now) lay) ol (words_of out.old) (words_of job.now) (words_of work.old) lay wl c st
@@ -167,10 +153,7 @@ pub fn at_inst(
 {
     let turned = wl.turned;
     if !one_value(work, turned, a, b) {
-        return PlaceEnd {
-            end: Ended::Stopped(Stop::ValuesDiffer),
-            counts: c,
-        };
+        return Err(NotPlaced::Stopped(Stop::ValuesDiffer));
     }
     let x = first_at(job, lay, work, turned, a);
     place_rounds(job, lay, out, ol, work, wl, set, top, x, a, b, c)
@@ -188,7 +171,7 @@ pub fn conflicts(
     top: RegClass,
     n: usize,
     c: Counts,
-) -> PlaceEnd
+) -> Result<Counts, NotPlaced>
     requires { Ready (word_count job.now) (word_count work.old) (words_of job.now) (words_of work.old) lay wl × MapApart lay wl × TurnRoom (word_count work.old) lay wl × Builds (word_count out.old) (words_of job.now) lay ol × (0 < lay.segments.n)
         × RowsOk (word_count work.old) (words_of work.old) wl.turned lay 0 n × ((st : State) × StandsAs (job_of (words_of job.now) lay) ol (words_of out.old) (words_of job.now) (words_of work.old) lay wl c st) }
     ensures between { Between lay wl (words_of work.old) (words_of work.new) }
@@ -196,21 +179,12 @@ pub fn conflicts(
         → EndsAs (job_of (words_of job.now) lay) ol (words_of job.now) lay wl (words_of out.new) (words_of work.new) result
         (build.conflicts (job_of (words_of job.now) lay) (room_of ol) set top (build.runs build.same_inst (turned_rows_of (words_of work.old) wl.turned (words_of job.now) lay 0 n)) st) }
 {
-    let turned = wl.turned;
     let mut i = 0;
     let mut k = c;
     while i < n {
-        let e = run_end(job, lay, work, turned, i, n);
-        let r = at_inst(job, lay, out, ol, work, wl, set, top, i, e, k);
-        let end = r.end;
-        if !is_done(end) {
-            return r;
-        }
-        k = r.counts;
+        let e = run_end(job, lay, work, wl.turned, i, n);
+        k = at_inst(job, lay, out, ol, work, wl, set, top, i, e, k)?;
         i = e;
     }
-    PlaceEnd {
-        end: Ended::Done,
-        counts: k,
-    }
+    Ok(k)
 }

@@ -1,11 +1,8 @@
 -- The row of an own piece. Assumes nothing.
-use Rattle.std.specs.Prelude.{ℕ, ◌-◌, Bool, cond}
+use Rattle.std.specs.Prelude.{ℕ, ◌-◌}
 use Rattle.definition.specs.Lines.{flags_number}
 use Rattle.set_part.specs.declared.PartSeg.{PartSeg}
 use Rattle.virt_regs.specs.declared.PieceRow.{PieceRow}
-
-abbrev pub bit_of : Bool → ℕ → ℕ
-bit_of b n = cond b n 0
 
 unfoldable pub row_of : PartSeg → ℕ → PieceRow
 row_of s u = record {

@@ -12,24 +12,21 @@ ghost use Rattle.layout.specs.Layout.{Fits};
 ghost use Rattle.set_part.specs.Part.{PartOk, marked_use, part_segs};
 ghost use Rattle.virt_regs.specs.Encoding.{tables_end};
 ghost use Rattle.vreg_put.specs.Written.{Written};
-ghost use Rattle.part_pieces.specs.Rows.{bit_of, row_of};
+ghost use Rattle.part_pieces.specs.Rows.{row_of};
 
 use definition::UseFlags;
 use layout::Layout;
 use set_part::{PartSeg, SetPart};
 use virt_regs::{OutLayout, PieceRow};
 
-fn bit(b: bool, n: u32) -> u32
-    ensures { (result ≡ bit_of b n) × (result ≤ n) }
-{
-    if b { n } else { 0 }
-}
-
 // "Flags: 1 live-in, 2 live-out, 4 fixed hint, 8 fixed def."
 pub fn flags_number(f: UseFlags) -> u32
     ensures { result ≡ flags_number f }
 {
-    bit(f.livein, 1) + bit(f.liveout, 2) + bit(f.fixedhint, 4) + bit(f.fixeddef, 8)
+    u32::from(f.livein)
+        + 2 * u32::from(f.liveout)
+        + 4 * u32::from(f.fixedhint)
+        + 8 * u32::from(f.fixeddef)
 }
 
 // The row of an own piece whose first use is use u.
@@ -37,15 +34,11 @@ fn piece_row(s: PartSeg, u: usize) -> PieceRow
     requires { (s.first ≤ s.end) × (s.end - s.first < 4294967296) × (u < 4294967296) }
     ensures { result ≡ row_of s u }
 {
-    let value = s.value;
-    let from = s.from;
-    let to = s.to;
-    let flags = s.flags;
     PieceRow {
-        value,
-        from,
-        to,
-        flags: flags_number(flags),
+        value: s.value,
+        from: s.from,
+        to: s.to,
+        flags: flags_number(s.flags),
         origin: 0,
         first: u as u32,
         uses: (s.end - s.first) as u32,
@@ -67,11 +60,9 @@ fn write_uses(
     requires { Fits (word_count job.now) lay × (b ≤ lay.uses.n) × (marks + lay.uses.n ≤ word_count work.now) × (tables_end ol ≤ word_count out.old) × (a ≤ b) × (u + (b - a) ≤ ol.uses) }
     ensures { (p : ℕ) → Written ol (words_of out.old) p u [] (tab (marked_use (words_of work.now) marks (words_of job.now) lay) a (b - a)) (words_of out.new) }
 {
-    let mut i = a;
-    while i < b {
+    for i in a..b {
         let x = turned::marked_use(job, lay, work, marks, i);
         vreg_put::put_use(out, ol, u + (i - a), x);
-        i += 1;
     }
 }
 
@@ -89,16 +80,10 @@ fn write_rows(
     requires room { (p + (sp.last + 1 - sp.seg) ≤ ol.segs) × (u + (sp.end - sp.first) < 4294967296) }
     ensures { (O K : List ℕ) (marks : ℕ) (us : List Use) → Written ol O p u [] us (words_of out.old) → Written ol O p u (as_own (part_segs K marks (words_of job.now) lay sp)) us (words_of out.new) }
 {
-    let first = sp.first;
-    let seg = sp.seg;
-    let last = sp.last;
-    let mut i = seg;
-    while i <= last {
+    for i in sp.seg..sp.last + 1 {
         let s = set_part::part_seg(job, lay, sp, i);
-        let at = s.first;
-        let row = piece_row(s, u + (at - first));
-        vreg_put::put_piece(out, ol, p + (i - seg), row);
-        i += 1;
+        let row = piece_row(s, u + (s.first - sp.first));
+        vreg_put::put_piece(out, ol, p + (i - sp.seg), row);
     }
 }
 
@@ -118,9 +103,7 @@ pub fn write_part(
     requires room { (p + (sp.last + 1 - sp.seg) ≤ ol.segs) × (u + (sp.end - sp.first) ≤ ol.uses) × (u + (sp.end - sp.first) < 4294967296) }
     ensures { Written ol (words_of out.old) p u (as_own (part_segs (words_of work.now) marks (words_of job.now) lay sp)) (uses_of (part_segs (words_of work.now) marks (words_of job.now) lay sp)) (words_of out.new) }
 {
-    let a = sp.first;
-    let b = sp.end;
-    write_uses(job, lay, work, marks, a, b, out, ol, u);
+    write_uses(job, lay, work, marks, sp.first, sp.end, out, ol, u);
     write_rows(job, lay, sp, out, ol, p, u);
 }
 
@@ -129,14 +112,5 @@ pub fn hint_in_part(job: &[u8], lay: Layout, sp: SetPart) -> bool
     requires { Fits (word_count job.now) lay × PartOk (words_of job.now) lay sp }
     ensures { (K : List ℕ) (marks : ℕ) → result ≡ hint_in (as_own (part_segs K marks (words_of job.now) lay sp)) }
 {
-    let last = sp.last;
-    let mut i = sp.seg;
-    while i <= last {
-        let s = set_part::part_seg(job, lay, sp, i);
-        if s.flags.fixedhint {
-            return true;
-        }
-        i += 1;
-    }
-    false
+    (sp.seg..sp.last + 1).any(|i| set_part::part_seg(job, lay, sp, i).flags.fixedhint)
 }

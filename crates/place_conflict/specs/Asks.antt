@@ -1,7 +1,9 @@
 -- What placing a conflict piece asks, and what follows from room in the tables. Assumes nothing.
-use Rattle.std.specs.Prelude.{◌≡◌, refl, Bool, true, false, not, List, [], ◌∷◌, ℕ, ◌+◌, ◌-◌, ◌*◌, ◌^◌, ◌≤◌, ◌<◌, eqb, length}
+use Rattle.std.specs.Prelude as code
+use Rattle.std.specs.Int.{from_bool}
+use Rattle.std.specs.Prelude.{◌≡◌, refl, Bool, true, false, not, Option, Some, List, [], ◌∷◌, ℕ, ◌+◌, ◌-◌, ◌*◌, ◌^◌, ◌≤◌, ◌<◌, eqb, length}
 use Rattle.std.proofs.Math.Path.{sym}
-use Rattle.std.proofs.Common.{ap, ◌∙◌, subst, zero-add, arith}
+use Rattle.std.proofs.Common.{ap, ◌∙◌, zero-add, arith}
 use Rattle.std.proofs.Math.Bool.{cond}
 use Rattle.std.proofs.Math.ListN.{get_or}
 use Rattle.std.proofs.Math.Option.{none, some}
@@ -11,20 +13,17 @@ use Rattle.definition.specs.declared.Value.{Value}
 use Rattle.definition.specs.declared.Inst.{Inst}
 use Rattle.definition.specs.declared.VirtReg.{VirtReg}
 use Rattle.definition.specs.declared.VirtRegGroup.{VirtRegGroup}
-use Rattle.definition.specs.Types.{Job, Piece, State, Out, point}
+use Rattle.definition.specs.Types.{Job, Piece, State, point}
 use Rattle.definition.specs.Entry.{insts_of}
 use Rattle.definition.specs.Admit.{register_at, members_at}
 use Rattle.definition.specs.Build.{conflict_piece}
 use Rattle.definition.specs.Place.{pieces_in, uses_in, has_room, uses_of_pieces, uses_of, segs_of, first_from, last_to}
 use Rattle.layout.specs.declared.Layout.{Layout}
 use Rattle.job.specs.Job.{job_of}
-use Rattle.conflict_piece.specs.declared.Param.{Param}
 use Rattle.virt_regs.specs.declared.OutLayout.{OutLayout}
 use Rattle.virt_regs.specs.declared.Counts.{Counts}
 use Rattle.virt_regs.specs.Encoding.{tables_end, room_of, counts_of, Holds}
 use Rattle.virt_regs.specs.Reads.{pieces_in_lem}
-use Rattle.vreg_find.specs.declared.Place.{Place}
-use Rattle.vreg_find.specs.declared.Place.TheVariants.{At}
 use Rattle.vreg_find.specs.Ends.{place_of, ends_le}
 use Rattle.vreg_insert.specs.Ask.{Ask, first_use_le}
 use Rattle.vreg_insert.specs.Opened.{Opened}
@@ -42,12 +41,11 @@ use Rattle.place.specs.Laws.{filled}
 use Rattle.place.specs.Room.{room_counts, space}
 use Rattle.place_laws.specs.Held.{HeldFits}
 use Rattle.place_conflict.specs.Piece.{insts_in, fair_rows}
-use Rattle.place_end.specs.declared.PlaceEnd.{PlaceEnd}
-use Rattle.place_end.specs.Ends.{Sane, Ends}
+use Rattle.place_end.specs.Ends.{Sane}
 use Rattle.place_laws.specs.Ways.{fair_stored, fair_weighed, ready_fair, place_at, merge_fair}
 
 -- the piece of turned rows a to b - 1
-abbrev pub pieces_of : List ℕ → ℕ → List ℕ → Layout → ℕ → ℕ → Value → Inst → Param → List Piece
+abbrev pub pieces_of : List ℕ → ℕ → List ℕ → Layout → ℕ → ℕ → Value → Inst → code.Option ℕ → List Piece
 pieces_of K turned W lay a b v p q = conflict_piece v p (param_by q) (turned_rows_of K turned W lay a b) ∷ []
 
 -- The job and the work slice are ready, the rows a to b - 1 are turned uses of the job, p is one of its instructions, and the tables, of n words, hold some state with these counts, of which F is so.
@@ -64,11 +62,16 @@ pub record Asks (t w n : ℕ) (W K O : List ℕ) (lay : Layout) (wl : WorkLayout
   pub counts : c ≡ counts_of st
   pub more : F st
 
+-- how many uses the opening has
+pub count_open : (b : Bool) → from_bool b ≡ cond b 1 0
+count_open true = refl
+count_open false = refl
+
 -- how many uses it has, by whether it has a parameter
-pub count_param : (q : Param) (n : ℕ) → q.has ≡ true → 1 + n ≡ open_count q + n
+pub count_param : (q : code.Option ℕ) (n : ℕ) → code.is_some q ≡ true → 1 + n ≡ open_count q + n
 count_param q n e = ap (λ (x : Bool). cond x 1 0 + n) (sym e)
 
-pub count_rows : (q : Param) (n : ℕ) → q.has ≡ false → n ≡ open_count q + n
+pub count_rows : (q : code.Option ℕ) (n : ℕ) → code.is_some q ≡ false → n ≡ open_count q + n
 count_rows q n e = sym (zero-add n) ∙ ap (λ (x : Bool). cond x 1 0 + n) (sym e)
 
 -- nothing more; group g has a place i; g is a group and v a register, and all pieces can be weighed
@@ -106,7 +109,7 @@ asks_more t w n W K O lay wl ol a b p c F G f k =
 abbrev pub RoomBy : OutLayout → Counts → ℕ → ℕ → ℕ → ℕ → Bool → Type 0
 RoomBy ol c r g np nu b = (st : State) (ps : List Piece) → c ≡ counts_of st → np ≡ length ps → nu ≡ uses_of_pieces ps → b ≡ has_room (room_of ol) st r g ps
 
-module _ (t w n : ℕ) (W K O : List ℕ) (lay : Layout) (wl : WorkLayout) (ol : OutLayout) (a b : ℕ) (p : Inst) (c : Counts) (F : State → Type 0) (k : Asks t w n W K O lay wl ol a b p c F) (v : Value) (q : Param) where
+module _ (t w n : ℕ) (W K O : List ℕ) (lay : Layout) (wl : WorkLayout) (ol : OutLayout) (a b : ℕ) (p : Inst) (c : Counts) (F : State → Type 0) (k : Asks t w n W K O lay wl ol a b p c F) (v : Value) (q : code.Option ℕ) where
   abbrev pieces : List Piece
   pieces = pieces_of K wl.turned W lay a b v p q
 
@@ -151,12 +154,12 @@ module _ (t w n : ℕ) (W K O : List ℕ) (lay : Layout) (wl : WorkLayout) (ol :
   -- ---- merging
 
   -- the place is looked for from the piece's start to its end
-  pub asks_place : (x : Place) (v' : VirtReg) (st : State) → x ≡ place_of (point (4 * p.0)) (point (4 * p.0 + 2)) (register_at st v').pieces
+  pub asks_place : (x : Option ℕ) (v' : VirtReg) (st : State) → x ≡ place_of (point (4 * p.0)) (point (4 * p.0 + 2)) (register_at st v').pieces
       → x ≡ place_of (first_from pieces) (last_to pieces) (register_at st v').pieces
   unfolding first_from last_to conflict_piece
   asks_place x v' st e = e
 
-  module _ (x : Place) (v' : VirtReg) (i nu : ℕ) (ei : x ≡ At i) (en : nu ≡ open_count q + (b - a)) (fits : (c.segs + 1 ≤ ol.segs) × (c.uses + nu ≤ ol.uses)) where
+  module _ (x : Option ℕ) (v' : VirtReg) (i nu : ℕ) (ei : x ≡ Some i) (en : nu ≡ open_count q + (b - a)) (fits : (c.segs + 1 ≤ ol.segs) × (c.uses + nu ≤ ol.uses)) where
     pub asks_before : (st : State) → x ≡ place_of (point (4 * p.0)) (point (4 * p.0 + 2)) (register_at st v').pieces → i ≤ length (register_at st v').pieces
     asks_before st ex = omega (arith, (place_at st pieces v' x (asks_place x v' st ex) i ei).1, ends_le (first_from pieces) (register_at st v').pieces)
 

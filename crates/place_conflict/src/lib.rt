@@ -16,26 +16,23 @@ ghost use Rattle.place_end.specs.Ends.{Sane, Ends};
 ghost use Rattle.place_laws.specs.Held.{HeldFits};
 ghost use Rattle.place_conflict.specs.Asks.{Asks, pieces_of, Nothing, InGroup, InRegister, HeldIn};
 
-use conflict_piece::{Param, map_conflict, write_conflict};
+use conflict_piece::{map_conflict, write_conflict};
 use constraints::Held;
 use definition::{Inst, LiveRangePoint, RegClass, Stop, Value, ValueSet, VirtReg, VirtRegGroup};
 use layout::Layout;
-use place_end::{Ended, PlaceEnd};
+use place_end::NotPlaced;
 use virt_regs::{Counts, OutLayout};
-use vreg_find::{Place, find_place};
+use vreg_find::find_place;
 use vreg_insert::open_gaps;
 use vreg_put::has_room;
 use work_layout::WorkLayout;
 
 // How many uses the piece of rows a to b - 1 has.
-fn use_count(param: Param, a: usize, b: usize) -> usize
+fn use_count(param: Option<u32>, a: usize, b: usize) -> usize
     requires { (a ≤ b) × (b < 2 ^ 62) }
     ensures { result ≡ open_count param + (b - a) }
 {
-    if param.has {
-        return 1 + (b - a);
-    }
-    b - a
+    usize::from(param.is_some()) + (b - a)
 }
 
 // In no group.
@@ -50,11 +47,11 @@ fn conflict_alone(
     b: usize,
     value: Value,
     pos: Inst,
-    param: Param,
+    param: Option<u32>,
     set: ValueSet,
     class: RegClass,
     c: Counts,
-) -> PlaceEnd
+) -> Result<Counts, NotPlaced>
     requires { Weighable job.now lay work.now wl.starts × Asks (word_count job.now) (word_count work.now) (word_count out.old) (words_of job.now) (words_of work.now) (words_of out.old) lay wl ol a b pos c Nothing }
     ensures { (st : State) (h : types.Held) → Stands ol (words_of out.old) (words_of job.now) (words_of work.now) lay wl st → c ≡ counts_of st → Sane (job_in job.now lay) st → h.class ≡ class
         → Ends (job_in job.now lay) ol (words_of job.now) lay wl (words_of work.now) (words_of out.new) (words_of work.now) result
@@ -62,23 +59,15 @@ fn conflict_alone(
 {
     let nu = use_count(param, a, b);
     if !has_room(ol, c, 1, 0, 1, nu) {
-        return PlaceEnd {
-            end: Ended::Full,
-            counts: c,
-        };
+        return Err(NotPlaced::Full);
     }
-    let turned = wl.turned;
-    let starts = wl.starts;
-    let p = c.segs;
-    let u = c.uses;
     write_conflict(
-        job, lay, work, turned, a, b, value, pos, param, out, ol, p, u,
+        job, lay, work, wl.turned, a, b, value, pos, param, out, ol, c.segs, c.uses,
     );
-    let n = place::finish_alone(job, lay, out, ol, work, starts, c, set, class, 1, nu, false);
-    PlaceEnd {
-        end: Ended::Done,
-        counts: n,
-    }
+    let n = place::finish_alone(
+        job, lay, out, ol, work, wl.starts, c, set, class, 1, nu, false,
+    );
+    Ok(n)
 }
 
 // In place `index` of group g, which is empty.
@@ -93,13 +82,13 @@ fn conflict_join(
     b: usize,
     value: Value,
     pos: Inst,
-    param: Param,
+    param: Option<u32>,
     set: ValueSet,
     class: RegClass,
     g: VirtRegGroup,
     index: u32,
     c: Counts,
-) -> PlaceEnd
+) -> Result<Counts, NotPlaced>
     requires { Weighable job.now lay work.now wl.starts × Asks (word_count job.now) (word_count work.now) (word_count out.old) (words_of job.now) (words_of work.now) (words_of out.old) lay wl ol a b pos c (InGroup g index) }
     ensures { (st : State) (h : types.Held) (hg : types.HeldGroup) → Stands ol (words_of out.old) (words_of job.now) (words_of work.now) lay wl st → c ≡ counts_of st → Sane (job_in job.now lay) st → h.class ≡ class
         → hg.index ≡ index → InGroup g index st
@@ -108,25 +97,15 @@ fn conflict_join(
 {
     let nu = use_count(param, a, b);
     if !has_room(ol, c, 1, 0, 1, nu) {
-        return PlaceEnd {
-            end: Ended::Full,
-            counts: c,
-        };
+        return Err(NotPlaced::Full);
     }
-    let turned = wl.turned;
-    let starts = wl.starts;
-    let p = c.segs;
-    let u = c.uses;
     write_conflict(
-        job, lay, work, turned, a, b, value, pos, param, out, ol, p, u,
+        job, lay, work, wl.turned, a, b, value, pos, param, out, ol, c.segs, c.uses,
     );
     let n = place::finish_join(
-        job, lay, out, ol, work, starts, c, set, class, g, index, 1, nu, false,
+        job, lay, out, ol, work, wl.starts, c, set, class, g, index, 1, nu, false,
     );
-    PlaceEnd {
-        end: Ended::Done,
-        counts: n,
-    }
+    Ok(n)
 }
 
 // In place `index` of a new group, of as many as its class says.
@@ -141,12 +120,12 @@ fn conflict_lead(
     b: usize,
     value: Value,
     pos: Inst,
-    param: Param,
+    param: Option<u32>,
     set: ValueSet,
     class: RegClass,
     index: u32,
     c: Counts,
-) -> PlaceEnd
+) -> Result<Counts, NotPlaced>
     requires { Weighable job.now lay work.old wl.starts × Asks (word_count job.now) (word_count work.old) (word_count out.old) (words_of job.now) (words_of work.old) (words_of out.old) lay wl ol a b pos c Nothing × (index < (class_at (job_in job.now lay) class).size) × ((class_at (job_in job.now lay) class).size ≤ 8) }
     ensures { (st : State) (h : types.Held) (hg : types.HeldGroup) → Stands ol (words_of out.old) (words_of job.now) (words_of work.old) lay wl st → c ≡ counts_of st → Sane (job_in job.now lay) st → h.class ≡ class
         → hg.index ≡ index
@@ -155,32 +134,19 @@ fn conflict_lead(
 {
     let g = c.groups as u32;
     if !map_conflict(job, lay, work, wl, a, b, g) {
-        return PlaceEnd {
-            end: Ended::Stopped(Stop::MappedTwice),
-            counts: c,
-        };
+        return Err(NotPlaced::Stopped(Stop::MappedTwice));
     }
     let nu = use_count(param, a, b);
     if !has_room(ol, c, 1, 1, 1, nu) {
-        return PlaceEnd {
-            end: Ended::Full,
-            counts: c,
-        };
+        return Err(NotPlaced::Full);
     }
-    let turned = wl.turned;
-    let starts = wl.starts;
-    let p = c.segs;
-    let u = c.uses;
     write_conflict(
-        job, lay, work, turned, a, b, value, pos, param, out, ol, p, u,
+        job, lay, work, wl.turned, a, b, value, pos, param, out, ol, c.segs, c.uses,
     );
     let n = place::finish_lead(
-        job, lay, out, ol, work, starts, c, set, class, index, 1, nu, false,
+        job, lay, out, ol, work, wl.starts, c, set, class, index, 1, nu, false,
     );
-    PlaceEnd {
-        end: Ended::Done,
-        counts: n,
-    }
+    Ok(n)
 }
 
 // Merged into register v, at place `index` of group g.
@@ -195,13 +161,13 @@ fn conflict_merge(
     b: usize,
     value: Value,
     pos: Inst,
-    param: Param,
+    param: Option<u32>,
     class: RegClass,
     g: VirtRegGroup,
     v: VirtReg,
     index: u32,
     c: Counts,
-) -> PlaceEnd
+) -> Result<Counts, NotPlaced>
     requires { Weighable job.now lay work.now wl.starts × Asks (word_count job.now) (word_count work.now) (word_count out.old) (words_of job.now) (words_of work.now) (words_of out.old) lay wl ol a b pos c (InRegister (job_in job.now lay) g v) }
     ensures { (st : State) (h : types.Held) (hg : types.HeldGroup) → Stands ol (words_of out.old) (words_of job.now) (words_of work.now) lay wl st → c ≡ counts_of st → Sane (job_in job.now lay) st → h.class ≡ class
         → hg.index ≡ index → g.0 < length st.groups → v.0 < length st.registers
@@ -209,34 +175,33 @@ fn conflict_merge(
         (merge (job_in job.now lay) (room_of ol) h hg g v (pieces_of (words_of work.now) wl.turned (words_of job.now) lay a b value pos param) st) }
 {
     let at = 4 * pos.0;
-    let Place::At(k) = find_place(out, ol, v, LiveRangePoint(at), LiveRangePoint(at + 2)) else {
-        return PlaceEnd {
-            end: Ended::Stopped(Stop::Overlap),
-            counts: c,
-        };
+    let Some(k) = find_place(out, ol, v, LiveRangePoint(at), LiveRangePoint(at + 2)) else {
+        return Err(NotPlaced::Stopped(Stop::Overlap));
     };
     let nu = use_count(param, a, b);
     if !has_room(ol, c, 0, 0, 1, nu) {
-        return PlaceEnd {
-            end: Ended::Full,
-            counts: c,
-        };
+        return Err(NotPlaced::Full);
     }
-    let turned = wl.turned;
-    let starts = wl.starts;
     let gaps = open_gaps(out, ol, c, v, k, 1, nu, false);
-    let p = gaps.pieces;
-    let u = gaps.uses;
     write_conflict(
-        job, lay, work, turned, a, b, value, pos, param, out, ol, p, u,
+        job,
+        lay,
+        work,
+        wl.turned,
+        a,
+        b,
+        value,
+        pos,
+        param,
+        out,
+        ol,
+        gaps.pieces,
+        gaps.uses,
     );
     let n = place::finish_merge(
-        job, lay, out, ol, work, starts, c, class, g, v, index, 1, nu,
+        job, lay, out, ol, work, wl.starts, c, class, g, v, index, 1, nu,
     );
-    PlaceEnd {
-        end: Ended::Done,
-        counts: n,
-    }
+    Ok(n)
 }
 
 // The register of the conflict piece of rows a to b - 1, by what is held.
@@ -251,11 +216,11 @@ pub fn place_conflict(
     b: usize,
     value: Value,
     pos: Inst,
-    param: Param,
+    param: Option<u32>,
     set: ValueSet,
     held: Held,
     c: Counts,
-) -> PlaceEnd
+) -> Result<Counts, NotPlaced>
     requires { Weighable job.now lay work.old wl.starts × Asks (word_count job.now) (word_count work.old) (word_count out.old) (words_of job.now) (words_of work.old) (words_of out.old) lay wl ol a b pos c (HeldIn (job_in job.now lay) held) }
     ensures { (st : State) → Stands ol (words_of out.old) (words_of job.now) (words_of work.old) lay wl st → c ≡ counts_of st → Sane (job_in job.now lay) st → HeldFits (job_in job.now lay) st held
         → Ends (job_in job.now lay) ol (words_of job.now) lay wl (words_of work.old) (words_of out.new) (words_of work.new) result

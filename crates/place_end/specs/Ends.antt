@@ -1,7 +1,7 @@
 -- What placing leaves behind, by the definition's answer. Assumes nothing.
-use Rattle.std.proofs.Math.Path.{◌≡◌}
-use Rattle.std.proofs.Common.{subst, arith}
-use Rattle.std.specs.Prelude.{Bool, List, [], ◌∷◌, ◌++◌, ℕ, zero, suc, ◌<◌, length, Float}
+use Rattle.std.proofs.Math.Path.{◌≡◌, refl, ap}
+use Rattle.std.proofs.Common.{sym, subst, arith}
+use Rattle.std.specs.Prelude.{Bool, List, [], ◌∷◌, ◌++◌, ℕ, zero, suc, ◌<◌, length, Float, Result, Ok, Err, IsErrAnd}
 use Rattle.std.proofs.Math.Bool.{true, false}
 use Rattle.std.proofs.Math.Option.{Option, none, some}
 use Rattle.definition.specs.declared.RegClass.{RegClass}
@@ -14,15 +14,19 @@ use Rattle.definition.specs.Place.{gate, if_room, with_weight, update, spread}
 use Rattle.definition.specs.Admit.{register_at, no_register}
 use Rattle.layout.specs.declared.Layout.{Layout}
 use Rattle.virt_regs.specs.declared.OutLayout.{OutLayout}
+use Rattle.virt_regs.specs.declared.Counts.{Counts}
 use Rattle.virt_regs.specs.Each.{Each, each_append, each_one, each_get}
 use Rattle.virt_regs.specs.Encoding.{counts_of}
 use Rattle.work_layout.specs.declared.WorkLayout.{WorkLayout}
 use Rattle.constraints.specs.Ready.{Stands}
 use Rattle.vreg_weight.specs.Fair.{Fair}
 use Rattle.part_maps.specs.Maps.{Outside}
-use Rattle.place_end.specs.declared.Ended.{Ended}
-use Rattle.place_end.specs.declared.Ended.TheVariants as ended
-use Rattle.place_end.specs.declared.PlaceEnd.{PlaceEnd}
+use Rattle.place_end.specs.declared.NotPlaced.{NotPlaced}
+use Rattle.place_end.specs.declared.NotPlaced.TheVariants as not_placed
+
+-- the rows in use once a register is placed, or why it is not
+abbrev pub Placed : Type 0
+Placed = Result Counts NotPlaced
 
 -- the pieces of a register can be weighed
 abbrev pub FairAt : Job → Register → Type 0
@@ -32,17 +36,16 @@ FairAt J q = Fair J 4096 q.pieces
 unfoldable pub Sane : Job → State → Type 0
 Sane J st = Each (FairAt J) st.registers
 
--- the state, which the words O of the result tables and K of the work slice stand for, and its counts
-pub record DoneAs (J : Job) (ol : OutLayout) (W : List ℕ) (lay : Layout) (wl : WorkLayout) (O K : List ℕ) (r : PlaceEnd) (st : State) : Type 0 where
-  pub end : r.end ≡ ended.Done
-  pub counts : r.counts ≡ counts_of st
+-- the state, which the words O of the result tables and K of the work slice stand for, and its counts c
+pub record DoneAs (J : Job) (ol : OutLayout) (W : List ℕ) (lay : Layout) (wl : WorkLayout) (O K : List ℕ) (c : Counts) (st : State) : Type 0 where
+  pub counts : c ≡ counts_of st
   pub stands : Stands ol O W K lay wl st
   pub sane : Sane J st
 
 -- placing answers stops and a full table alone
-abbrev pub end_of : Refusal → Ended → Type 0
-end_of (Stopped s) e = e ≡ ended.Stopped s
-end_of Full e = e ≡ ended.Full
+abbrev pub end_of : Refusal → NotPlaced → Type 0
+end_of (Stopped s) e = e ≡ not_placed.Stopped s
+end_of Full e = e ≡ not_placed.Full
 end_of NotARecord e = ⊥
 end_of OverALimit e = ⊥
 end_of BadBook e = ⊥
@@ -51,59 +54,73 @@ end_of BadHint e = ⊥
 end_of BadSegment e = ⊥
 end_of BadUse e = ⊥
 
-unfoldable pub Answers : Job → OutLayout → List ℕ → Layout → WorkLayout → List ℕ → List ℕ → PlaceEnd → Out State → Type 0
-Answers J ol W lay wl O K r (done st) = DoneAs J ol W lay wl O K r st
-Answers J ol W lay wl O K r (refused f) = end_of f r.end
+unfoldable pub Answers : Job → OutLayout → List ℕ → Layout → WorkLayout → List ℕ → List ℕ → Placed → Out State → Type 0
+Answers J ol W lay wl O K (Ok c) (done st) = DoneAs J ol W lay wl O K c st
+Answers J ol W lay wl O K (Err e) (refused f) = end_of f e
+Answers J ol W lay wl O K (Ok c) (refused f) = ⊥
+Answers J ol W lay wl O K (Err e) (done st) = ⊥
 
 -- the answer o; K₀ were the words of the work slice, of which the mapping alone is changed
-pub record Ends (J : Job) (ol : OutLayout) (W : List ℕ) (lay : Layout) (wl : WorkLayout) (K₀ O K : List ℕ) (r : PlaceEnd) (o : Out State) : Type 0 where
+pub record Ends (J : Job) (ol : OutLayout) (W : List ℕ) (lay : Layout) (wl : WorkLayout) (K₀ O K : List ℕ) (r : Placed) (o : Out State) : Type 0 where
   pub outside : Outside lay wl K₀ K
   pub answers : Answers J ol W lay wl O K r o
 
-pub ends_by : (J : Job) (ol : OutLayout) (W : List ℕ) (lay : Layout) (wl : WorkLayout) (K₀ O K : List ℕ) (r : PlaceEnd) (o o' : Out State) → o ≡ o' → Ends J ol W lay wl K₀ O K r o → Ends J ol W lay wl K₀ O K r o'
+pub ends_by : (J : Job) (ol : OutLayout) (W : List ℕ) (lay : Layout) (wl : WorkLayout) (K₀ O K : List ℕ) (r : Placed) (o o' : Out State) → o ≡ o' → Ends J ol W lay wl K₀ O K r o → Ends J ol W lay wl K₀ O K r o'
 ends_by J ol W lay wl K₀ O K r o o' e x = subst (λ (y : Out State). Ends J ol W lay wl K₀ O K r y) e x
 
 -- ---- the answers
 
-module _ (J : Job) (ol : OutLayout) (W : List ℕ) (lay : Layout) (wl : WorkLayout) (K₀ O K : List ℕ) (r : PlaceEnd) (out : Outside lay wl K₀ K) where
-  pub ends_done : (st : State) → DoneAs J ol W lay wl O K r st → Ends J ol W lay wl K₀ O K r (done st)
+module _ (J : Job) (ol : OutLayout) (W : List ℕ) (lay : Layout) (wl : WorkLayout) (K₀ O K : List ℕ) (r : Placed) (out : Outside lay wl K₀ K) where
+  pub ends_done : (c : Counts) (st : State) → r ≡ Ok c → DoneAs J ol W lay wl O K c st → Ends J ol W lay wl K₀ O K r (done st)
   unfolding Answers
-  ends_done st d = record { outside = out; answers = d }
+  ends_done c st e d = record { outside = out; answers = subst (λ (x : Placed). Answers J ol W lay wl O K x (done st)) (sym e) d }
 
-  pub ends_stopped : (s : Stop) → r.end ≡ ended.Stopped s → Ends J ol W lay wl K₀ O K r (refused (Stopped s))
+  pub ends_stopped : (s : Stop) → r ≡ Err (not_placed.Stopped s) → Ends J ol W lay wl K₀ O K r (refused (Stopped s))
   unfolding Answers
-  ends_stopped s e = record { outside = out; answers = e }
+  ends_stopped s e = record { outside = out; answers = subst (λ (x : Placed). Answers J ol W lay wl O K x (refused (Stopped s))) (sym e) refl }
 
-  pub ends_full : r.end ≡ ended.Full → Ends J ol W lay wl K₀ O K r (refused Full)
+  pub ends_full : r ≡ Err not_placed.Full → Ends J ol W lay wl K₀ O K r (refused Full)
   unfolding Answers
-  ends_full e = record { outside = out; answers = e }
+  ends_full e = record { outside = out; answers = subst (λ (x : Placed). Answers J ol W lay wl O K x (refused Full)) (sym e) refl }
 
   -- by the room: none, or the state
-  pub room_full : (m : Bool) (st : State) → m ≡ false → r.end ≡ ended.Full → Ends J ol W lay wl K₀ O K r (if_room m st)
+  pub room_full : (m : Bool) (st : State) → m ≡ false → r ≡ Err not_placed.Full → Ends J ol W lay wl K₀ O K r (if_room m st)
   unfolding if_room
   room_full false st em e = ends_full e
   room_full true st em e = absurd (let z : ◌≡◌ {A = ℕ} 0 1 = cc in omega arith)
 
-  pub room_done : (m : Bool) (st : State) → m ≡ true → DoneAs J ol W lay wl O K r st → Ends J ol W lay wl K₀ O K r (if_room m st)
+  pub room_done : (m : Bool) (c : Counts) (st : State) → m ≡ true → r ≡ Ok c → DoneAs J ol W lay wl O K c st → Ends J ol W lay wl K₀ O K r (if_room m st)
   unfolding if_room
-  room_done true st em d = ends_done st d
-  room_done false st em d = absurd (let z : ◌≡◌ {A = ℕ} 0 1 = cc in omega arith)
+  room_done true c st em e d = ends_done c st e d
+  room_done false c st em e d = absurd (let z : ◌≡◌ {A = ℕ} 0 1 = cc in omega arith)
 
   -- by the gate: a stop, or by the room
-  pub gate_stopped : (b : Bool) (s : Stop) (m : Bool) (st : State) → b ≡ true → r.end ≡ ended.Stopped s → Ends J ol W lay wl K₀ O K r (gate b s m st)
+  pub gate_stopped : (b : Bool) (s : Stop) (m : Bool) (st : State) → b ≡ true → r ≡ Err (not_placed.Stopped s) → Ends J ol W lay wl K₀ O K r (gate b s m st)
   unfolding gate
   gate_stopped true s m st eb e = ends_stopped s e
   gate_stopped false s m st eb e = absurd (let z : ◌≡◌ {A = ℕ} 0 1 = cc in omega arith)
 
-  pub gate_full : (b : Bool) (s : Stop) (m : Bool) (st : State) → b ≡ false → m ≡ false → r.end ≡ ended.Full → Ends J ol W lay wl K₀ O K r (gate b s m st)
+  pub gate_full : (b : Bool) (s : Stop) (m : Bool) (st : State) → b ≡ false → m ≡ false → r ≡ Err not_placed.Full → Ends J ol W lay wl K₀ O K r (gate b s m st)
   unfolding gate
   gate_full false s m st eb em e = room_full m st em e
   gate_full true s m st eb em e = absurd (let z : ◌≡◌ {A = ℕ} 0 1 = cc in omega arith)
 
-  pub gate_done : (b : Bool) (s : Stop) (m : Bool) (st : State) → b ≡ false → m ≡ true → DoneAs J ol W lay wl O K r st → Ends J ol W lay wl K₀ O K r (gate b s m st)
+  pub gate_done : (b : Bool) (s : Stop) (m : Bool) (c : Counts) (st : State) → b ≡ false → m ≡ true → r ≡ Ok c → DoneAs J ol W lay wl O K c st → Ends J ol W lay wl K₀ O K r (gate b s m st)
   unfolding gate
-  gate_done false s m st eb em d = room_done m st em d
-  gate_done true s m st eb em d = absurd (let z : ◌≡◌ {A = ℕ} 0 1 = cc in omega arith)
+  gate_done false s m c st eb em e d = room_done m c st em e d
+  gate_done true s m c st eb em e d = absurd (let z : ◌≡◌ {A = ℕ} 0 1 = cc in omega arith)
+
+-- placing that is done has left a state
+pub placed_state : (J : Job) (ol : OutLayout) (W : List ℕ) (lay : Layout) (wl : WorkLayout) (O K : List ℕ) (r : Placed) (o : Out State) (c : Counts) → Answers J ol W lay wl O K r o → r ≡ Ok c
+    → (st : State) × (o ≡ done st) × DoneAs J ol W lay wl O K c st
+unfolding Answers
+placed_state J ol W lay wl O K r (done st) c a e = (st, refl, subst (λ (x : Placed). Answers J ol W lay wl O K x (done st)) e a)
+placed_state J ol W lay wl O K r (refused f) c a e = absurd (subst (λ (x : Placed). Answers J ol W lay wl O K x (refused f)) e a)
+
+-- an end that is passed on
+pub err_kept : {A : Type 0} (r : Result A NotPlaced) (e : NotPlaced) → IsErrAnd r (λ x. x ≡ e) → r ≡ Err e
+err_kept (Ok a) e h = absurd h
+err_kept (Err x) e h = ap Err h
 
 -- ---- registers whose pieces can be weighed
 

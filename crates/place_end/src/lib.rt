@@ -1,20 +1,11 @@
-// How placing a register ends.
+// Why a register is not placed.
 #![tactic(auto)]
 
 use definition::Stop;
-use virt_regs::Counts;
 
-// A register is placed, there is a stop, or a table is full.
-#[derive(Clone, Copy)]
-pub enum Ended {
-    Done,
+// There is a stop, or a table is full.
+#[derive(Clone, Copy, PartialEq, Eq)]
+pub enum NotPlaced {
     Stopped(Stop),
     Full,
-}
-
-// How it ended, and the rows in use then.
-#[derive(Clone, Copy)]
-pub struct PlaceEnd {
-    pub end: Ended,
-    pub counts: Counts,
 }

@@ -37,11 +37,12 @@ walk_stop W at q a last i w h l e m =
     let t : ltb q (get_or W (at + i * 5 + 2) 0) ≡ true = lt-ltb q (get_or W (at + i * 5 + 2) 0) (omega arith) in
     sym (h ∙ ap (λ (k : ℕ). past_from W at q i k) n ∙ rw (t, past_from))
 
-pub walk_end : (W : List ℕ) (at q a last i : ℕ) → WalkOn W at q a last i → last ≤ i → i ≡ past_from W at q a (last - a)
+pub walk_end : (W : List ℕ) (at q a last i : ℕ) → WalkOn W at q a last i → last ≤ i → i ≤ last → last ≡ past_from W at q a (last - a)
 unfolding WalkOn past_from
-walk_end W at q a last i h l =
+walk_end W at q a last i h l m =
     let n : last - i ≡ 0 = omega arith in
-    sym (h ∙ ap (λ (k : ℕ). past_from W at q i k) n)
+    let e : i ≡ last = omega arith in
+    sym (h ∙ ap (λ (k : ℕ). past_from W at q i k) n ∙ e)
 
 -- ---- what it finds
 

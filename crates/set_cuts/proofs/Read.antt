@@ -1,20 +1,13 @@
 -- Each way through the functions of a cut. Assumes nothing.
 use mathlib.Core.Path.{◌≡◌, refl, sym, ap, ◌∙◌}
-use mathlib.Core.Bool.{Bool, true, false, cond}
+use mathlib.Core.Bool.{Bool, true, false}
 use mathlib.Core.List.{List}
 use Prim.Native.Nat.{ℕ, ◌+◌, ◌-◌, ◌*◌, ◌≤◌, ◌<◌}
 use native.Mathlib.Omega.{arith}
 use lib.Dec.{ltb, eqb}
-use lib.ListN.{length}
 use borrow.Author.Tests.{lt-ltb, le-ltb}
 use Rattle.definition.specs.declared.Inst.{Inst}
-use Rattle.definition.specs.declared.LiveRangePoint.{LiveRangePoint}
-use Rattle.definition.specs.declared.UseFlags.{UseFlags}
 use Rattle.definition.specs.declared.Hint.{Hint}
-use Rattle.definition.specs.Types.{point}
-use Rattle.definition.specs.Cuts.{uses_before}
-use Rattle.uses.specs.Rows.{uses_at}
-use Rattle.cuts.specs.Flags.{left_flags, right_flags}
 use Rattle.layout.specs.declared.Layout.{Layout}
 use Rattle.set_part.specs.declared.SetPart.{SetPart}
 use Rattle.set_part.specs.declared.PartSeg.{PartSeg}
@@ -22,25 +15,8 @@ use Rattle.set_part.specs.Part.{part_row, PartOk}
 use Rattle.set_part.proofs.Bounds.{bound_le_end}
 use Rattle.set_part.proofs.Alike.{row_first, row_end}
 use Rattle.set_cuts.specs.declared.Parts.{Parts}
-use Rattle.set_cuts.specs.Cut.{left_part, right_part, mid_use, first_past, cut_across, cut_between, cut_at, cut_part}
+use Rattle.set_cuts.specs.Cut.{first_past, cut_across, cut_between, cut_at, cut_part}
 use Rattle.set_cuts.proofs.Past.{past_first}
-
-pub left_read : (sp : SetPart) (k : ℕ) (t : LiveRangePoint) (f : UseFlags) (e : ℕ) (g : UseFlags) → g ≡ cond (eqb k sp.seg) f sp.flags
-    → record { seg = sp.seg; «from» = sp.«from»; flags = g; first = sp.first; last = k; to = t; tail = f; end = e } ≡ left_part sp k t f e
-unfolding left_part
-left_read sp k t f e g h = rw h
-
-pub across_read : (hs : List Hint) (W : List ℕ) (lay : Layout) (p : Inst) (sp : SetPart) (k : ℕ) (row : PartSeg) (n : ℕ) (f g : UseFlags) (l r : SetPart)
-    → n ≡ length (uses_before p (uses_at W (lay.uses.at + row.first * 6) (row.end - row.first))) → f ≡ left_flags hs p row.value row.«from» row.flags
-    → g ≡ right_flags hs p row.value row.to row.flags → l ≡ left_part sp k (point (4 * p.0)) f (row.first + n)
-    → r ≡ right_part sp k (point (4 * p.0)) g (row.first + n) → record { left = l; right = r } ≡ cut_across hs W lay p sp k row
-unfolding cut_across mid_use
-across_read hs W lay p sp k row n f g l r en ef eg el er = rw (el, er, ef, eg, en)
-
-pub between_read : (sp : SetPart) (k : ℕ) (o row : PartSeg) (l r : SetPart) → l ≡ left_part sp (k - 1) o.to o.flags o.end
-    → r ≡ right_part sp k row.«from» row.flags row.first → record { left = l; right = r } ≡ cut_between sp k o row
-unfolding cut_between
-between_read sp k o row l r el er = rw (el, er)
 
 module _ (hs : List Hint) (W : List ℕ) (lay : Layout) (p : Inst) (sp : SetPart) (k : ℕ) (row : PartSeg) (r : Parts)
     (ek : k ≡ first_past W lay sp (4 * p.0)) (er : row ≡ part_row W lay sp k) where

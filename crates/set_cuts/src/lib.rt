@@ -12,7 +12,7 @@ ghost use Rattle.set_cuts.specs.Cut.{first_past, left_part, right_part, cut_acro
 
 use definition::{Inst, LiveRangePoint, UseFlags};
 use layout::Layout;
-use set_part::{PartSeg, SetPart};
+use set_part::{PartSeg, SetPart, at_segment};
 
 // The two sides of a cut.
 #[derive(Clone, Copy)]
@@ -26,42 +26,25 @@ fn first_past(job: &[u8], lay: Layout, sp: SetPart, q: u32) -> usize
     requires { Fits (word_count job.now) lay × (sp.seg ≤ sp.last) × (sp.last < lay.segments.n) }
     ensures { (result ≡ first_past (words_of job.now) lay sp q) × (sp.seg ≤ result) × (result ≤ sp.last) }
 {
-    let at = lay.segments.at;
-    let last = sp.last;
-    let mut i = sp.seg;
-    while i < last {
-        if q < words::word_at(job, at + i * 5 + 2) {
+    for i in sp.seg..sp.last {
+        if q < words::word_at(job, lay.segments.at + i * 5 + 2) {
             return i;
         }
-        i += 1;
     }
-    i
-}
-
-// The first segment's flags in a part up to segment k, which has f.
-fn first_flags(sp: SetPart, k: usize, f: UseFlags) -> UseFlags
-    ensures { result ≡ cond (eqb k sp.seg) f sp.flags }
-{
-    if k == sp.seg {
-        return f;
-    }
-    sp.flags
+    sp.last
 }
 
 // The part up to segment k, which ends at `to`, has `tail` as its flags, and whose uses end before number `end`.
 fn left_part(sp: SetPart, k: usize, to: LiveRangePoint, tail: UseFlags, end: usize) -> SetPart
     ensures { result ≡ left_part sp k to tail end }
 {
-    let from = sp.from;
     SetPart {
-        seg: sp.seg,
-        from,
-        flags: first_flags(sp, k, tail),
-        first: sp.first,
+        flags: at_segment(k, sp.seg, tail, sp.flags),
         last: k,
         to,
         tail,
         end,
+        ..sp
     }
 }
 
@@ -69,17 +52,12 @@ fn left_part(sp: SetPart, k: usize, to: LiveRangePoint, tail: UseFlags, end: usi
 fn right_part(sp: SetPart, k: usize, from: LiveRangePoint, flags: UseFlags, first: usize) -> SetPart
     ensures { result ≡ right_part sp k «from» flags first }
 {
-    let to = sp.to;
-    let tail = sp.tail;
     SetPart {
         seg: k,
         from,
         flags,
         first,
-        last: sp.last,
-        to,
-        tail,
-        end: sp.end,
+        ..sp
     }
 }
 
@@ -91,16 +69,11 @@ fn cut_across(job: &[u8], lay: Layout, sp: SetPart, p: Inst, k: usize, row: Part
 {
     let at = lay.hints.at;
     let n = lay.hints.n;
-    let uses = lay.uses.at;
-    let value = row.value;
-    let from = row.from;
-    let to = row.to;
-    let flags = row.flags;
     let first = row.first;
     let here = LiveRangePoint(4 * p.0);
-    let mid = first + uses::count_before(job, uses + first * 6, row.end - first, p);
-    let before = cuts::left_flags(job, at, n, value, from, p, flags);
-    let behind = cuts::right_flags(job, at, n, value, to, p, flags);
+    let mid = first + uses::count_before(job, lay.uses.at + first * 6, row.end - first, p);
+    let before = cuts::left_flags(job, at, n, row.value, row.from, p, row.flags);
+    let behind = cuts::right_flags(job, at, n, row.value, row.to, p, row.flags);
     Parts {
         left: left_part(sp, k, here, before, mid),
         right: right_part(sp, k, here, behind, mid),
@@ -112,13 +85,9 @@ fn cut_between(sp: SetPart, k: usize, old: PartSeg, row: PartSeg) -> Parts
     requires { 1 ≤ k }
     ensures { result ≡ cut_between sp k old row }
 {
-    let to = old.to;
-    let before = old.flags;
-    let from = row.from;
-    let behind = row.flags;
     Parts {
-        left: left_part(sp, k - 1, to, before, old.end),
-        right: right_part(sp, k, from, behind, row.first),
+        left: left_part(sp, k - 1, old.to, old.flags, old.end),
+        right: right_part(sp, k, row.from, row.flags, row.first),
     }
 }
 

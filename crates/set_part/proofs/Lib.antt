@@ -1,5 +1,4 @@
 pub mod Bounds
-pub mod Read
 pub mod Uses
 pub mod Alike
 pub mod Whole

@@ -4,10 +4,9 @@ use mathlib.Core.List.{List, ◌++◌}
 use Prim.Native.Nat.{ℕ, zero, suc, ◌+◌, ◌-◌, ◌≤◌, ◌<◌}
 use native.Mathlib.Nat.{add-zero}
 use native.Mathlib.Omega.{arith}
-use lib.ListN.{length, get_or}
+use lib.ListN.{length}
 use Rattle.rows.specs.Tab.{tab, length_tab, tab_append, get_or_tab}
 use Rattle.definition.specs.declared.Use.{Use}
-use Rattle.definition.specs.Types.{Segment}
 use Rattle.definition.specs.Admit.{no_use, use_at}
 use Rattle.definition.specs.Place.{uses_of}
 use Rattle.layout.specs.declared.Layout.{Layout}
@@ -56,8 +55,3 @@ part_use K marks W lay sp n ok h =
 pub part_length : (K : List ℕ) (marks : ℕ) (W : List ℕ) (lay : Layout) (sp : SetPart) → length (part_segs K marks W lay sp) ≡ sp.last + 1 - sp.seg
 unfolding part_segs
 part_length K marks W lay sp = length_tab (λ i. seg_by (marked_use K marks W lay) (part_row W lay sp i)) sp.seg (sp.last + 1 - sp.seg)
-
-pub part_nth : (K : List ℕ) (marks : ℕ) (W : List ℕ) (lay : Layout) (sp : SetPart) (i : ℕ) (d : Segment) → sp.seg + i ≤ sp.last
-    → get_or (part_segs K marks W lay sp) i d ≡ seg_by (marked_use K marks W lay) (part_row W lay sp (sp.seg + i))
-unfolding part_segs
-part_nth K marks W lay sp i d h = get_or_tab (λ j. seg_by (marked_use K marks W lay) (part_row W lay sp j)) sp.seg (sp.last + 1 - sp.seg) i d (omega arith)

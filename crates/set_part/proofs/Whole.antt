@@ -5,9 +5,9 @@ use mathlib.Core.List.{List}
 use Prim.Native.Nat.{ℕ, ◌+◌, ◌-◌, ◌*◌, ◌≤◌, ◌<◌}
 use native.Mathlib.Omega.{arith}
 use lib.Dec.{eqb, ltb}
-use lib.ListN.{get_or, take, drop}
+use lib.ListN.{get_or}
 use borrow.Author.Tests.{lt-ltb, eqb-true, eqb-false}
-use Rattle.rows.specs.Tab.{tab, tab_ext, tab_drop}
+use Rattle.rows.specs.Tab.{tab, tab_ext}
 use Rattle.rows.specs.RowsAt.{rows_at}
 use Rattle.definition.specs.declared.Use.{Use}
 use Rattle.uses.specs.Rows.{use_row}
@@ -115,8 +115,3 @@ module _ (W : List ℕ) (lay : Layout) where
             clear j
             (omega (arith, first_le_bound W lay (whole_part W lay a b) ok i p (omega arith), own_bound i p q))
             (omega (arith, bound_le_end W lay (whole_part W lay a b) ok (i + 1) (omega arith) (omega arith), own_next i p q)))
-
-    -- as a part of the job's list
-    pub whole_sublist : (K : List ℕ) (marks : ℕ) → CountsRise W lay → ((j : ℕ) → (seg_at W lay a).first ≤ j → j < next_use W lay (b - 1) → get_or K (marks + j) 0 ≡ 0)
-        → part_segs K marks W lay (whole_part W lay a b) ≡ take (b - a) (drop a (tab (λ i. segment_of use_row W lay i) 0 lay.segments.n))
-    whole_sublist K marks cr clear = whole_segs K marks cr clear ∙ tab_drop (λ i. segment_of use_row W lay i) a (b - a) lay.segments.n (omega arith)

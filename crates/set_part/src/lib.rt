@@ -45,41 +45,14 @@ pub fn use_bound(job: &[u8], lay: Layout, sp: SetPart, i: usize) -> usize
     if sp.last < i {
         return sp.end;
     }
-    let at = lay.segments.at;
-    words::word_at(job, at + i * 5 + 4) as usize
+    words::word_at(job, lay.segments.at + i * 5 + 4) as usize
 }
 
-// Where segment i begins, if it begins at q in the job.
-fn from_in(sp: SetPart, i: usize, q: LiveRangePoint) -> LiveRangePoint
-    ensures { result ≡ cond (eqb i sp.seg) sp.«from» q }
+// What segment i has: `own` if it is segment k, else what it has in the job.
+pub fn at_segment<T: Copy>(i: usize, k: usize, own: T, other: T) -> T
+    ensures { result ≡ cond (eqb i k) own other }
 {
-    if i == sp.seg {
-        return sp.from;
-    }
-    q
-}
-
-// Where segment i ends, if it ends at q in the job.
-fn to_in(sp: SetPart, i: usize, q: LiveRangePoint) -> LiveRangePoint
-    ensures { result ≡ cond (eqb i sp.last) sp.to q }
-{
-    if i == sp.last {
-        return sp.to;
-    }
-    q
-}
-
-// The flags of segment i, if it has f in the job.
-fn flags_in(sp: SetPart, i: usize, f: UseFlags) -> UseFlags
-    ensures { result ≡ cond (eqb i sp.seg) sp.flags (cond (eqb i sp.last) sp.tail f) }
-{
-    if i == sp.seg {
-        return sp.flags;
-    }
-    if i == sp.last {
-        return sp.tail;
-    }
-    f
+    if i == k { own } else { other }
 }
 
 // Segment i of a part.
@@ -87,17 +60,13 @@ pub fn part_seg(job: &[u8], lay: Layout, sp: SetPart, i: usize) -> PartSeg
     requires { Fits (word_count job.now) lay × (sp.last < lay.segments.n) × (i ≤ sp.last) }
     ensures { result ≡ part_row (words_of job.now) lay sp i }
 {
-    let at = lay.segments.at;
-    let row = layout::seg_at(job, at + i * 5);
-    let value = row.value;
-    let from = row.from;
-    let to = row.to;
-    let flags = row.flags;
+    let row = layout::seg_at(job, lay.segments.at + i * 5);
+    let flags = at_segment(i, sp.last, sp.tail, row.flags);
     PartSeg {
-        value,
-        from: from_in(sp, i, from),
-        to: to_in(sp, i, to),
-        flags: flags_in(sp, i, flags),
+        value: row.value,
+        from: at_segment(i, sp.seg, sp.from, row.from),
+        to: at_segment(i, sp.last, sp.to, row.to),
+        flags: at_segment(i, sp.seg, sp.flags, flags),
         first: use_bound(job, lay, sp, i),
         end: use_bound(job, lay, sp, i + 1),
     }
@@ -110,19 +79,15 @@ pub fn whole_part(job: &[u8], lay: Layout, a: usize, b: usize) -> SetPart
 {
     let at = lay.segments.at;
     let head = layout::seg_at(job, at + a * 5);
-    let from = head.from;
-    let flags = head.flags;
     let behind = layout::seg_at(job, at + (b - 1) * 5);
-    let to = behind.to;
-    let tail = behind.flags;
     SetPart {
         seg: a,
-        from,
-        flags,
+        from: head.from,
+        flags: head.flags,
         first: head.first as usize,
         last: b - 1,
-        to,
-        tail,
+        to: behind.to,
+        tail: behind.flags,
         end: layout::next_use(job, lay, b - 1) as usize,
     }
 }

@@ -1,5 +1,5 @@
 -- The set and the top class of a segment off the job's tables, and the runs of segments of one set. Assumes nothing.
-use mathlib.Core.Path.{◌≡◌, refl, sym, ap, ◌∙◌}
+use mathlib.Core.Path.{◌≡◌, refl, sym, ap, subst, ◌∙◌}
 use mathlib.Core.List.{List, ◌∷◌}
 use Prim.Native.Nat.{ℕ, ◌+◌, ◌*◌, ◌≤◌, ◌<◌}
 use native.Mathlib.Nat.{mul-one}
@@ -87,6 +87,12 @@ module _ (W : List ℕ) (lay : Layout) where
   key_is m = ap (λ (v : Value). (set_of (job_of W lay) v).0) (seg_value W lay m)
 
   module _ (a : ℕ) where
+    -- the run of segment a's set ends before segment e
+    abbrev pub SetEnd : ℕ → Type 0
+    SetEnd e =
+        (a < e) × (e ≤ lay.segments.n)
+        × (runs (same_set (job_of W lay)) (segs_from W lay a lay.segments.n) ≡ segs_from W lay a e ∷ runs (same_set (job_of W lay)) (segs_from W lay e lay.segments.n))
+
     pub set_start : (x : ValueSet) → x ≡ set_of (job_of W lay) (seg_at W lay a).value → a < lay.segments.n → Running set_number a lay.segments.n x.0 (a + 1)
     set_start x h l = running_start set_number a lay.segments.n x.0 (ap (λ (y : ValueSet). y.0) h) l
 
@@ -94,12 +100,12 @@ module _ (W : List ℕ) (lay : Layout) where
       pub set_next : (x : ValueSet) → x ≡ set_of (job_of W lay) (seg_at W lay e).value → x.0 ≡ p → e < lay.segments.n → Running set_number a lay.segments.n p (e + 1)
       set_next x h q l = running_next set_number a lay.segments.n p e v x.0 (ap (λ (y : ValueSet). y.0) h) q l
 
-      pub set_stop : (x : ValueSet) → x ≡ set_of (job_of W lay) (seg_at W lay e).value → (x.0 ≡ p → ⊥)
-          → (a < e) × (e ≤ lay.segments.n) × (runs (same_set (job_of W lay)) (segs_from W lay a lay.segments.n) ≡ segs_from W lay a e ∷ runs (same_set (job_of W lay)) (segs_from W lay e lay.segments.n))
+      pub set_stop : (x : ValueSet) → x ≡ set_of (job_of W lay) (seg_at W lay e).value → (x.0 ≡ p → ⊥) → SetEnd e
       unfolding segs_from
       set_stop x h q = running_stop set_number a lay.segments.n p e v set_key (segment_of use_row W lay) key_is x.0 (ap (λ (y : ValueSet). y.0) h) q
 
-      pub set_done : lay.segments.n ≤ e
-          → (a < e) × (e ≤ lay.segments.n) × (runs (same_set (job_of W lay)) (segs_from W lay a lay.segments.n) ≡ segs_from W lay a e ∷ runs (same_set (job_of W lay)) (segs_from W lay e lay.segments.n))
+      pub set_done : lay.segments.n ≤ e → SetEnd lay.segments.n
       unfolding segs_from
-      set_done l = running_end set_number a lay.segments.n p e v set_key (segment_of use_row W lay) key_is l
+      set_done l =
+          let z : e ≡ lay.segments.n = omega (arith, v.high) in
+          subst SetEnd z (running_end set_number a lay.segments.n p e v set_key (segment_of use_row W lay) key_is l)

@@ -28,13 +28,11 @@ fn bank_of(job: &[u8], lay: Layout, v: Value) -> RegBank
     ensures { result ≡ (value_at (job_of (words_of job.now) lay) v).bank }
 {
     let k = v.0 as usize;
-    let n = lay.values.n;
-    let at = lay.values.at;
-    if k < n {
-        let d = coalescing::value_at(job, at + k * 3);
-        return d.bank;
+    if k < lay.values.n {
+        coalescing::value_at(job, lay.values.at + k * 3).bank
+    } else {
+        RegBank(0)
     }
-    RegBank(0)
 }
 
 // The top class of bank b; that of an unknown bank is 0.
@@ -43,12 +41,11 @@ fn top_of(job: &[u8], lay: Layout, b: RegBank) -> RegClass
     ensures { result ≡ get_or (job_of (words_of job.now) lay).banks b.0 (cls 0) }
 {
     let k = b.0 as usize;
-    let n = lay.banks.n;
-    let at = lay.banks.at;
-    if k < n {
-        return reginfo::bank_at(job, at + k);
+    if k < lay.banks.n {
+        reginfo::bank_at(job, lay.banks.at + k)
+    } else {
+        RegClass(0)
     }
-    RegClass(0)
 }
 
 // The top class of the bank of segment i's value.
@@ -57,8 +54,7 @@ pub fn top_at(job: &[u8], lay: Layout, i: usize) -> RegClass
     ensures { result ≡ top_of (job_of (words_of job.now) lay) (seg_at (words_of job.now) lay i).value }
 {
     let s = layout::seg_at(job, lay.segments.at + i * 5);
-    let b = bank_of(job, lay, s.value);
-    top_of(job, lay, b)
+    top_of(job, lay, bank_of(job, lay, s.value))
 }
 
 // The end of the run of segments with the set of segment a.
@@ -68,13 +64,10 @@ pub fn set_end(job: &[u8], lay: Layout, a: usize) -> usize
 {
     let n = lay.segments.n;
     let first = set_at(job, lay, a);
-    let mut e = a + 1;
-    while e < n {
-        let x = set_at(job, lay, e);
-        if x.0 != first.0 {
+    for e in a + 1..n {
+        if set_at(job, lay, e) != first {
             return e;
         }
-        e += 1;
     }
-    e
+    n
 }

@@ -38,11 +38,12 @@ walk_stop W at c a last i w h l e m =
     let t : ltb c (get_or W (at + (i + 1) * 5 + 4) 0) ≡ true = lt-ltb c (get_or W (at + (i + 1) * 5 + 4) 0) (omega arith) in
     sym (h ∙ ap (λ (k : ℕ). holder_from W at c i k) n ∙ rw (t, holder_from))
 
-pub walk_end : (W : List ℕ) (at c a last i : ℕ) → WalkOn W at c a last i → last ≤ i → i ≡ holder_from W at c a (last - a)
+pub walk_end : (W : List ℕ) (at c a last i : ℕ) → WalkOn W at c a last i → last ≤ i → i ≤ last → last ≡ holder_from W at c a (last - a)
 unfolding WalkOn holder_from
-walk_end W at c a last i h l =
+walk_end W at c a last i h l m =
     let n : last - i ≡ 0 = omega arith in
-    sym (h ∙ ap (λ (k : ℕ). holder_from W at c i k) n)
+    let e : i ≡ last = omega arith in
+    sym (h ∙ ap (λ (k : ℕ). holder_from W at c i k) n ∙ e)
 
 -- ---- what it finds
 

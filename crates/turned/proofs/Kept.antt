@@ -1,19 +1,16 @@
 -- What is kept of a use that is turned. Assumes nothing.
 use mathlib.Core.Path.{◌≡◌, refl, sym, ap, ◌∙◌}
-use mathlib.Core.Bool.{Bool, true, false, cond}
 use mathlib.Core.Option.{Option, none, some}
 use mathlib.Core.List.{List, ◌∷◌}
 use Prim.Native.Nat.{ℕ, zero, suc, ◌+◌, ◌-◌, ◌≤◌, ◌<◌}
 use native.Mathlib.Nat.{add-zero}
 use native.Mathlib.Omega.{arith}
-use lib.Dec.{eqb}
 use lib.ListN.{length, get_or}
 use borrow.Author.Tests.{lt-ltb, le-ltb}
 use Rattle.rows.specs.Tab.{tab, get_or_tab}
 use Rattle.definition.specs.declared.Inst.{Inst}
 use Rattle.definition.specs.declared.Use.{Use}
 use Rattle.definition.specs.Types.{Segment, Turned}
-use Rattle.definition.specs.Uses.{param_of}
 use Rattle.definition.specs.Admit.{no_use}
 use Rattle.definition.specs.Build.{param_at, turned_of, turned_at}
 use Rattle.layout.specs.declared.Layout.{Layout}
@@ -22,7 +19,7 @@ use Rattle.set_part.specs.declared.PartSeg.{PartSeg}
 use Rattle.set_part.specs.Part.{use_bound, part_row, marked_use, seg_by, part_segs, PartOk}
 use Rattle.set_part.proofs.Bounds.{bound_first, bounds_rise}
 use Rattle.set_part.proofs.Alike.{row_first, row_end}
-use Rattle.turned.specs.Turned.{is_param, param_d, param_here, holder, turned_in, turned_row, row_turned}
+use Rattle.turned.specs.Turned.{coded, param_by, param_here, holder, turned_in, turned_row, row_turned}
 use Rattle.turned.proofs.Holder.{Within, holder_holds}
 use Rattle.turned.proofs.Marks.{seg_uses}
 
@@ -42,15 +39,10 @@ unfolding param_at param_here
 param_first f p a zero h = absurd (omega arith)
 param_first f p a (suc k) h = refl
 
--- the two fields that stand for it
-fields_are : (p : Inst) (u : Use) → cond (is_param (param_here p u)) (some (param_d (param_of u.kind))) none ≡ param_here p u
-unfolding param_here
-fields_are p u = go (eqb u.pos.0 p.0) (param_of u.kind)
-  where
-    go : (t : Bool) (o : Option ℕ) → cond (is_param (cond t o none)) (some (param_d o)) none ≡ cond t o none
-    go true none = refl
-    go true (some q) = refl
-    go false o = refl
+-- what the code's parameter stands for
+stands_for : (o : Option ℕ) → param_by (coded o) ≡ o
+stands_for none = refl
+stands_for (some q) = refl
 
 -- of use number c, by a function that gives the uses, in the segment r
 abbrev kept_of : (ℕ → Use) → PartSeg → ℕ → Turned
@@ -112,4 +104,4 @@ kept_part K marks W lay sp n ok h =
     let f = marked_use K marks W lay in
     let r = part_row W lay sp (holder W lay sp c) in
     kept_at W lay sp ok f c (holder W lay sp c) n (holder_holds W lay sp c h ok.order (omega arith)) (ap (λ (k : ℕ). k + n) (bound_first W lay sp))
-    ∙ ap (λ (o : Option ℕ). record { value = r.value; use' = f c; param = o }) (sym (fields_are (f c).pos (f r.first)))
+    ∙ ap (λ (o : Option ℕ). record { value = r.value; use' = f c; param = o }) (sym (stands_for (param_here (f c).pos (f r.first))))

@@ -18,7 +18,7 @@ use Rattle.set_part.specs.declared.SetPart.{SetPart}
 use Rattle.set_part.specs.declared.PartSeg.{PartSeg}
 use Rattle.set_part.specs.Part.{use_bound, part_row, marked_use, seg_by, part_segs, PartOk}
 use Rattle.set_part.proofs.Bounds.{bound_first, bound_end}
-use Rattle.set_part.proofs.Alike.{seg_alike, segs_alike, part_alike, row_first, row_end}
+use Rattle.set_part.proofs.Alike.{seg_alike, segs_alike, row_first, row_end}
 
 -- ---- one mark more
 
@@ -39,11 +39,6 @@ mark_here K marks W lay c h = rw (get_or-set_same K (marks + c) 1 0 h) (go (eqb 
 pub mark_other : (K : List ℕ) (marks : ℕ) (W : List ℕ) (lay : Layout) (c x j : ℕ) → (j ≡ c → ⊥) → marked_use (set K (marks + c) x) marks W lay j ≡ marked_use K marks W lay j
 unfolding marked_use
 mark_other K marks W lay c x j h = rw (get_or-set_other K (marks + c) (marks + j) x 0 (λ e. h (omega arith)))
-
--- a part whose uses do not have number c
-pub mark_outside : (K : List ℕ) (marks : ℕ) (W : List ℕ) (lay : Layout) (sp : SetPart) (c x : ℕ) → PartOk W lay sp → ((j : ℕ) → sp.first ≤ j → j < sp.end → j ≡ c → ⊥)
-    → part_segs (set K (marks + c) x) marks W lay sp ≡ part_segs K marks W lay sp
-mark_outside K marks W lay sp c x ok h = part_alike (set K (marks + c) x) K marks W lay sp ok (λ j a b. mark_other K marks W lay c x j (h j a b))
 
 -- ---- turning in a list of segments
 

@@ -1,15 +1,13 @@
 -- Each way through the functions of turned uses. Assumes nothing.
 use mathlib.Core.Path.{◌≡◌, sym, ap, ◌∙◌}
-use mathlib.Core.Bool.{Bool, false}
+use mathlib.Core.Bool.{false}
 use mathlib.Core.List.{List}
-use Prim.Native.Nat.{ℕ, ◌+◌, ◌-◌, ◌*◌, ◌≤◌, ◌<◌}
+use Prim.Native.Nat.{ℕ, ◌+◌, ◌*◌, ◌≤◌, ◌<◌}
 use native.Mathlib.Omega.{arith}
 use lib.Dec.{eqb}
 use lib.ListN.{get_or}
-use borrow.Author.Tests.{eq-eqb, ne_eqb}
-use Rattle.definition.specs.declared.Inst.{Inst}
+use borrow.Author.Tests.{ne_eqb}
 use Rattle.definition.specs.declared.Use.{Use}
-use Rattle.definition.specs.Uses.{param_of}
 use Rattle.definition.specs.Build.{turned_use}
 use Rattle.uses.specs.Rows.{use_row}
 use Rattle.layout.specs.declared.Layout.{Layout}
@@ -17,7 +15,7 @@ use Rattle.set_part.specs.declared.SetPart.{SetPart}
 use Rattle.set_part.specs.declared.PartSeg.{PartSeg}
 use Rattle.set_part.specs.Part.{part_row, marked_use, PartOk}
 use Rattle.set_part.proofs.Alike.{row_first}
-use Rattle.turned.specs.Turned.{is_param, param_d, param_here, holder, turned_in, turned_row}
+use Rattle.turned.specs.Turned.{holder}
 use Rattle.turned.proofs.Holder.{holder_holds}
 
 -- a use under its mark
@@ -29,23 +27,6 @@ module _ (K : List ℕ) (marks : ℕ) (W : List ℕ) (lay : Layout) (n : ℕ) (u
   pub turned_read : (w ≡ 0 → ⊥) → turned_use u ≡ marked_use K marks W lay n
   unfolding marked_use
   turned_read z = let q : eqb (get_or K (marks + n) 0) 0 ≡ false = ne_eqb (get_or K (marks + n) 0) 0 (λ e. z (ew ∙ e)) in rw q (ap turned_use eu)
-
--- whether a use is a BlockparamIn at p
-module _ (p : Inst) (u : Use) where
-  pub elsewhere_read : (u.pos.0 ≡ p.0 → ⊥) → false ≡ is_param (param_here p u)
-  unfolding param_here
-  elsewhere_read h = rw (ne_eqb u.pos.0 p.0 h)
-
-  pub here_read : (x : Bool) → u.pos.0 ≡ p.0 → x ≡ is_param (param_of u.kind) → x ≡ is_param (param_here p u)
-  unfolding param_here
-  here_read x e h = rw (eq-eqb u.pos.0 p.0 e) h
-
--- the row of a turned use
-pub row_kept : (K : List ℕ) (marks : ℕ) (W : List ℕ) (lay : Layout) (sp : SetPart) (n k : ℕ) (r : PartSeg) (u head : Use) (x : Bool) (y : ℕ)
-    → k ≡ holder W lay sp (sp.first + n) → r ≡ part_row W lay sp k → u ≡ marked_use K marks W lay (sp.first + n) → head ≡ marked_use K marks W lay r.first
-    → x ≡ is_param (param_here u.pos head) → y ≡ param_d (param_of head.kind) → record { value = r.value; number = sp.first + n; has_param = x; param = y } ≡ turned_row K marks W lay sp n
-unfolding turned_row turned_in
-row_kept K marks W lay sp n k r u head x y ek er eu eh ex ey = rw (ex, ey, eu, eh, er, ek)
 
 -- the first use of the segment that holds use number c is a use of the job
 pub head_within : (W : List ℕ) (lay : Layout) (sp : SetPart) (c k : ℕ) (r : PartSeg) → PartOk W lay sp → sp.first ≤ c → c < sp.end → k ≡ holder W lay sp c → r ≡ part_row W lay sp k

@@ -1,5 +1,6 @@
 -- What is kept of a use that is turned, read off a working part. Assumes nothing.
-use Rattle.std.specs.Prelude.{ℕ, zero, suc, ◌+◌, ◌-◌, ◌*◌, Bool, true, false, cond, List, eqb, ltb}
+use Rattle.std.specs.Prelude as code
+use Rattle.std.specs.Prelude.{ℕ, zero, suc, ◌+◌, ◌-◌, ◌*◌, true, false, cond, List, eqb, ltb, None, Some}
 use Rattle.std.proofs.Math.Option.{Option, none, some}
 use Rattle.definition.specs.declared.Inst.{Inst}
 use Rattle.definition.specs.declared.Use.{Use}
@@ -12,14 +13,14 @@ use Rattle.set_part.specs.declared.PartSeg.{PartSeg}
 use Rattle.set_part.specs.Part.{part_row, marked_use}
 use Rattle.turned.specs.declared.TurnedRow.{TurnedRow}
 
--- whether there is a parameter, and which; 0 where there is none
-abbrev pub is_param : Option ℕ → Bool
-is_param none = false
-is_param (some q) = true
+-- a parameter as the code has it, and the one that the code's stands for
+abbrev pub coded : Option ℕ → code.Option ℕ
+coded none = None
+coded (some q) = Some q
 
-abbrev pub param_d : Option ℕ → ℕ
-param_d none = 0
-param_d (some q) = q
+abbrev pub param_by : code.Option ℕ → Option ℕ
+param_by None = none
+param_by (Some q) = some q
 
 -- the block parameter where a list begins with u, if u is a BlockparamIn at p
 unfoldable pub param_here : Inst → Use → Option ℕ
@@ -36,14 +37,13 @@ unfoldable pub holder : List ℕ → Layout → SetPart → ℕ → ℕ
 unfolding holder_from
 holder W lay sp c = holder_from W lay.segments.at c sp.seg (sp.last - sp.seg)
 
--- of use number c in the segment r; `param` is that of the segment's first use wherever it stands
+-- of use number c in the segment r
 unfoldable pub turned_in : List ℕ → ℕ → List ℕ → Layout → PartSeg → ℕ → TurnedRow
 unfolding marked_use param_here
 turned_in K marks W lay r c = record {
   value = r.value;
   number = c;
-  has_param = is_param (param_here (marked_use K marks W lay c).pos (marked_use K marks W lay r.first));
-  param = param_d (param_of (marked_use K marks W lay r.first).kind);
+  param = coded (param_here (marked_use K marks W lay c).pos (marked_use K marks W lay r.first));
 }
 
 -- of the use at place n of a part
@@ -54,4 +54,4 @@ turned_row K marks W lay sp n = turned_in K marks W lay (part_row W lay sp (hold
 -- the turned use that a row stands for
 unfoldable pub row_turned : List ℕ → ℕ → List ℕ → Layout → TurnedRow → Turned
 unfolding marked_use
-row_turned K marks W lay t = record { value = t.value; use' = marked_use K marks W lay t.number; param = cond t.has_param (some t.param) none }
+row_turned K marks W lay t = record { value = t.value; use' = marked_use K marks W lay t.number; param = param_by t.param }

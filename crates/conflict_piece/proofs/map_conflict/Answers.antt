@@ -1,39 +1,31 @@
 use mathlib.Core.Path.{refl, ◌∙◌}
-use Prim.Native.Nat.{◌-◌}
 use native.Mathlib.Omega.{arith}
 use Rattle.part_maps.proofs.Going.{run_start, run_outside, run_next, run_stop, run_end, ready_run}
 use Rattle.conflict_piece.proofs.Going.{row_kept, known_kept, backed_row, maps_conflict}
 use Rattle.conflict_piece.proofs.map_conflict.Goals as goal
 
 pub loop-i-init : goal.loop-i-init
-loop-i-init c = (run_start _ _ _ _ _ _ _ _, refl, omega arith)
+loop-i-init c = (run_start _ _ _ _ _ _ _ _, refl)
 
 pub turned_use-u-requires : goal.turned_use-u-requires
 turned_use-u-requires c = let t = c.loop-i-test.true in
     let o = run_outside _ _ _ _ _ _ _ _ _ _ c.loop-i.invariant.0 in
-    (c.requires.0.fits, omega (arith, t, c.requires.2.within, c.loop-i.invariant.1), known_kept _ _ _ _ o c.requires.1 _ _ _ _ c.requires.2 c.loop-i.invariant.2 t)
+    (c.requires.0.fits, omega (arith, t, c.requires.2.within, c.loop-i.invariant.1), known_kept _ _ _ _ o c.requires.1 _ _ _ _ c.requires.2 (omega arith) t)
 
 pub map_use-requires : goal.map_use-requires
 map_use-requires c = let o = run_outside _ _ _ _ _ _ _ _ _ _ c.loop-i.invariant.0 in
     let r = ready_run _ _ _ _ _ _ _ _ _ _ _ c.loop-i.invariant.0 c.requires.1 c.loop-i.invariant.1 c.requires.0 in
-    (r, backed_row _ _ _ _ _ _ _ _ r c.requires.4 (known_kept _ _ _ _ o c.requires.1 _ _ _ _ c.requires.2 c.loop-i.invariant.2 c.loop-i-test.true) c.turned_use-u.ensures, c.requires.3)
-
-pub shape_of-work-then-not-map_use : goal.shape_of-work-then-not-map_use
-shape_of-work-then-not-map_use c = omega (arith, c.loop-i.invariant.1, c.map_use)
+    (r, backed_row _ _ _ _ _ _ _ _ r c.requires.4 (known_kept _ _ _ _ o c.requires.1 _ _ _ _ c.requires.2 (omega arith) c.loop-i-test.true) c.turned_use-u.ensures, c.requires.3)
 
 pub returns-then-not-map_use : goal.returns-then-not-map_use
 returns-then-not-map_use c = let o = run_outside _ _ _ _ _ _ _ _ _ _ c.loop-i.invariant.0 in
     maps_conflict _ _ _ _ _ _ _ _ _
     (run_stop _ _ _ _ _ _ _ _ _ _ c.loop-i.invariant.0 c.loop-i-test.true _ (c.turned_use-u.ensures ∙ row_kept _ _ _ _ o c.requires.1 _ _) _ _ c.map_use.ensures c.if-not-map_use.true-raw)
 
-pub overflow_add-i : goal.overflow_add-i
-overflow_add-i c = omega (arith, c.loop-i-test.true, c.ranges)
-
 pub loop-i-preserved : goal.loop-i-preserved
 loop-i-preserved c = let o = run_outside _ _ _ _ _ _ _ _ _ _ c.loop-i.invariant.0 in (
   run_next _ _ _ _ _ _ _ _ _ _ c.loop-i.invariant.0 c.loop-i-test.true _ (c.turned_use-u.ensures ∙ row_kept _ _ _ _ o c.requires.1 _ _) _ _ c.map_use.ensures c.if-not-map_use.false-raw,
   omega (arith, c.loop-i.invariant.1, c.map_use),
-  omega (arith, c.loop-i.invariant.2),
 )
 
 pub returns : goal.returns

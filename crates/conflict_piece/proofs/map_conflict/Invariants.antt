@@ -1,5 +1,4 @@
 use mathlib.Core.Path.{◌≡◌}
-use Prim.Native.Nat.{◌-◌, ◌≤◌}
 use lib.ListN.{length}
 use Rattle.words.specs.Words.{words_of}
 use Rattle.definition.specs.Types.{vrgroup}
@@ -8,7 +7,4 @@ use Rattle.conflict_piece.specs.Conflict.{row_use}
 use Rattle.conflict_piece.proofs.map_conflict.Given as goal
 
 abbrev pub invariant-loop-i : goal.invariant-loop-i
-invariant-loop-i l = Run (words_of l.job) (words_of l.initial.work) l.lay l.wl (vrgroup l.g) (row_use (words_of l.initial.work) l.wl.turned (words_of l.job) l.lay) l.a l.b l.i (words_of l.work) × (length l.work ≡ length l.initial.work) × (l.a ≤ l.i)
-
-abbrev pub decreases-loop-i : goal.decreases-loop-i
-decreases-loop-i l = l.b - l.i
+invariant-loop-i l = Run (words_of l.job) (words_of l.initial.work) l.lay l.wl (vrgroup l.g) (row_use (words_of l.initial.work) l.wl.turned (words_of l.job) l.lay) l.a l.b l.i (words_of l.work) × (length l.work ≡ length l.initial.work)

@@ -1,8 +1,7 @@
 use mathlib.Core.Path.{refl, ◌∙◌}
 use native.Mathlib.Omega.{arith}
-use Prim.Native.Nat.{◌-◌}
 use Rattle.conflict_round.proofs.Kept.{rows_now}
-use Rattle.steps.proofs.Ways.{done_is, done_not}
+use Rattle.place_end.specs.Ends.{err_kept}
 use Rattle.conflicts.proofs.Kept.{between_then, given_now, given_part}
 use Rattle.conflicts.proofs.Going.{going_start, going_next, going_stop, going_end}
 use Rattle.conflicts.proofs.conflicts.Goals as goal
@@ -15,42 +14,24 @@ pub run_end-e-requires : goal.run_end-e-requires
 run_end-e-requires c = let l = c.loop-i in
     (l.invariant.0.given.ready.fits, rows_now c.args.work.now l.work _ _ _ _ _ l.invariant.1 l.invariant.0.given.rows, c.loop-i-test.true)
 
-pub at_inst-r-requires : goal.at_inst-r-requires
-at_inst-r-requires c = let l = c.loop-i in
+pub at_inst-requires : goal.at_inst-requires
+at_inst-requires c = let l = c.loop-i in
     let e = c.run_end-e.ensures in
     (given_part _ _ _ _ _ _ _ _ _ _ _ _ _ (omega (arith, e.0)) e.1 (given_now _ _ _ _ _ _ _ _ _ _ c.args.work.now l.work c.args.out.now l.out l.invariant.1 l.invariant.2 l.invariant.0.given), e.0)
 
-pub is_done-requires : goal.is_done-requires
-is_done-requires c = tt
-
-pub shape_of-out-then-not-is_done : goal.shape_of-out-then-not-is_done
-shape_of-out-then-not-is_done c = omega (arith, c.loop-i.invariant.2, c.at_inst-r.auto.out)
-
-pub shape_of-work-then-not-is_done : goal.shape_of-work-then-not-is_done
-shape_of-work-then-not-is_done c = omega (arith, c.loop-i.invariant.1, c.at_inst-r.auto.work)
-
-pub returns-then-not-is_done : goal.returns-then-not-is_done
-returns-then-not-is_done c = let v = c.loop-i.invariant.0 in
+pub returns-in_err-k : goal.returns-in_err-k
+returns-in_err-k c = let v = c.loop-i.invariant.0 in
     let e = c.run_end-e.ensures in
-    let r = c.at_inst-r.ensures in record { between = between_then _ _ _ _ _ v.between r.rounded.between; ends_as = going_stop _ _ _ _ _ _ _ _ _ _ _ _ _ _ _ _ _ v _ e.0 e.1 e.2 _ _ _ r.rounded r.ends_as (done_not _ _ c.is_done.ensures c.if-not-is_done.true-raw) }
-
-pub loop-i-smaller : goal.loop-i-smaller
-loop-i-smaller c = omega (arith, c.loop-i-test.true, c.run_end-e.ensures.0)
+    let r = c.at_inst.ensures in record { between = between_then _ _ _ _ _ v.between r.rounded.between; ends_as = going_stop _ _ _ _ _ _ _ _ _ _ _ _ _ _ _ _ _ v _ e.0 e.1 e.2 _ _ _ r.rounded r.ends_as _ c.in_err-k.was _ (err_kept _ _ c.from_residual.ensures.1) }
 
 pub loop-i-preserved : goal.loop-i-preserved
 loop-i-preserved c = let l = c.loop-i in
     let e = c.run_end-e.ensures in
-    let r = c.at_inst-r in (
-      going_next _ _ _ _ _ _ _ _ _ _ _ _ _ _ _ _ _ l.invariant.0 _ e.0 e.1 e.2 _ _ _ r.ensures.rounded r.ensures.ends_as (done_is _ _ c.is_done.ensures c.if-not-is_done.false-raw),
+    let r = c.at_inst in (
+      going_next _ _ _ _ _ _ _ _ _ _ _ _ _ _ _ _ _ l.invariant.0 _ e.0 e.1 e.2 _ _ _ r.ensures.rounded r.ensures.ends_as _ c.in_ok-k.was,
       r.auto.work ∙ l.invariant.1,
       r.auto.out ∙ l.invariant.2,
     )
 
-pub shape_of-out : goal.shape_of-out
-shape_of-out c = omega (arith, c.loop-i.invariant.2)
-
-pub shape_of-work : goal.shape_of-work
-shape_of-work c = omega (arith, c.loop-i.invariant.1)
-
 pub returns : goal.returns
-returns c = let v = c.loop-i.invariant.0 in record { between = v.between; ends_as = going_end _ _ _ _ _ _ _ _ _ _ _ _ _ _ _ _ _ v c.loop-i-test.false _ refl refl }
+returns c = let v = c.loop-i.invariant.0 in record { between = v.between; ends_as = going_end _ _ _ _ _ _ _ _ _ _ _ _ _ _ _ _ _ v c.loop-i-test.false _ refl }

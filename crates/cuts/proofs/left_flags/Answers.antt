@@ -1,9 +1,10 @@
-use borrow.Author.Tests.{not-true, not-false}
-use Rattle.cuts.proofs.Sides.{left_without, left_with}
+use Rattle.cuts.specs.Flags.{left_flags}
 use Rattle.cuts.proofs.left_flags.Goals as goal
 
-pub returns-then-not-flags : goal.returns-then-not-flags
-returns-then-not-flags c = left_without _ _ _ _ c.args.flags (not-true _ c.if-not-flags.true)
+pub returns-then-flags : goal.returns-then-flags
+unfolding left_flags
+returns-then-flags c = rw (c.if-flags.true, c.hint_between-hint.ensures, c.inst_of.ensures)
 
-pub returns : goal.returns
-returns c = left_with _ _ _ _ c.args.flags _ (not-false _ c.if-not-flags.false) c.hint_left-hint.ensures
+pub returns-else-flags : goal.returns-else-flags
+unfolding left_flags
+returns-else-flags c = rw (c.if-flags.false)

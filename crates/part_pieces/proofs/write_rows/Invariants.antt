@@ -1,12 +1,8 @@
 use mathlib.Core.Path.{◌≡◌}
-use Prim.Native.Nat.{◌+◌, ◌-◌, ◌≤◌}
 use lib.ListN.{length}
 use Rattle.words.specs.Words.{words_of}
 use Rattle.part_pieces.proofs.Rows.{RowsTo}
 use Rattle.part_pieces.proofs.write_rows.Given as goal
 
 abbrev pub invariant-loop-i : goal.invariant-loop-i
-invariant-loop-i l = RowsTo l.ol (words_of l.initial.out) l.p l.u (words_of l.job) l.lay l.sp l.i (words_of l.out) × (length l.out ≡ length l.initial.out) × (l.sp.seg ≤ l.i) × (l.i ≤ l.sp.last + 1)
-
-abbrev pub decreases-loop-i : goal.decreases-loop-i
-decreases-loop-i l = l.last + 1 - l.i
+invariant-loop-i l = RowsTo l.ol (words_of l.initial.out) l.p l.u (words_of l.job) l.lay l.sp l.i (words_of l.out) × (length l.out ≡ length l.initial.out)

@@ -1,5 +1,4 @@
 use mathlib.Core.Path.{◌≡◌}
-use Prim.Native.Nat.{◌-◌, ◌≤◌}
 use lib.ListN.{length}
 use Rattle.words.specs.Words.{words_of}
 use Rattle.set_part.specs.Part.{marked_use}
@@ -7,7 +6,4 @@ use Rattle.part_pieces.proofs.Rows.{UsesTo}
 use Rattle.part_pieces.proofs.write_uses.Given as goal
 
 abbrev pub invariant-loop-i : goal.invariant-loop-i
-invariant-loop-i l = UsesTo l.ol (words_of l.initial.out) l.u (marked_use (words_of l.work) l.marks (words_of l.job) l.lay) l.a l.i (words_of l.out) × (length l.out ≡ length l.initial.out) × (l.a ≤ l.i) × (l.i ≤ l.b)
-
-abbrev pub decreases-loop-i : goal.decreases-loop-i
-decreases-loop-i l = l.b - l.i
+invariant-loop-i l = UsesTo l.ol (words_of l.initial.out) l.u (marked_use (words_of l.work) l.marks (words_of l.job) l.lay) l.a l.i (words_of l.out) × (length l.out ≡ length l.initial.out)

@@ -32,6 +32,6 @@ pub returns : goal.returns
 returns c = let k = c.requires.1 in
     let e = c.use_count-nu.ensures in
     λ st h hg sd ec sane eh ei ig.
-    join_done _ _ _ _ _ _ _ st _ h _ _ hg _ _ sd sane (asks_fair _ _ _ _ _ _ _ _ _ _ _ _ _ _ k c.args.value c.args.param)
+    join_done _ _ _ _ _ _ _ st _ h _ _ hg _ _ _ sd sane (asks_fair _ _ _ _ _ _ _ _ _ _ _ _ _ _ k c.args.value c.args.param)
     (asks_room _ _ _ _ _ _ _ _ _ _ _ _ _ _ k c.args.value c.args.param _ _ _ _ c.has_room.ensures e c.if-not-has_room.false-raw st ec)
     (c.finish_join-n.ensures.1 _ st _ h hg (asks_ready _ _ _ _ _ _ _ _ _ _ _ _ _ _ k c.args.value c.args.param _ _ st sd.tables ec (c.write_conflict.ensures _ refl) e) eh ei ig.0 ig.1) refl

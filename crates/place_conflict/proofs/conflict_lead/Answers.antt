@@ -51,7 +51,7 @@ returns c = let k = c.requires.1 in
     let e = c.use_count-nu.ensures in
     let m = c.map_conflict.ensures c.args.value c.args.pos (param_by c.args.param) in
     λ st h hg sd ec sane eh ei.
-    lead_done _ _ _ _ _ _ _ st _ h _ _ hg _ _ _ (ap (λ (x : Counts). x.groups) ec) m sd.mapped (not-false _ c.if-not-map_conflict.false-raw) sane (asks_fair _ _ _ _ _ _ _ _ _ _ _ _ _ _ k c.args.value c.args.param)
+    lead_done _ _ _ _ _ _ _ st _ h _ _ hg _ _ _ (ap (λ (x : Counts). x.groups) ec) m sd.mapped _ (not-false _ c.if-not-map_conflict.false-raw) sane (asks_fair _ _ _ _ _ _ _ _ _ _ _ _ _ _ k c.args.value c.args.param)
     (asks_room _ _ _ _ _ _ _ _ _ _ _ _ _ _ k c.args.value c.args.param _ _ _ _ c.has_room.ensures e c.if-not-has_room.false-raw st ec)
     (λ ms.
     c.finish_lead-n.ensures.1 _ st _ h hg ms (asks_ready _ _ _ _ _ _ _ _ _ _ _ _ _ _ k c.args.value c.args.param _ _ st sd.tables ec (c.write_conflict.ensures _ (rows_kept _ _ _ _ m.outside k.apart _ _ _)) e) eh ei c.requires.2 c.requires.3) refl

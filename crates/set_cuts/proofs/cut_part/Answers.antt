@@ -5,12 +5,6 @@ use Rattle.set_cuts.proofs.cut_part.Goals as goal
 pub overflow_mul-q : goal.overflow_mul-q
 overflow_mul-q c = omega (arith, c.well_formed.1.1.0, c.requires.3)
 
-pub first_past-k-requires : goal.first_past-k-requires
-first_past-k-requires c = let pre = c.requires in (pre.0, pre.1.order, pre.1.within)
-
-pub part_seg-row-requires : goal.part_seg-row-requires
-part_seg-row-requires c = let pre = c.requires in (pre.0, pre.1.within, c.first_past-k.ensures.2)
-
 pub cut_across-requires : goal.cut_across-requires
 cut_across-requires c = let pre = c.requires in
     let k = c.first_past-k.ensures in
@@ -24,9 +18,6 @@ returns-then-row-q c = let a = c.args in
 
 pub overflow_sub-k : goal.overflow_sub-k
 overflow_sub-k c = omega (arith, row_behind _ _ _ _ _ _ c.part_seg-row.ensures c.first_past-k.ensures.1 c.requires.2 c.if-row-q.false)
-
-pub part_seg-old-requires : goal.part_seg-old-requires
-part_seg-old-requires c = let pre = c.requires in (pre.0, pre.1.within, omega (arith, c.first_past-k.ensures.2))
 
 pub cut_between-requires : goal.cut_between-requires
 cut_between-requires c = omega (arith, row_behind _ _ _ _ _ _ c.part_seg-row.ensures c.first_past-k.ensures.1 c.requires.2 c.if-row-q.false)

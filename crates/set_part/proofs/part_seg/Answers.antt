@@ -1,7 +1,7 @@
-use Rattle.set_part.proofs.Read.{row_read}
+use Rattle.layout.specs.Layout.{seg_at}
+use Rattle.set_part.specs.Part.{part_row}
 use Rattle.set_part.proofs.part_seg.Goals as goal
 
 pub returns : goal.returns
-returns c = let a = c.args in
-    row_read _ a.lay a.sp a.i _ _ _ _ _ _ c.seg_at-row.ensures
-    c.from_in.ensures c.to_in.ensures c.flags_in.ensures c.use_bound.ensures c.use_bound-2.ensures
+unfolding part_row seg_at
+returns c = rw (c.at_segment.ensures, c.at_segment-2.ensures, c.at_segment-3.ensures, c.at_segment-flags.ensures, c.use_bound.ensures, c.use_bound-2.ensures, c.seg_at-row.ensures)

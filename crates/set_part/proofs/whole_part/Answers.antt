@@ -1,6 +1,7 @@
-use Rattle.set_part.proofs.Read.{whole_read}
+use Rattle.layout.specs.Layout.{seg_at}
+use Rattle.set_part.specs.Part.{whole_part}
 use Rattle.set_part.proofs.whole_part.Goals as goal
 
 pub returns : goal.returns
-returns c = let a = c.args in
-    whole_read _ a.lay a.a a.b _ _ _ c.seg_at-head.ensures c.seg_at-behind.ensures c.next_use.ensures
+unfolding whole_part seg_at
+returns c = rw (c.seg_at-head.ensures, c.seg_at-behind.ensures, c.next_use.ensures)

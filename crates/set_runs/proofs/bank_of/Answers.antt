@@ -1,8 +1,8 @@
 use Rattle.set_runs.proofs.Segments.{bank_known, bank_past}
 use Rattle.set_runs.proofs.bank_of.Goals as goal
 
-pub returns-then-k-n : goal.returns-then-k-n
-returns-then-k-n c = bank_known _ _ _ _ _ (cc) c.if-k-n.true c.value_at-d.ensures
+pub returns-then-k-lay : goal.returns-then-k-lay
+returns-then-k-lay c = bank_known _ _ _ _ _ (cc) c.if-k-lay.true c.value_at.ensures
 
-pub returns : goal.returns
-returns c = bank_past _ _ _ _ (cc) c.if-k-n.false
+pub returns-else-k-lay : goal.returns-else-k-lay
+returns-else-k-lay c = bank_past _ _ _ _ (cc) c.if-k-lay.false

@@ -1,4 +1,3 @@
-use Prim.Native.Nat.{◌-◌}
 use Rattle.words.specs.Words.{words_of}
 use Rattle.set_runs.specs.Runs.{Running}
 use Rattle.set_runs.proofs.Segments.{set_number}
@@ -6,6 +5,3 @@ use Rattle.set_runs.proofs.set_end.Given as goal
 
 abbrev pub invariant-loop-e : goal.invariant-loop-e
 invariant-loop-e l = Running (set_number (words_of l.job) l.lay) l.a l.lay.segments.n l.first.0 l.e
-
-abbrev pub decreases-loop-e : goal.decreases-loop-e
-decreases-loop-e l = l.n - l.e

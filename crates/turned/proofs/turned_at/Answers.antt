@@ -1,4 +1,5 @@
-use Rattle.turned.proofs.Read.{row_kept, head_within}
+use Rattle.turned.specs.Turned.{turned_in, turned_row}
+use Rattle.turned.proofs.Read.{head_within}
 use native.Mathlib.Omega.{arith}
 use Rattle.turned.proofs.turned_at.Goals as goal
 
@@ -8,6 +9,5 @@ marked_use-head-requires c = let pre = c.requires in
     (pre.0, h, omega (arith, pre.3))
 
 pub returns : goal.returns
-returns c = let a = c.args in
-    row_kept _ a.marks _ a.lay a.sp a.n _ _ _ _ _ _ c.holder_of.ensures.0 c.part_seg-row.ensures
-    c.marked_use-u.ensures c.marked_use-head.ensures c.is_param_at.ensures c.param_index.ensures
+unfolding turned_in turned_row
+returns c = rw (c.param_here.ensures, c.marked_use-u.ensures, c.marked_use-head.ensures, c.part_seg-row.ensures, c.holder_of.ensures.0)

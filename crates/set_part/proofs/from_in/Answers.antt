@@ -1,8 +1,0 @@
-use borrow.Author.Tests.{eq-eqb, ne_eqb}
-use Rattle.set_part.proofs.from_in.Goals as goal
-
-pub returns-then-i-sp : goal.returns-then-i-sp
-returns-then-i-sp c = simp (eq-eqb _ _ c.if-i-sp.true)
-
-pub returns : goal.returns
-returns c = simp (ne_eqb _ _ c.if-i-sp.false)
