@@ -9,7 +9,7 @@ use borrow.Author.Tests.{eqb-true, eqb-false, ltb-true, ltb-false, leb-true, leb
 use Rattle.definition.specs.declared.Side.{Side}
 use Rattle.definition.specs.declared.Side.TheVariants.{Early, Late}
 use Rattle.definition.specs.CutMoves.{tie, chosen_of}
-use Rattle.split_placement.specs.Places.{first_least, last_least}
+use Rattle.split_placement.specs.Places.{first_least, last_least, least}
 use Rattle.split_placement.proofs.Walks.{FirstOf, LastOf, first_of_lem, last_of}
 use Rattle.cut_margins.specs.Margins.{Chosen, tie_other, chosen_once}
 
@@ -148,6 +148,10 @@ chosen_first f a b h = chosen_once Early f a b _ _ (first_chosen (first_of_lem f
 
 pub chosen_last : (f : ℕ → ℕ) (a b : ℕ) → a ≤ b → last_least f a a (b - a) ≡ chosen_of Late f a a (b - a)
 chosen_last f a b h = chosen_once Late f a b _ _ (last_chosen (last_of f a b h)) (chosen_of_lem Late f a b h)
+
+pub chosen_is : (side : Side) (f : ℕ → ℕ) (a b : ℕ) → a ≤ b → least side f a a (b - a) ≡ chosen_of side f a a (b - a)
+chosen_is Early f a b h = chosen_first f a b h
+chosen_is Late f a b h = chosen_last f a b h
 
 -- what is chosen turns on f at a to b alone
 pub chosen_ext : (side : Side) (f g : ℕ → ℕ) (a b c : ℕ) → ((i : ℕ) → a ≤ i → i ≤ b → f i ≡ g i) → Chosen side f a b c

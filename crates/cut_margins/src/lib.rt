@@ -2,39 +2,12 @@
 // of block starts. Frequencies are compared by their bits, as in split_placement.
 #![tactic(auto)]
 
-ghost use Rattle.std.specs.Prelude.{◌≡◌, List, ℕ, suc, ◌+◌, ◌-◌, ◌*◌, ◌≤◌, ◌<◌, ◌&&◌, not, cond, eqb, ltb, length};
-ghost use Rattle.definition.specs.declared.BlockData.{BlockData};
-ghost use Rattle.definition.specs.Entry.{insts_of};
-ghost use Rattle.definition.specs.CutMoves.{infinity, first_open, last_open, tie, chosen_of, edge_of, move_of};
+ghost use Rattle.std.specs.Prelude.{◌≡◌, ℕ, suc, ◌+◌, ◌-◌, ◌*◌, ◌≤◌, ◌<◌, ◌&&◌, not, cond, eqb, ltb};
+ghost use Rattle.definition.specs.CutMoves.{infinity, tie, chosen_of, edge_of, move_of};
 ghost use Rattle.words.specs.Words.{word_count, words_of};
-ghost use Rattle.function.specs.Blocks.{Starts};
 ghost use Rattle.cut_margins.specs.Table.{bits, steps_in};
 
-use definition::{Block, Inst, Side};
-
-// The first open block of n: early, that of `after` + 1; late, that of `after`.
-pub fn first_open(starts: &[u8], n: u32, after: Inst, side: Side) -> Block
-    requires { (0 < n) × (n * 2 + 2 ≤ word_count starts.now) × (after.0 + 1 < 4294967296) }
-    ensures { (result.0 < n) × ((bs : List BlockData) → Starts (words_of starts.now) 0 bs → length bs ≡ n
-        → after.0 + 1 < insts_of bs → result.0 ≡ first_open side bs after.0) }
-{
-    match side {
-        Side::Early => block_starts::block_of(starts, 0, n, Inst(after.0 + 1)),
-        Side::Late => block_starts::block_of(starts, 0, n, after),
-    }
-}
-
-// The last: early, that of `before`; late, that of `before` - 1.
-pub fn last_open(starts: &[u8], n: u32, before: Inst, side: Side) -> Block
-    requires { (0 < n) × (n * 2 + 2 ≤ word_count starts.now) × (0 < before.0) }
-    ensures { (result.0 < n) × ((bs : List BlockData) → Starts (words_of starts.now) 0 bs → length bs ≡ n
-        → before.0 < insts_of bs → result.0 ≡ last_open side bs before.0) }
-{
-    match side {
-        Side::Early => block_starts::block_of(starts, 0, n, before),
-        Side::Late => block_starts::block_of(starts, 0, n, Inst(before.0 - 1)),
-    }
-}
+use definition::{Block, Side};
 
 // The chosen one of the blocks `from` to `to`: of least frequency, of equal ones the one ahead.
 pub fn chosen(starts: &[u8], from: Block, to: Block, side: Side) -> Block
@@ -42,20 +15,18 @@ pub fn chosen(starts: &[u8], from: Block, to: Block, side: Side) -> Block
     ensures { result.0
         ≡ chosen_of side (bits (words_of starts.now)) from.0 from.0 (to.0 - from.0) }
 {
-    match side {
-        Side::Early => split_placement::first_least(starts, 0, from, to),
-        Side::Late => split_placement::last_least(starts, 0, from, to),
-    }
+    split_placement::least(starts, 0, from, to, side)
 }
 
 // The steps that i lacks against c at an equal frequency.
 fn tie_of(side: Side, i: Block, c: Block) -> u32
     ensures { result ≡ tie side i.0 c.0 }
 {
-    match side {
-        Side::Early => { if i.0 < c.0 { 0 } else { 1 } }
-        Side::Late => { if c.0 < i.0 { 0 } else { 1 } }
-    }
+    let ahead = match side {
+        Side::Early => i < c,
+        Side::Late => c < i,
+    };
+    u32::from(!ahead)
 }
 
 // What block i has, with the steps that it lacks against c.
@@ -73,11 +44,11 @@ fn lower(starts: &[u8], side: Side, i: Block, c: Block, e: u32) -> u32
         ≡ cond (not (eqb i.0 c.0) && ltb (bits (words_of starts.now) i.0 + tie side i.0 c.0) e)
         (bits (words_of starts.now) i.0 + tie side i.0 c.0) e }
 {
-    if i.0 == c.0 {
-        return e;
+    if i == c {
+        e
+    } else {
+        e.min(with_tie(starts, side, i, c))
     }
-    let x = with_tie(starts, side, i, c);
-    if x < e { x } else { e }
 }
 
 // The edge of the chosen block c: the least that another of the blocks `from` to `to` has with its tie.
@@ -88,11 +59,8 @@ pub fn edge_of(starts: &[u8], from: Block, to: Block, side: Side, c: Block) -> u
         ≡ edge_of side (bits (words_of starts.now)) c.0 infinity from.0 (suc to.0 - from.0) }
 {
     let mut e: u32 = 0x7f80_0000;
-    let mut i = from.0;
-    let end = to.0 + 1;
-    while i < end {
+    for i in from.0..to.0 + 1 {
         e = lower(starts, side, Block(i), c, e);
-        i += 1;
     }
     e
 }
@@ -105,7 +73,7 @@ pub fn steps(starts: &[u8], side: Side, c: Block, e: u32, i: Block) -> u32
     ensures { result ≡ steps_in (move_of side (bits (words_of starts.now)) c.0 e i.0) }
 {
     let own = function::bits_at(starts, 0, c);
-    if i.0 == c.0 {
+    if i == c {
         return if e < 0x7f80_0000 { e - own } else { 0 };
     }
     if own < tie_of(side, i, c) {

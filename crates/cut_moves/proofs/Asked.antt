@@ -23,9 +23,9 @@ use Rattle.words.specs.Laws.{length_words, word_set, words_small}
 use Rattle.floats.proofs.Bits.{bits_back, plain_test}
 use Rattle.function.specs.Blocks.{block_row, blocks_at, block_at, no_block}
 use Rattle.function.specs.BlockLaws.{block_plain, each_passes}
-use Rattle.find_cut.specs.Answer.{blocks_in, side_named, readable, cut_answer, test_number}
+use Rattle.find_cut.specs.Answer.{blocks_in, side_named, readable, cut_of, cut_answer}
 use Rattle.find_cut.proofs.Tests.{Passed, passing, count as blocks-many}
-use Rattle.find_cut.proofs.Answers.{answered, accepted}
+use Rattle.find_cut.proofs.Answers.{answered, Admitted, accepted}
 use Rattle.find_cut.specs.declared.Cut.{Cut}
 use Rattle.cut_margins.specs.Promised.{Fair}
 use Rattle.cut_margins.proofs.Changed.{insts_kept, fair_changed}
@@ -93,10 +93,15 @@ module _ (s : List ℕ) (j x : ℕ) (h : j < length s / 8) where
 -- where no test fails, the finder answers the definition's instruction
 answer_is : (s : List ℕ) (a b side : ℕ) → readable s side ≡ true → Passed s a b
     → answered 0 (side_of (side_named side) (blocks_in s) a b) ≡ cut_answer s a b side
+unfolding cut_answer cut_of
 answer_is s a b side r p =
-    let t : 0 ≡ test_number s a b =
-    passing s a b _ p.blocks_few refl p.insts_few (sym p.blocks_ok) p.order p.within in
-    accepted s a b side _ r t refl
+    let w : Admitted s a b side (side_named side) =
+    record {
+      read = r;
+      none_found = passing s a b _ p.blocks_few refl p.insts_few (sym p.blocks_ok) p.order p.within;
+      named = refl;
+    } in
+    sym (ap cut_of (accepted s a b side (side_named side) _ w refl))
 
 module _ (s : List ℕ) (a b : ℕ) (small : (i : ℕ) → get_or s i 0 < 256) (p : Passed s a b) where
   frequency_in : (j : ℕ) → j < length s / 8 → (block_at (blocks_in s) j).frequency ≡ of_bits binary32 (word_in s j)

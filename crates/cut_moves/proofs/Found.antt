@@ -11,7 +11,7 @@ use Rattle.definition.specs.declared.CutMove.{CutMove}
 use Rattle.definition.specs.declared.Side.{Side}
 use Rattle.definition.specs.Types.{inst}
 use Rattle.definition.specs.Entry.{insts_of, every, block_ok}
-use Rattle.definition.specs.CutMoves.{infinity, first_open, last_open, chosen_of, edge_of, move_of, moves_from}
+use Rattle.definition.specs.CutMoves.{infinity, last_open, chosen_of, edge_of, move_of, moves_from}
 use Rattle.definition.specs.CutMoves.{steps_of, sorted, moves_among, cut_moves}
 use Rattle.rows.specs.Parts.{splice, pad}
 use Rattle.rows.specs.RowsAt.{rows_at, length_rows_at}
@@ -19,6 +19,7 @@ use Rattle.function.specs.Blocks.{block_row, blocks_at, start_words, Starts}
 use Rattle.block_starts.proofs.Made.{starts_made}
 use Rattle.merge_sort.specs.Rows.{row_of, row_words, key_of}
 use Rattle.merge_sort.specs.Merges.{length_sorted}
+use Rattle.split_placement.proofs.Chosen.{first_judges}
 use Rattle.cut_margins.specs.Table.{bits}
 use Rattle.cut_margins.proofs.Edge.{edge_above}
 use Rattle.cut_moves.specs.Answer.{move_words}
@@ -42,7 +43,7 @@ moves_few side f c e i (suc k) =
 pub opened : (W T₀ T : List ℕ) (n a b : ℕ) (side : Side) (lo hi : ℕ) → T ≡ splice T₀ 0 (start_words W 0 n)
     → n * 2 + 2 ≤ length T₀ → ((i : ℕ) → get_or W i 0 < 4294967296) → every block_ok (blocks_at W 0 n) ≡ true → a < b
     → b < insts_of (blocks_at W 0 n)
-    → ((bs : List BlockData) → Starts T 0 bs → length bs ≡ n → a + 1 < insts_of bs → lo ≡ first_open side bs a)
+    → ((bs : List BlockData) → Starts T 0 bs → length bs ≡ n → a + 1 < insts_of bs → lo ≡ last_open side bs (a + 1))
     → ((bs : List BlockData) → Starts T 0 bs → length bs ≡ n → b < insts_of bs → hi ≡ last_open side bs b)
     → Open T (blocks_at W 0 n) n a b side lo hi
 opened W T₀ T n a b side lo hi made room small ok h l first last =
@@ -56,7 +57,7 @@ opened W T₀ T n a b side lo hi made room small ok h l first last =
       ok = ok;
       order = h;
       within = l;
-      low = first bs t count (omega (arith, h, l));
+      low = first bs t count (omega (arith, h, l)) ∙ first_judges side bs a;
       high = last bs t count l;
     }
 

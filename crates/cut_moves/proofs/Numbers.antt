@@ -1,15 +1,14 @@
--- The refusal's number, one law for each way out, and what holds where there is none. Assumes nothing.
-use Prim.Native.Nat.{ℕ, ◌/◌, ◌%◌, ◌≤◌, ◌<◌}
+-- The tests of a call, one law for each way out, and what holds where nothing is refused. Assumes nothing.
+use Prim.Native.Nat.{ℕ, ◌/◌, ◌≤◌, ◌<◌}
 use native.Mathlib.Omega.{arith}
 use mathlib.Core.Path.{◌≡◌, refl, sym, ap, ◌∙◌}
 use mathlib.Core.Bool.{Bool, true, false, ◌&&◌}
 use mathlib.Core.Option.{Option, none, some}
+use Rattle.std.specs.Prelude.{Result, Ok, Err}
 use mathlib.Core.List.{List, [], ◌∷◌}
 use lib.Dec.{leb, ltb}
 use lib.ListN.{length}
 use borrow.Author.Tests.{le-leb, lt-leb, leb-true}
-use Rattle.definition.specs.declared.Inst.{Inst}
-use Rattle.definition.specs.declared.BlockData.{BlockData}
 use Rattle.definition.specs.declared.Side.{Side}
 use Rattle.definition.specs.declared.CutMove.{CutMove}
 use Rattle.definition.specs.declared.Refusal.{Refusal}
@@ -17,12 +16,13 @@ use Rattle.definition.specs.declared.Refusal.TheVariants.{NotARecord, OverALimit
 use Rattle.definition.specs.Types.{Out, done, refused, inst}
 use Rattle.definition.specs.Entry.{insts_of, every, block_ok, lowest_of}
 use Rattle.definition.specs.CutMoves.{cut_moves, moves_tests, moves_to, find_moves}
-use Rattle.find_cut.specs.Answer.{blocks_in, side_named, readable, number_at, test_number}
-use Rattle.find_cut.proofs.Answers.{numbered, no_side, no_rows, no_block}
+use Rattle.find_cut.specs.Answer.{blocks_in, side_named, readable, unless, cut_refusal, admission}
+use Rattle.find_cut.proofs.Answers.{numbered, unless_ok, unless_some, was_admitted}
+use Rattle.find_cut.proofs.Answers.{unread as cut_unread, reading as cut_reading}
 use Rattle.find_cut.proofs.Tests.{Passed, count, was_passed}
-use Rattle.cut_moves.specs.Answer.{moves_at, end_of, moves_number}
+use Rattle.cut_moves.specs.Answer.{moves_at, end_of, moves_admission}
 
--- ---- the tests by their outcomes: 9 comes where the others find nothing
+-- ---- the tests by their outcomes: `Full` comes where the others find nothing
 
 abbrev two : Bool → Bool → Option Refusal
 two x y = lowest_of ((x, OverALimit) ∷ (y, BadFunction) ∷ [])
@@ -30,45 +30,33 @@ two x y = lowest_of ((x, OverALimit) ∷ (y, BadFunction) ∷ [])
 abbrev three : Bool → Bool → Bool → Option Refusal
 three x y z = lowest_of ((x, OverALimit) ∷ (y, BadFunction) ∷ (z, Full) ∷ [])
 
--- a number that the first two give stays
-stays : (x y z : Bool) (k : ℕ) → k ≡ number_at (two x y) → (k ≡ 0 → ⊥) → k ≡ number_at (three x y z)
-unfolding number_at lowest_of
-stays false y z k e n = e
-stays true false z k e n = e
-stays true true z k e n = absurd (n e)
+-- a refusal that the first two give stays
+stays : (x y z : Bool) (r : Refusal) → two x y ≡ some r → three x y z ≡ some r
+unfolding lowest_of
+stays false y z r e = e
+stays true false z r e = e
+stays true true z r e = cc
 
-full : (x y z : Bool) → 0 ≡ number_at (two x y) → z ≡ false → 9 ≡ number_at (three x y z)
-unfolding number_at lowest_of
-full false y z e f = absurd (omega arith)
-full true false z e f = absurd (omega arith)
+full : (x y z : Bool) → two x y ≡ none → z ≡ false → three x y z ≡ some Full
+unfolding lowest_of
+full false y z e f = cc
+full true false z e f = cc
 full true true z e f = rw f
 
-free : (x y z : Bool) → 0 ≡ number_at (two x y) → z ≡ true → 0 ≡ number_at (three x y z)
-unfolding number_at lowest_of
-free false y z e f = absurd (omega arith)
-free true false z e f = absurd (omega arith)
+free : (x y z : Bool) → two x y ≡ none → z ≡ true → three x y z ≡ none
+unfolding lowest_of
+free false y z e f = cc
+free true false z e f = cc
 free true true z e f = rw f
 
-was_free : (x y z : Bool) → 0 ≡ number_at (three x y z) → (0 ≡ number_at (two x y)) × (z ≡ true)
-unfolding number_at lowest_of
-was_free false y z e = absurd (omega arith)
-was_free true false z e = absurd (omega arith)
+was_free : (x y z : Bool) → three x y z ≡ none → (two x y ≡ none) × (z ≡ true)
+unfolding lowest_of
+was_free false y z e = cc
+was_free true false z e = cc
 was_free true true true e = (refl, refl)
-was_free true true false e = absurd (omega arith)
+was_free true true false e = cc
 
 -- ---- the answer by what the tests find
-
-number_found : (o : Option Refusal) (bs : List BlockData) (a b : Inst) (side : Side)
-    → (end_of (moves_to o bs a b side)).number ≡ number_at o
-unfolding end_of moves_to number_at
-number_found none bs a b side = refl
-number_found (some r) bs a b side = refl
-
-none_found : (o : Option Refusal) (bs : List BlockData) (a b : Inst) (side : Side) → 0 ≡ number_at o
-    → moves_to o bs a b side ≡ done (cut_moves bs a b side)
-unfolding moves_to number_at
-none_found none bs a b side e = refl
-none_found (some r) bs a b side e = absurd (numbered r e)
 
 module _ (s : List ℕ) (a b side places : ℕ) where
   abbrev found : Option Refusal
@@ -87,68 +75,100 @@ module _ (s : List ℕ) (a b side places : ℕ) where
   unfolding moves_at
   closed e = rw e
 
-  unread : readable s side ≡ false → 1 ≡ moves_number s a b side places
-  unfolding moves_number end_of
-  unread e = sym (ap (λ (o : Out (List CutMove)). (end_of o).number) (closed e))
-
   opened : readable s side ≡ true
       → moves_at s a b side places ≡ moves_to found (blocks_in s) (inst a) (inst b) (side_named side)
   unfolding moves_at find_moves
   opened e = rw e
 
-  by_found : readable s side ≡ true → moves_number s a b side places ≡ number_at found
-  unfolding moves_number
-  by_found e =
-      ap (λ (o : Out (List CutMove)). (end_of o).number) (opened e)
-      ∙ number_found found (blocks_in s) (inst a) (inst b) (side_named side)
+  unread : readable s side ≡ false → moves_admission s a b side places ≡ Err NotARecord
+  unfolding moves_admission
+  unread e = rw e
 
-  pub off_list : 1 < side → 1 ≡ moves_number s a b side places
-  off_list h = unread (no_side s side h)
+  reading : readable s side ≡ true → moves_admission s a b side places ≡ unless found (side_named side)
+  unfolding moves_admission
+  reading e = rw e
 
-  pub not_whole : (length s % 8 ≡ 0 → ⊥) → 1 ≡ moves_number s a b side places
-  not_whole h = unread (no_rows s side h)
+  -- ---- the code's ways
 
-  pub nothing : length s ≡ 0 → 1 ≡ moves_number s a b side places
-  nothing h = unread (no_block s side h)
+  -- what the cut finder refuses
+  pub failed : (r : Refusal) → admission s a b side ≡ Err r → Err r ≡ moves_admission s a b side places
+  unfolding cut_refusal few x y
+  failed r e = go (readable s side) refl
+    where
+      go : (t : Bool) → readable s side ≡ t → Err r ≡ moves_admission s a b side places
+      go true f =
+          let o = unless_some (cut_refusal s a b) (side_named side) r (sym (cut_reading s a b side f) ∙ e) in
+          sym (reading f ∙ ap (λ (p : Option Refusal). unless p (side_named side)) (stays x y few r o))
+      go false f = let g : ◌≡◌ {A = Result Side Refusal} (Err NotARecord) (Err r) = cut_unread s a b side f ∙ e in sym g ∙ sym (unread f)
 
-  module _ (r : readable s side ≡ true) where
-    pub failed : (k : ℕ) → k ≡ test_number s a b → (k ≡ 0 → ⊥) → k ≡ moves_number s a b side places
-    unfolding test_number few x y
-    failed k e n = stays x y few k e n ∙ sym (by_found r)
+  module _ (d : Side) (e : admission s a b side ≡ Ok d) where
+    pub short : places < length s / 8 → Err Full ≡ moves_admission s a b side places
+    unfolding cut_refusal few x y
+    short g =
+        let p = was_admitted s a b side d e in
+        let o = full x y few p.none_found (lt-leb (length (blocks_in s)) places (omega (arith, count s a b))) in
+        sym (reading p.read ∙ ap (λ (q : Option Refusal). unless q (side_named side)) o)
 
-    pub short : (k : ℕ) → k ≡ test_number s a b → k ≡ 0 → places < length s / 8 → 9 ≡ moves_number s a b side places
-    unfolding test_number few x y
-    short k e n g =
-        full x y few (sym n ∙ e) (lt-leb (length (blocks_in s)) places (omega (arith, count s a b))) ∙ sym (by_found r)
+    pub fine : length s / 8 ≤ places → Ok d ≡ moves_admission s a b side places
+    unfolding cut_refusal few x y
+    fine g =
+        let p = was_admitted s a b side d e in
+        let o = free x y few p.none_found (le-leb (length (blocks_in s)) places (omega (arith, count s a b))) in
+        ap Ok p.named ∙ sym (reading p.read ∙ ap (λ (q : Option Refusal). unless q (side_named side)) o)
 
-    pub fine : (k : ℕ) → k ≡ test_number s a b → k ≡ 0 → length s / 8 ≤ places → 0 ≡ moves_number s a b side places
-    unfolding test_number few x y
-    fine k e n g =
-        free x y few (sym n ∙ e) (le-leb (length (blocks_in s)) places (omega (arith, count s a b))) ∙ sym (by_found r)
+  -- ---- what is refused, and what holds where there is no refusal
 
-  -- ---- what holds where there is no refusal
+  pub refused_out : (r : Refusal) → moves_admission s a b side places ≡ Err r → moves_at s a b side places ≡ refused r
+  unfolding moves_to
+  refused_out r e = go (readable s side) refl
+    where
+      by_tests : (o : Option Refusal) → found ≡ o → unless o (side_named side) ≡ Err r
+          → moves_to o (blocks_in s) (inst a) (inst b) (side_named side) ≡ refused r
+      by_tests none f g = cc
+      by_tests (some q) f g = cc
 
-  module _ (e : 0 ≡ moves_number s a b side places) where
-    pub could_read : readable s side ≡ true
-    could_read = go (readable s side) refl
-      where
-        go : (t : Bool) → readable s side ≡ t → readable s side ≡ true
-        go true f = f
-        go false f = absurd (let z : ◌≡◌ {A = ℕ} 1 0 = unread f ∙ sym e in omega arith)
+      go : (t : Bool) → readable s side ≡ t → moves_at s a b side places ≡ refused r
+      go true f = opened f ∙ by_tests found refl (sym (reading f) ∙ e)
+      go false f = let g : ◌≡◌ {A = Result Side Refusal} (Err NotARecord) (Err r) = sym (unread f) ∙ e in closed f ∙ cc
 
-    none_there : 0 ≡ number_at found
-    none_there = e ∙ by_found could_read
-
-    both_there : (0 ≡ test_number s a b) × (few ≡ true)
-    unfolding test_number few x y
-    both_there = was_free x y few none_there
-
+  -- nothing is refused
+  pub record Free (d : Side) : Type 0 where
+    pub read : readable s side ≡ true
     pub passed : Passed s a b
-    passed = was_passed s a b both_there.0
-
     pub fits : length s / 8 ≤ places
-    unfolding few
-    fits = omega (arith, leb-true (length (blocks_in s)) places both_there.1, count s a b)
-
+    pub named : d ≡ side_named side
     pub accepted : moves_at s a b side places ≡ done (cut_moves (blocks_in s) (inst a) (inst b) (side_named side))
-    accepted = opened could_read ∙ none_found found (blocks_in s) (inst a) (inst b) (side_named side) none_there
+
+  by_none : (d : Side) → readable s side ≡ true → found ≡ none → d ≡ side_named side → Free d
+  unfolding cut_refusal few x y moves_to
+  by_none d r o n =
+      let w = was_free x y few o in
+      record {
+        read = r;
+        passed = was_passed s a b w.0;
+        fits = omega (arith, leb-true (length (blocks_in s)) places w.1, count s a b);
+        named = n;
+        accepted =
+            opened r
+            ∙ ap (λ (p : Option Refusal). moves_to p (blocks_in s) (inst a) (inst b) (side_named side)) o;
+      }
+
+  pub was_admitted_moves : (d : Side) → moves_admission s a b side places ≡ Ok d → Free d
+  was_admitted_moves d e = go (readable s side) refl
+    where
+      go : (t : Bool) → readable s side ≡ t → Free d
+      go true f = let w = unless_ok found (sym (reading f) ∙ e) in by_none d f w.0 w.1
+      go false f = let g : ◌≡◌ {A = Result Side Refusal} (Err NotARecord) (Ok d) = sym (unread f) ∙ e in cc
+
+  -- by the answer's number
+  pub was_zero : (end_of (moves_at s a b side places)).number ≡ 0 → Free (side_named side)
+  unfolding end_of moves_to
+  was_zero e = go (readable s side) refl
+    where
+      by_tests : (o : Option Refusal) → (end_of (moves_to o (blocks_in s) (inst a) (inst b) (side_named side))).number ≡ 0 → o ≡ none
+      by_tests none g = refl
+      by_tests (some q) g = absurd (numbered q (sym g))
+
+      go : (t : Bool) → readable s side ≡ t → Free (side_named side)
+      go true f = by_none (side_named side) f (by_tests found (sym (ap (λ (o : Out (List CutMove)). (end_of o).number) (opened f)) ∙ e)) refl
+      go false f = absurd (let z : ◌≡◌ {A = ℕ} 1 0 = sym (ap (λ (o : Out (List CutMove)). (end_of o).number) (closed f)) ∙ e in omega arith)

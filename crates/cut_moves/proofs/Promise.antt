@@ -19,9 +19,9 @@ use Rattle.cut_margins.specs.Promised.{Fair, Named, Movable, Fewest, InOrder, Of
 use Rattle.cut_margins.proofs.Table.{open_blocks}
 use Rattle.cut_margins.proofs.Moved.{moves_open}
 use Rattle.cut_margins.proofs.Promises.{moves_listed, moves_fewest, moves_sorted, moves_first}
-use Rattle.cut_moves.specs.Answer.{moves_at, moves_number, end_of, list_of, moves_end, list_left}
+use Rattle.cut_moves.specs.Answer.{moves_at, end_of, list_of, moves_end, list_left}
 use Rattle.cut_moves.specs.Promised.{word_in, with_word, Asked, moves_read}
-use Rattle.cut_moves.proofs.Numbers.{could_read, passed, accepted}
+use Rattle.cut_moves.proofs.Numbers.{Free, was_zero}
 use Rattle.cut_moves.proofs.Read.{moves_read_lem}
 use Rattle.cut_moves.proofs.Asked.{word_pattern, fair_in, asked_again, asked_moves, moves_asked}
 
@@ -62,15 +62,15 @@ module _ (s : List ℕ) (after before side room : ℕ) (small : (i : ℕ) → ge
   abbrev Moved : ℕ → ℕ → Type 0
   Moved = Moves bs (inst after) (inst before) (side_named side)
 
-  none : 0 ≡ moves_number s after before side (room / 12)
-  unfolding moves_number moves_end
-  none = sym e
+  free : Free s after before side (room / 12) (side_named side)
+  unfolding moves_end
+  free = was_zero s after before side (room / 12) e
 
   ok : Passed s after before
-  ok = passed s after before side (room / 12) none
+  ok = free.passed
 
   read : readable s side ≡ true
-  read = could_read s after before side (room / 12) none
+  read = free.read
 
   fair : Fair bs (inst after) (inst before)
   fair = fair_in s after before small ok
@@ -91,7 +91,7 @@ module _ (s : List ℕ) (after before side room : ℕ) (small : (i : ℕ) → ge
       (moves_asked s after before small ok side read j x h l, asked_moves s after before small ok side read j x h l)
 
   ended : moves_at s after before side (room / 12) ≡ done list
-  ended = accepted s after before side (room / 12) none
+  ended = free.accepted
 
   counted : count ≡ length list
   unfolding moves_end end_of

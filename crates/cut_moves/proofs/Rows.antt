@@ -4,7 +4,11 @@ use Prim.Native.Nat.{ℕ, suc, ◌+◌, ◌-◌, ◌*◌, ◌≤◌, ◌<◌}
 use native.Mathlib.Omega.{arith}
 use native.Mathlib.Numerals.{add-one}
 use mathlib.Core.Path.{◌≡◌, refl, sym, ap, ◌∙◌}
-use mathlib.Core.Bool.{cond}
+use denote.Enum.Declared.{tag_of}
+use Rattle.definition.specs.declared.Way.{Way}
+use Rattle.definition.specs.declared.Way.TheVariants.{Up, Down}
+use Rattle.definition.specs.contracts.Way.{the_type}
+use mathlib.Core.Bool.{Bool, true, false, cond}
 use mathlib.Core.Option.{Option, none, some}
 use mathlib.Core.List.{List, [], ◌∷◌, ◌++◌, append_assoc, append-nil}
 use lib.Dec.{eqb}
@@ -36,6 +40,14 @@ way_up i c e = rw (eq-eqb i c e)
 
 pub way_down : (i c : ℕ) → (i ≡ c → ⊥) → ◌≡◌ {A = ℕ} 1 (cond (eqb i c) 0 1)
 way_down i c n = rw (ne_eqb i c n)
+
+-- a way's number is its place in the enum
+pub tag_way : (i c : ℕ) (w : Way) → w ≡ cond (eqb i c) Up Down → tag_of the_type w ≡ cond (eqb i c) 0 1
+tag_way i c w e = ap (tag_of the_type) e ∙ go (eqb i c)
+  where
+    go : (t : Bool) → tag_of the_type (cond t Up Down) ≡ cond t 0 1
+    go true = refl
+    go false = refl
 
 one_more_lem : (k steps : ℕ) → (steps ≡ 0 → ⊥) → k + 1 ≡ k + cond (eqb steps 0) 0 1
 one_more_lem k steps n = rw (ne_eqb steps 0 n)

@@ -1,13 +1,16 @@
 -- The answer on what would move a cut, for any bytes and numbers: through the definition's `find_moves`.
 -- Assumes nothing.
-use Rattle.std.specs.Prelude.{ℕ, ◌/◌, cond, List, [], ◌∷◌, eqb, length, replicate}
+use Rattle.std.specs.Prelude.{ℕ, ◌/◌, cond, List, [], ◌∷◌, eqb, length, replicate, Result, Err}
 use Rattle.definition.specs.declared.CutMove.{CutMove}
+use Rattle.definition.specs.declared.Refusal.{Refusal}
 use Rattle.definition.specs.declared.Refusal.TheVariants.{NotARecord}
+use Rattle.definition.specs.declared.Side.{Side}
 use Rattle.definition.specs.Types.{Out, done, refused, inst, number_of}
-use Rattle.definition.specs.CutMoves.{find_moves, way_number}
+use Rattle.definition.specs.Entry.{lowest_of, insts_of, every, block_ok}
+use Rattle.definition.specs.CutMoves.{moves_tests, find_moves, way_number}
 use Rattle.rows.specs.Parts.{pad}
 use Rattle.words.specs.Words.{bytes_of}
-use Rattle.find_cut.specs.Answer.{blocks_in, side_named, readable}
+use Rattle.find_cut.specs.Answer.{blocks_in, side_named, readable, unless}
 use Rattle.cut_moves.specs.declared.MovesEnd.{MovesEnd}
 
 -- a row of three words for each move: block, way, steps
@@ -47,10 +50,12 @@ list_left s after before side room = list_of room (moves_out s after before side
 
 -- ---- within the code
 
--- the number alone
-unfoldable pub moves_number : List ℕ → ℕ → ℕ → ℕ → ℕ → ℕ
-unfolding moves_at end_of
-moves_number s after before side places = (end_of (moves_at s after before side places)).number
+-- what all the tests of a call say: its side, or the first refusal
+unfoldable pub moves_admission : List ℕ → ℕ → ℕ → ℕ → ℕ → Result Side Refusal
+unfolding lowest_of insts_of every block_ok side_named
+moves_admission s after before side places =
+    cond (readable s side)
+    (unless (lowest_of (moves_tests (blocks_in s) (inst after) (inst before) places)) (side_named side)) (Err NotARecord)
 
 -- block i's row, c being the chosen block; none for 0 steps
 unfoldable pub move_row : ℕ → ℕ → ℕ → List ℕ

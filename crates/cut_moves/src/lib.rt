@@ -6,14 +6,15 @@ ghost use Rattle.std.specs.Prelude.{◌≡◌, true, cond, ℕ, suc, ◌+◌, �
 ghost use Rattle.definition.specs.Types.{inst};
 ghost use Rattle.definition.specs.Entry.{insts_of, every, block_ok};
 ghost use Rattle.definition.specs.CutMoves.{infinity, moves_from, cut_moves};
+ghost use Rattle.definition.specs.declared.Way.TheVariants.{Up, Down};
 ghost use Rattle.rows.specs.Parts.{splice, pad};
 ghost use Rattle.words.specs.Words.{word_count, words_of};
 ghost use Rattle.function.specs.Blocks.{blocks_at};
 ghost use Rattle.cut_margins.specs.Margins.{Chosen};
 ghost use Rattle.cut_margins.specs.Table.{bits};
-ghost use Rattle.cut_moves.specs.Answer.{move_words, move_row, moves_number, moves_end, list_left};
+ghost use Rattle.cut_moves.specs.Answer.{move_words, move_row, moves_admission, moves_end, list_left};
 
-use definition::{Block, Inst, Side};
+use definition::{Block, Inst, Refusal, Side, Way};
 
 // Number 0 and how many blocks could move the cut; or the refusal's number, and 0.
 #[repr(C)]
@@ -23,34 +24,28 @@ pub struct MovesEnd {
     pub count: u32,
 }
 
-// The refusal's number, or 0: the cut finder's 1, 2 and 4; then 9 for fewer places than blocks.
-fn number_of(blocks: &[u8], after: u32, before: u32, side: u32, places: usize) -> u32
-    ensures { result ≡ moves_number blocks.now after before side places }
+// The side of a call, or its first refusal: the cut finder's tests come first.
+fn admitted(
+    blocks: &[u8],
+    after: u32,
+    before: u32,
+    side: u32,
+    places: usize,
+) -> Result<Side, Refusal>
+    ensures { result ≡ moves_admission blocks.now after before side places }
 {
-    if 1 < side {
-        return 1; // no side
-    }
-    if blocks.len() % 8 != 0 {
-        return 1; // not whole rows
-    }
-    if blocks.len() == 0 {
-        return 1; // no block
-    }
-    let number = find_cut::tested(blocks, after, before);
-    if number != 0 {
-        return number;
-    }
+    let named = find_cut::admitted(blocks, after, before, side)?;
     if places < blocks.len() / 8 {
-        return 9; // fewer places than blocks
+        return Err(Refusal::Full); // fewer places than blocks
     }
-    0
+    Ok(named)
 }
 
 // The way of block i: up for the chosen block c, else down.
-fn way_of(i: Block, c: Block) -> u32
-    ensures { result ≡ cond (eqb i.0 c.0) 0 1 }
+fn way_of(i: Block, c: Block) -> Way
+    ensures { result ≡ cond (eqb i.0 c.0) Up Down }
 {
-    if i.0 == c.0 { 0 } else { 1 }
+    if i == c { Way::Up } else { Way::Down }
 }
 
 // Behind k rows of the list that of block i, where it has steps; how many rows there are then.
@@ -62,7 +57,7 @@ fn put_move(list: &mut [u8], k: u32, i: Block, c: Block, steps: u32) -> u32
     if steps == 0 {
         return k;
     }
-    words::put_3(list, k as usize * 3, i.0, way_of(i, c), steps);
+    words::put_row(list, k as usize * 3, [i.0, way_of(i, c) as u32, steps]);
     k + 1
 }
 
@@ -87,12 +82,9 @@ fn put_moves(
         (moves_from side (bits (words_of starts.now)) c.0 e from.0 (suc to.0 - from.0)))) }
 {
     let mut k: u32 = 0;
-    let mut i = from.0;
-    let end = to.0 + 1;
-    while i < end {
+    for i in from.0..to.0 + 1 {
         let steps = cut_margins::steps(starts, side, c, e, Block(i));
         k = put_move(list, k, Block(i), c, steps);
-        i += 1;
     }
     k
 }
@@ -120,8 +112,8 @@ fn put_sorted(
         (cut_moves (blocks_at (words_of blocks.now) 0 n) (inst after) (inst before) side))) }
 {
     block_starts::put_starts(blocks, 0, n, work, 0);
-    let from = cut_margins::first_open(work, n, Inst(after), side);
-    let to = cut_margins::last_open(work, n, Inst(before), side);
+    let from = split_placement::judging(work, 0, n, Inst(after + 1), side);
+    let to = split_placement::judging(work, 0, n, Inst(before), side);
     let c = cut_margins::chosen(work, from, to, side);
     let e = cut_margins::edge_of(work, from, to, side, c);
     let count = put_moves(list, work, from, to, side, c, e);
@@ -146,20 +138,16 @@ pub fn find_cut_moves(
         ≡ list_left blocks.now after before side (length list.old) }
 {
     spans::clear(list);
-    let number = number_of(blocks, after, before, side, list.len() / 12);
-    if number != 0 {
-        return MovesEnd { number, count: 0 };
+    match admitted(blocks, after, before, side, list.len() / 12) {
+        Err(refusal) => MovesEnd {
+            number: find_cut::number_of(refusal),
+            count: 0,
+        },
+        Ok(side) => {
+            let n = (blocks.len() / 8) as u32;
+            let end = list.len() / 4 * 4;
+            let count = put_sorted(blocks, n, after, before, side, &mut list[..end], work);
+            MovesEnd { number: 0, count }
+        }
     }
-    let n = (blocks.len() / 8) as u32;
-    let end = list.len() / 4 * 4;
-    let count = put_sorted(
-        blocks,
-        n,
-        after,
-        before,
-        find_cut::side_of(side),
-        &mut list[..end],
-        work,
-    );
-    MovesEnd { number: 0, count }
 }

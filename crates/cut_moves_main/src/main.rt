@@ -13,10 +13,8 @@ fn put_words(out: &mut [u8], at: usize, list: &[u8]) -> usize
     ensures { result ≤ at + length list.now / 4 * 21 }
 {
     let mut a = at;
-    let mut i = 0;
-    while i < list.len() / 4 {
+    for i in 0..list.len() / 4 {
         a = lines::put_field(out, a, words::word_at(list, i));
-        i += 1;
     }
     a
 }
@@ -202,13 +200,13 @@ fn all(out: &mut [u8], work: &mut [u8; 4104]) -> usize
     refused(out, a, &mut list, work)
 }
 
+// What find_cut_main::main does alike are the calls of `write_to` and `fail`: lengths, answers and words are its own.
 fn main(rt: HostRuntime) -> io::Result<()> {
     let mut out = [0u8; 4224];
     let mut work = [0u8; 4104];
     let n = all(&mut out, &mut work);
     let mut sink = Noted::new(rt.stdout());
-    let w = streams::write_to(&mut sink, &out[0..n]);
-    if w.failed {
+    if streams::write_to(&mut sink, &out[0..n]).is_err() {
         let what = "cut_moves_main: the answers could not be written, and are cut";
         return streams::fail(&rt, what, sink.reason);
     }

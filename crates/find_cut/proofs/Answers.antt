@@ -1,40 +1,28 @@
 -- The answer and the work space, one law for each way out. Assumes nothing.
 use Prim.Native.Nat.{ℕ, ◌+◌, ◌*◌, ◌/◌, ◌%◌, ◌≤◌, ◌<◌}
 use native.Mathlib.Omega.{arith}
-use mathlib.Core.Path.{◌≡◌, sym, ap, ◌∙◌, subst}
-use mathlib.Core.Bool.{true, false, ◌&&◌}
+use mathlib.Core.Path.{◌≡◌, refl, sym, ap, ◌∙◌, subst}
+use Rattle.std.specs.Prelude.{Result, Ok, Err, Some, None}
+use mathlib.Core.Bool.{Bool, true, false, cond, ◌&&◌}
 use mathlib.Core.Option.{Option, none, some}
 use mathlib.Core.List.{List}
 use lib.Dec.{leb, ltb, eqb}
 use lib.ListN.{length, get_or}
-use borrow.Author.Tests.{le-leb, lt-leb, lt-ltb, le-ltb, eq-eqb, ne_eqb}
-use Rattle.definition.specs.declared.Inst.{Inst}
+use borrow.Author.Tests.{eqb-true, ltb-true, lt-ltb, le-ltb, eq-eqb, ne_eqb}
 use Rattle.definition.specs.declared.BlockData.{BlockData}
 use Rattle.definition.specs.declared.Side.{Side}
-use Rattle.definition.specs.declared.Side.TheVariants.{Early, Late}
 use Rattle.definition.specs.declared.Refusal.{Refusal}
 use Rattle.definition.specs.declared.Refusal.TheVariants.{NotARecord, OverALimit, BadBook, BadFunction, BadHint, BadSegment, BadUse, Stopped, Full}
-use Rattle.definition.specs.Types.{inst, number_of}
-use Rattle.definition.specs.Entry.{insts_of, every, block_ok, lowest_of, cut_tests, cut_to, find_cut, side_of}
-use Rattle.definition.specs.SplitPlacement.{early_cut, late_cut}
+use Rattle.definition.specs.Types.{done, refused, inst, number_of}
+use Rattle.definition.specs.Entry.{insts_of, every, block_ok, cut_to, find_cut, side_of}
 use Rattle.rows.specs.Parts.{splice}
 use Rattle.rows.specs.RowsAt.{length_rows_at}
 use Rattle.words.specs.Words.{words_of}
-use Rattle.function.specs.Bools.{both, not_l, not_r}
+use Rattle.function.specs.Bools.{and_l, and_r, both, not_l, not_r}
 use Rattle.function.specs.Blocks.{block_row, blocks_at, start_words, Starts}
 use Rattle.block_starts.proofs.Made.{starts_made}
 use Rattle.find_cut.specs.declared.Cut.{Cut}
-use Rattle.find_cut.specs.Answer.{blocks_in, side_named, readable, cut_out, cut_of, cut_answer, work_left, number_at, test_number}
-
--- ---- which side
-
-pub named_early : (side : ℕ) → side ≡ 0 → Early ≡ side_named side
-unfolding side_named
-named_early side e = rw (eq-eqb side 0 e)
-
-pub named_late : (side : ℕ) → (side ≡ 0 → ⊥) → Late ≡ side_named side
-unfolding side_named
-named_late side e = rw (ne_eqb side 0 e)
+use Rattle.find_cut.specs.Answer.{blocks_in, side_named, readable, cut_out, cut_of, cut_answer, work_left, unless, cut_refusal, admission}
 
 -- ---- the cut by the table of starts
 
@@ -43,17 +31,24 @@ module _ (W T T' : List ℕ) (n a b r : ℕ) (e : T' ≡ splice T 0 (start_words
   table : Starts T' 0 (blocks_at W 0 n)
   table = subst (λ (t : List ℕ). Starts t 0 (blocks_at W 0 n)) (sym e) (starts_made T W 0 0 n (omega arith) small ok)
 
-  pub early_by : (side : Side) → side ≡ Early → ((bs : List BlockData) → Starts T' 0 bs → length bs ≡ n → b < insts_of bs → r ≡ early_cut bs a b) → r ≡ side_of side (blocks_at W 0 n) a b
-  early_by side q f = f (blocks_at W 0 n) table (length_rows_at block_row W 0 2 n) h ∙ ap (λ (x : Side). side_of x (blocks_at W 0 n) a b) (sym q)
-
-  pub late_by : (side : Side) → side ≡ Late → ((bs : List BlockData) → Starts T' 0 bs → length bs ≡ n → b < insts_of bs → r ≡ late_cut bs a b) → r ≡ side_of side (blocks_at W 0 n) a b
-  late_by side q f = f (blocks_at W 0 n) table (length_rows_at block_row W 0 2 n) h ∙ ap (λ (x : Side). side_of x (blocks_at W 0 n) a b) (sym q)
+  pub by_table : (side : Side) → ((bs : List BlockData) → Starts T' 0 bs → length bs ≡ n → b < insts_of bs → r ≡ side_of side bs a b)
+      → r ≡ side_of side (blocks_at W 0 n) a b
+  by_table side f = f (blocks_at W 0 n) table (length_rows_at block_row W 0 2 n) h
 
 -- ---- readable or not
 
+-- a side or none, by the test of its number
+pub unsided : (t : Bool) (x : Side) → None ≡ cond t (Some x) None → t ≡ false
+unsided true x e = cc
+unsided false x e = refl
+
+pub sided : (t : Bool) (x d : Side) → Some d ≡ cond t (Some x) None → (t ≡ true) × (d ≡ x)
+sided true x d e = (refl, cc)
+sided false x d e = cc
+
 module _ (s : List ℕ) (side : ℕ) where
-  pub no_side : 1 < side → readable s side ≡ false
-  no_side h = not_l (leb side 1) (eqb (length s % 8) 0 && ltb 0 (length s)) (lt-leb side 1 h)
+  pub no_side : leb side 1 ≡ false → readable s side ≡ false
+  no_side h = not_l (leb side 1) (eqb (length s % 8) 0 && ltb 0 (length s)) h
 
   pub no_rows : (length s % 8 ≡ 0 → ⊥) → readable s side ≡ false
   no_rows h = not_r (leb side 1) (eqb (length s % 8) 0 && ltb 0 (length s)) (not_l (eqb (length s % 8) 0) (ltb 0 (length s)) (ne_eqb (length s % 8) 0 h))
@@ -61,8 +56,16 @@ module _ (s : List ℕ) (side : ℕ) where
   pub no_block : length s ≡ 0 → readable s side ≡ false
   no_block h = not_r (leb side 1) (eqb (length s % 8) 0 && ltb 0 (length s)) (not_r (eqb (length s % 8) 0) (ltb 0 (length s)) (le-ltb 0 (length s) (omega arith)))
 
-  pub reads : side ≤ 1 → length s % 8 ≡ 0 → (length s ≡ 0 → ⊥) → readable s side ≡ true
-  reads h k l = both (leb side 1) (eqb (length s % 8) 0 && ltb 0 (length s)) (le-leb side 1 h) (both (eqb (length s % 8) 0) (ltb 0 (length s)) (eq-eqb (length s % 8) 0 k) (lt-ltb 0 (length s) (omega (arith, l))))
+  pub reads : leb side 1 ≡ true → length s % 8 ≡ 0 → (length s ≡ 0 → ⊥) → readable s side ≡ true
+  reads h k l = both (leb side 1) (eqb (length s % 8) 0 && ltb 0 (length s)) h (both (eqb (length s % 8) 0) (ltb 0 (length s)) (eq-eqb (length s % 8) 0 k) (lt-ltb 0 (length s) (omega (arith, l))))
+
+  -- what reads has a block
+  pub rows_there : readable s side ≡ true → 0 < length s / 8
+  rows_there e =
+      let whole = eqb (length s % 8) 0 in
+      let some = ltb 0 (length s) in
+      let r = and_r (leb side 1) (whole && some) e in
+      omega (arith, eqb-true (length s % 8) 0 (and_l whole some r), ltb-true 0 (length s) (and_r whole some r))
 
 -- ---- the answer
 
@@ -80,64 +83,96 @@ numbered BadUse e = omega arith
 numbered (Stopped x) e = omega arith
 numbered Full e = omega arith
 
-by_refusal : (o : Option Refusal) (k : ℕ) (bs : List BlockData) (a b : Inst) (side : Side) → k ≡ number_at o → (k ≡ 0 → ⊥) → answered k 0 ≡ cut_of (cut_to o bs a b side)
-unfolding number_at cut_of cut_to
-by_refusal none k bs a b side e h = absurd (h e)
-by_refusal (some r) k bs a b side e h = ap (λ (x : ℕ). answered x 0) e
+-- a refusal comes through
+pub unless_err : {A B : Type 0} (o : Option Refusal) (x : A) (y : B) (r : Refusal) → unless o x ≡ Err r → Err r ≡ unless o y
+unless_err none x y r e = cc
+unless_err (some q) x y r e = cc
 
-by_cut : (o : Option Refusal) (c : ℕ) (bs : List BlockData) (a b : Inst) (side : Side) → 0 ≡ number_at o → c ≡ side_of side bs a.0 b.0 → answered 0 c ≡ cut_of (cut_to o bs a b side)
-unfolding number_at cut_of cut_to
-by_cut none c bs a b side e h = ap (λ (x : ℕ). answered 0 x) h
-by_cut (some r) c bs a b side e h = absurd (numbered r e)
+pub unless_some : {A : Type 0} (o : Option Refusal) (x : A) (r : Refusal) → unless o x ≡ Err r → o ≡ some r
+unless_some none x r e = cc
+unless_some (some q) x r e = cc
+
+pub unless_ok : {A : Type 0} (o : Option Refusal) {x z : A} → unless o x ≡ Ok z → (o ≡ none) × (z ≡ x)
+unless_ok none e = (refl, cc)
+unless_ok (some q) e = cc
+
+-- a call admitted
+pub record Admitted (s : List ℕ) (a b side : ℕ) (d : Side) : Type 0 where
+  pub read : readable s side ≡ true
+  pub none_found : cut_refusal s a b ≡ none
+  pub named : d ≡ side_named side
 
 module _ (s : List ℕ) (a b side : ℕ) where
-  pub unread : readable s side ≡ false → answered 1 0 ≡ cut_answer s a b side
-  unfolding cut_answer cut_out cut_of
+  pub unread : readable s side ≡ false → Err NotARecord ≡ admission s a b side
+  unfolding admission
   unread e = rw e
 
-  pub opened : readable s side ≡ true → cut_answer s a b side ≡ cut_of (cut_to (lowest_of (cut_tests (blocks_in s) (inst a) (inst b))) (blocks_in s) (inst a) (inst b) (side_named side))
-  unfolding cut_answer cut_out find_cut
+  pub reading : readable s side ≡ true → admission s a b side ≡ unless (cut_refusal s a b) (side_named side)
+  unfolding admission
+  reading e = rw e
+
+  pub stopped : readable s side ≡ true → (r : Refusal) → Err r ≡ unless (cut_refusal s a b) (tt {0}) → Err r ≡ admission s a b side
+  stopped e r h = unless_err (cut_refusal s a b) (tt {0}) (side_named side) r (sym h) ∙ sym (reading e)
+
+  pub passed : readable s side ≡ true → (d : Side) → d ≡ side_named side → Ok (tt {0}) ≡ unless (cut_refusal s a b) (tt {0}) → Ok d ≡ admission s a b side
+  passed e d n h =
+      ap Ok n ∙ sym (reading e ∙ ap (λ (o : Option Refusal). unless o (side_named side)) (unless_ok (cut_refusal s a b) (sym h)).0)
+
+  pub closed : readable s side ≡ false → cut_out s a b side ≡ refused NotARecord
+  unfolding cut_out
+  closed e = rw e
+
+  pub opened : readable s side ≡ true → cut_out s a b side ≡ cut_to (cut_refusal s a b) (blocks_in s) (inst a) (inst b) (side_named side)
+  unfolding cut_out find_cut cut_refusal
   opened e = rw e
 
-  turned_down : (k : ℕ) → readable s side ≡ true → k ≡ test_number s a b → (k ≡ 0 → ⊥) → answered k 0 ≡ cut_answer s a b side
-  unfolding test_number
-  turned_down k e f h = by_refusal (lowest_of (cut_tests (blocks_in s) (inst a) (inst b))) k (blocks_in s) (inst a) (inst b) (side_named side) f h ∙ sym (opened e)
+  -- what is not admitted is refused
+  pub refused_out : (r : Refusal) → admission s a b side ≡ Err r → cut_out s a b side ≡ refused r
+  unfolding cut_to
+  refused_out r e = go (readable s side) refl
+    where
+      by_tests : (o : Option Refusal) → cut_refusal s a b ≡ o → unless o (side_named side) ≡ Err r → cut_to o (blocks_in s) (inst a) (inst b) (side_named side) ≡ refused r
+      by_tests none f g = cc
+      by_tests (some q) f g = cc
 
-  pub accepted : (c : ℕ) → readable s side ≡ true → 0 ≡ test_number s a b → c ≡ side_of (side_named side) (blocks_in s) a b → answered 0 c ≡ cut_answer s a b side
-  unfolding test_number
-  accepted c e f h = by_cut (lowest_of (cut_tests (blocks_in s) (inst a) (inst b))) c (blocks_in s) (inst a) (inst b) (side_named side) f h ∙ sym (opened e)
+      go : (t : Bool) → readable s side ≡ t → cut_out s a b side ≡ refused r
+      go true f = opened f ∙ by_tests (cut_refusal s a b) refl (sym (reading f) ∙ e)
+      go false f = let g : ◌≡◌ {A = Result Side Refusal} (Err NotARecord) (Err r) = unread f ∙ e in closed f ∙ cc
+
+  pub was_admitted : (d : Side) → admission s a b side ≡ Ok d → Admitted s a b side d
+  was_admitted d e = go (readable s side) refl
+    where
+      go : (t : Bool) → readable s side ≡ t → Admitted s a b side d
+      go true f =
+          let w = unless_ok (cut_refusal s a b) (sym (reading f) ∙ e) in
+          record { read = f; none_found = w.0; named = w.1 }
+      go false f = let g : ◌≡◌ {A = Result Side Refusal} (Err NotARecord) (Ok d) = unread f ∙ e in cc
+
+  pub accepted : (d : Side) (c : ℕ) → Admitted s a b side d → c ≡ side_of d (blocks_in s) a b → cut_out s a b side ≡ done (inst c)
+  unfolding cut_to
+  accepted d c p h =
+      opened p.read ∙ ap (λ (o : Option Refusal). cut_to o (blocks_in s) (inst a) (inst b) (side_named side)) p.none_found
+      ∙ ap (λ (x : ℕ). done (inst x)) (sym (h ∙ ap (λ (x : Side). side_of x (blocks_in s) a b) p.named))
 
   module _ (w : List ℕ) where
-    left_alone : (k : ℕ) → answered k 0 ≡ cut_answer s a b side → (k ≡ 0 → ⊥) → w ≡ work_left s a b side w
-    unfolding work_left
-    left_alone k e h = rw (← e, ne_eqb k 0 h)
-
-    left_table : (c : ℕ) → answered 0 c ≡ cut_answer s a b side → splice w 0 (start_words (words_of s) 0 (length s / 8)) ≡ work_left s a b side w
-    unfolding work_left
-    left_table c e = rw (← e)
-
     -- the answer and the work space together
     abbrev Leaves : Cut → List ℕ → Type 0
     Leaves r v = (r ≡ cut_answer s a b side) × (v ≡ work_left s a b side w)
 
-    refused_1 : readable s side ≡ false → Leaves (answered 1 0) w
-    refused_1 e = (unread e, left_alone 1 (unread e) (λ z. omega arith))
+    pub failed : (k : ℕ) (r : Refusal) → admission s a b side ≡ Err r → k ≡ number_of r → Leaves (answered k 0) w
+    unfolding work_left cut_answer cut_of
+    failed k r e h =
+        let o = refused_out r e in
+        let n : k ≡ 0 → ⊥ = λ z. numbered r (sym z ∙ h) in (
+          ap (λ (x : ℕ). answered x 0) h ∙ sym (ap cut_of o),
+          rw (o, ← h, ne_eqb k 0 n),
+        )
 
-    pub off_list : 1 < side → Leaves (answered 1 0) w
-    off_list h = refused_1 (no_side s side h)
-
-    pub not_whole : (length s % 8 ≡ 0 → ⊥) → Leaves (answered 1 0) w
-    not_whole h = refused_1 (no_rows s side h)
-
-    pub nothing : length s ≡ 0 → Leaves (answered 1 0) w
-    nothing h = refused_1 (no_block s side h)
-
-    module _ (p : side ≤ 1) (q : length s % 8 ≡ 0) (u : length s ≡ 0 → ⊥) where
-      pub failed : (k : ℕ) → k ≡ test_number s a b → (k ≡ 0 → ⊥) → Leaves (answered k 0) w
-      failed k e h = (turned_down k (reads s side p q u) e h, left_alone k (turned_down k (reads s side p q u) e h) h)
-
-      pub cut_found : (k c : ℕ) (x : Side) (v : List ℕ) → k ≡ test_number s a b → k ≡ 0 → x ≡ side_named side → c ≡ side_of x (blocks_in s) a b
-          → v ≡ splice w 0 (start_words (words_of s) 0 (length s / 8)) → Leaves (answered 0 c) v
-      cut_found k c x v e z f h g =
-          let t : answered 0 c ≡ cut_answer s a b side = accepted c (reads s side p q u) (sym z ∙ e) (h ∙ ap (λ (y : Side). side_of y (blocks_in s) a b) f) in
-          (t, g ∙ left_table c t)
+    pub cut_found : (d : Side) (c : ℕ) (v : List ℕ) → admission s a b side ≡ Ok d → c ≡ side_of d (blocks_in s) a b
+        → v ≡ splice w 0 (start_words (words_of s) 0 (length s / 8)) → Leaves (answered 0 c) v
+    unfolding work_left cut_answer cut_of
+    cut_found d c v e h g =
+        let o = accepted d c (was_admitted d e) h in (
+          sym (ap cut_of o),
+          g ∙ rw o,
+        )

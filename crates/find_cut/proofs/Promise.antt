@@ -10,31 +10,32 @@ use Rattle.definition.specs.declared.BlockData.{BlockData}
 use Rattle.definition.specs.declared.Side.{Side}
 use Rattle.definition.specs.declared.Refusal.{Refusal}
 use Rattle.definition.specs.Types.{inst}
-use Rattle.definition.specs.Entry.{lowest_of, cut_tests, cut_to, side_of}
+use Rattle.definition.specs.Entry.{cut_to, side_of}
 use Rattle.definition.specs.SplitPlacement.{freq_at}
 use Rattle.split_placement.specs.Places.{EarlyPlace, LatePlace, EarliestLeast, LatestLeast}
 use Rattle.split_placement.proofs.Rules.{early_rule, late_rule}
 use Rattle.find_cut.specs.declared.Cut.{Cut}
-use Rattle.find_cut.specs.Answer.{blocks_in, side_named, readable, cut_of, cut_answer, number_at, test_number}
+use Rattle.find_cut.specs.Answer.{blocks_in, side_named, readable, cut_of, cut_answer, cut_refusal}
 use Rattle.find_cut.proofs.Tests.{Passed, was_passed}
-use Rattle.find_cut.proofs.Answers.{answered, numbered, unread, opened}
+use Rattle.find_cut.proofs.Answers.{answered, numbered, closed, opened}
 
-by_none : (o : Option Refusal) (bs : List BlockData) (a b : Inst) (side : Side) (i : ℕ) → cut_of (cut_to o bs a b side) ≡ answered 0 i → (0 ≡ number_at o) × (i ≡ side_of side bs a.0 b.0)
-unfolding cut_of cut_to number_at
+by_none : (o : Option Refusal) (bs : List BlockData) (a b : Inst) (side : Side) (i : ℕ) → cut_of (cut_to o bs a b side) ≡ answered 0 i → (o ≡ none) × (i ≡ side_of side bs a.0 b.0)
+unfolding cut_of cut_to
 by_none none bs a b side i e = (refl, sym (ap (λ (c : Cut). c.inst) e))
 by_none (some r) bs a b side i e = absurd (numbered r (sym (ap (λ (c : Cut). c.number) e)))
 
 module _ (s : List ℕ) (a b side i : ℕ) (e : cut_answer s a b side ≡ answered 0 i) where
   could_read : readable s side ≡ true
+  unfolding cut_answer cut_of
   could_read = go (readable s side) refl
     where
       go : (t : Bool) → readable s side ≡ t → readable s side ≡ true
       go true f = f
-      go false f = absurd (let z : ◌≡◌ {A = ℕ} 1 0 = ap (λ (c : Cut). c.number) (unread s a b side f ∙ e) in omega arith)
+      go false f = absurd (let z : ◌≡◌ {A = ℕ} 1 0 = ap (λ (c : Cut). c.number) (sym (ap cut_of (closed s a b side f)) ∙ e) in omega arith)
 
-  none_failed : (0 ≡ test_number s a b) × (i ≡ side_of (side_named side) (blocks_in s) a b)
-  unfolding test_number
-  none_failed = by_none (lowest_of (cut_tests (blocks_in s) (inst a) (inst b))) (blocks_in s) (inst a) (inst b) (side_named side) i (sym (opened s a b side could_read) ∙ e)
+  none_failed : (cut_refusal s a b ≡ none) × (i ≡ side_of (side_named side) (blocks_in s) a b)
+  unfolding cut_answer
+  none_failed = by_none (cut_refusal s a b) (blocks_in s) (inst a) (inst b) (side_named side) i (sym (ap cut_of (opened s a b side could_read)) ∙ e)
 
   pub all_passed : Passed s a b
   all_passed = was_passed s a b none_failed.0

@@ -1,7 +1,10 @@
 -- The tests of numbers 2 and 4, one law for each way out. Assumes nothing.
 use Prim.Native.Nat.{ℕ, ◌/◌, ◌≤◌, ◌<◌}
 use native.Mathlib.Omega.{arith}
-use mathlib.Core.Path.{◌≡◌, refl, sym}
+use mathlib.Core.Path.{◌≡◌, refl, sym, ap}
+use mathlib.Core.Option.{Option, none, some}
+use Rattle.std.specs.Prelude.{Ok, Err}
+use Rattle.definition.specs.declared.Refusal.{Refusal}
 use mathlib.Core.Bool.{Bool, true, false, ◌&&◌}
 use mathlib.Core.List.{List, [], ◌∷◌}
 use lib.Dec.{leb, ltb}
@@ -13,34 +16,42 @@ use Rattle.rows.specs.RowsAt.{length_rows_at}
 use Rattle.words.specs.Words.{words_of}
 use Rattle.function.specs.Bools.{clash, and_l, and_r, both, not_l, not_r}
 use Rattle.function.specs.Blocks.{block_row}
-use Rattle.find_cut.specs.Answer.{blocks_in, number_at, test_number}
+use Rattle.find_cut.specs.Answer.{blocks_in, unless, cut_refusal}
+
+-- ---- a step's answer, by what the tests find
+
+pub refuses : {A : Type 0} (x : A) {o : Option Refusal} {r : Refusal} → o ≡ some r → Err r ≡ unless o x
+refuses x e = sym (ap (λ (p : Option Refusal). unless p x) e)
+
+pub passes : {A : Type 0} (x : A) {o : Option Refusal} → o ≡ none → Ok x ≡ unless o x
+passes x e = sym (ap (λ (p : Option Refusal). unless p x) e)
 
 -- ---- both tests by their outcomes
 
-number : Bool → Bool → ℕ
-number x y = number_at (lowest_of ((x, OverALimit) ∷ (y, BadFunction) ∷ []))
+found : Bool → Bool → Option Refusal
+found x y = lowest_of ((x, OverALimit) ∷ (y, BadFunction) ∷ [])
 
-over : (x y : Bool) → x ≡ false → 2 ≡ number x y
-unfolding number number_at lowest_of
+over : (x y : Bool) → x ≡ false → found x y ≡ some OverALimit
+unfolding found lowest_of
 over false y e = refl
 over true y e = clash e
 
-wrong : (x y : Bool) → x ≡ true → y ≡ false → 4 ≡ number x y
-unfolding number number_at lowest_of
+wrong : (x y : Bool) → x ≡ true → y ≡ false → found x y ≡ some BadFunction
+unfolding found lowest_of
 wrong false y e f = clash (sym e)
 wrong true false e f = refl
 wrong true true e f = clash f
 
-fine : (x y : Bool) → x ≡ true → y ≡ true → 0 ≡ number x y
-unfolding number number_at lowest_of
+fine : (x y : Bool) → x ≡ true → y ≡ true → found x y ≡ none
+unfolding found lowest_of
 fine false y e f = clash (sym e)
 fine true false e f = clash (sym f)
 fine true true e f = refl
 
-was_fine : (x y : Bool) → 0 ≡ number x y → (x ≡ true) × (y ≡ true)
-unfolding number number_at lowest_of
-was_fine false y e = absurd (omega arith)
-was_fine true false e = absurd (omega arith)
+was_fine : (x y : Bool) → found x y ≡ none → (x ≡ true) × (y ≡ true)
+unfolding found lowest_of
+was_fine false y e = cc
+was_fine true false e = cc
 was_fine true true e = (refl, refl)
 
 -- ---- the code's ways
@@ -64,12 +75,12 @@ module _ (s : List ℕ) (a b : ℕ) where
   pub count : length (blocks_in s) ≡ length s / 8
   count = length_rows_at block_row (words_of s) 0 2 (length s / 8)
 
-  pub many : 512 < length s / 8 → 2 ≡ test_number s a b
-  unfolding test_number few short ordered inside filled number
+  pub many : 512 < length s / 8 → cut_refusal s a b ≡ some OverALimit
+  unfolding cut_refusal few short ordered inside filled found
   many h = over (few && short) (filled && (ordered && inside)) (not_l few short (lt-leb (length (blocks_in s)) 512 (omega (arith, count))))
 
-  pub long : (t : ℕ) → t ≡ insts_of (blocks_in s) → 4096 < t → 2 ≡ test_number s a b
-  unfolding test_number few short ordered inside filled number
+  pub long : (t : ℕ) → t ≡ insts_of (blocks_in s) → 4096 < t → cut_refusal s a b ≡ some OverALimit
+  unfolding cut_refusal few short ordered inside filled found
   long t e h = over (few && short) (filled && (ordered && inside)) (not_r few short (lt-leb (insts_of (blocks_in s)) 4096 (omega arith)))
 
   module _ (t : ℕ) (f : length s / 8 ≤ 512) (e : t ≡ insts_of (blocks_in s)) (g : t ≤ 4096) where
@@ -77,20 +88,20 @@ module _ (s : List ℕ) (a b : ℕ) where
     unfolding few short
     in_limits = both few short (le-leb (length (blocks_in s)) 512 (omega (arith, count))) (le-leb (insts_of (blocks_in s)) 4096 (omega arith))
 
-    pub bad : false ≡ every block_ok (blocks_in s) → 4 ≡ test_number s a b
-    unfolding test_number few short ordered inside filled number
+    pub bad : false ≡ every block_ok (blocks_in s) → cut_refusal s a b ≡ some BadFunction
+    unfolding cut_refusal few short ordered inside filled found
     bad h = wrong (few && short) (filled && (ordered && inside)) in_limits (not_l filled (ordered && inside) (sym h))
 
-    pub unordered : b ≤ a → 4 ≡ test_number s a b
-    unfolding test_number few short ordered inside filled number
+    pub unordered : b ≤ a → cut_refusal s a b ≡ some BadFunction
+    unfolding cut_refusal few short ordered inside filled found
     unordered h = wrong (few && short) (filled && (ordered && inside)) in_limits (not_r filled (ordered && inside) (not_l ordered inside (le-ltb a b h)))
 
-    pub past : t ≤ b → 4 ≡ test_number s a b
-    unfolding test_number few short ordered inside filled number
+    pub past : t ≤ b → cut_refusal s a b ≡ some BadFunction
+    unfolding cut_refusal few short ordered inside filled found
     past h = wrong (few && short) (filled && (ordered && inside)) in_limits (not_r filled (ordered && inside) (not_r ordered inside (le-ltb b (insts_of (blocks_in s)) (omega arith))))
 
-    pub passing : true ≡ every block_ok (blocks_in s) → a < b → b < t → 0 ≡ test_number s a b
-    unfolding test_number few short ordered inside filled number
+    pub passing : true ≡ every block_ok (blocks_in s) → a < b → b < t → cut_refusal s a b ≡ none
+    unfolding cut_refusal few short ordered inside filled found
     passing h k l =
         fine (few && short) (filled && (ordered && inside)) in_limits (both filled (ordered && inside) (sym h) (both ordered inside (lt-ltb a b k) (lt-ltb b (insts_of (blocks_in s)) (omega arith))))
 
@@ -102,8 +113,8 @@ module _ (s : List ℕ) (a b : ℕ) where
     pub order : a < b
     pub within : b < insts_of (blocks_in s)
 
-  pub was_passed : 0 ≡ test_number s a b → Passed
-  unfolding test_number few short ordered inside filled number
+  pub was_passed : cut_refusal s a b ≡ none → Passed
+  unfolding cut_refusal few short ordered inside filled found
   was_passed e =
       let w = was_fine (few && short) (filled && (ordered && inside)) e in
       let ends = and_r filled (ordered && inside) w.1 in

@@ -1,5 +1,5 @@
 -- The exported cut finder's answer, for any bytes and numbers: through the definition's `find_cut`. Assumes nothing.
-use Rattle.std.specs.Prelude.{ℕ, ◌/◌, ◌%◌, Bool, ◌&&◌, cond, List, leb, ltb, eqb, length}
+use Rattle.std.specs.Prelude.{ℕ, ◌/◌, ◌%◌, Bool, ◌&&◌, cond, List, leb, ltb, eqb, length, Result, Ok, Err}
 use Rattle.std.proofs.Math.Option.{Option, none, some}
 use Rattle.definition.specs.declared.Inst.{Inst}
 use Rattle.definition.specs.declared.BlockData.{BlockData}
@@ -44,11 +44,20 @@ unfoldable pub work_left : List ℕ → ℕ → ℕ → ℕ → List ℕ → Lis
 unfolding cut_answer
 work_left s after before side w = cond (eqb (cut_answer s after before side).number 0) (splice w 0 (start_words (words_of s) 0 (length s / 8))) w
 
--- the number of what the definition's tests find, 0 for nothing
-unfoldable pub number_at : Option Refusal → ℕ
-number_at none = 0
-number_at (some r) = number_of r
+-- ---- within the code
 
-unfoldable pub test_number : List ℕ → ℕ → ℕ → ℕ
-unfolding lowest_of insts_of every block_ok number_at
-test_number s after before = number_at (lowest_of (cut_tests (blocks_in s) (inst after) (inst before)))
+-- the first refusal that the tests of numbers 2 and 4 find
+unfoldable pub cut_refusal : List ℕ → ℕ → ℕ → Option Refusal
+unfolding lowest_of insts_of every block_ok
+cut_refusal s after before = lowest_of (cut_tests (blocks_in s) (inst after) (inst before))
+
+-- x, unless there is a refusal
+abbrev pub unless : {A : Type 0} → Option Refusal → A → Result A Refusal
+unless none x = Ok x
+unless (some r) x = Err r
+
+-- what all the tests of a call say: its side, or the first refusal
+unfoldable pub admission : List ℕ → ℕ → ℕ → ℕ → Result Side Refusal
+unfolding side_named cut_refusal
+admission s after before side =
+    cond (readable s side) (unless (cut_refusal s after before) (side_named side)) (Err NotARecord)

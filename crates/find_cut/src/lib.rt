@@ -1,14 +1,15 @@
 // The cut finder as an entry point on bytes and numbers: split_placement.rs's find_optimal_split_point over block rows. Nothing is asked of the caller.
 #![tactic(auto)]
 
-ghost use Rattle.std.specs.Prelude.{◌≡◌, true, ◌+◌, ◌*◌, ◌/◌, ◌≤◌, ◌<◌};
+ghost use Rattle.std.specs.Prelude.{◌≡◌, true, cond, leb, Some, None, ◌+◌, ◌*◌, ◌/◌, ◌≤◌, ◌<◌};
+ghost use Rattle.definition.specs.Types.{number_of};
 ghost use Rattle.definition.specs.Entry.{insts_of, every, block_ok, side_of};
 ghost use Rattle.rows.specs.Parts.{splice};
 ghost use Rattle.words.specs.Words.{word_count, words_of};
 ghost use Rattle.function.specs.Blocks.{blocks_at, start_words};
-ghost use Rattle.find_cut.specs.Answer.{side_named, test_number, cut_answer, work_left};
+ghost use Rattle.find_cut.specs.Answer.{side_named, unless, cut_refusal, admission, cut_answer, work_left};
 
-use definition::{Inst, Side};
+use definition::{Inst, Refusal, Side};
 
 // Number 0 and the instruction before which the cut is made; or the refusal's number, and 0.
 #[repr(C)]
@@ -18,36 +19,82 @@ pub struct Cut {
     pub inst: u32,
 }
 
+// The number of a refusal.
+pub fn number_of(refusal: Refusal) -> u32
+    ensures { result ≡ number_of refusal }
+{
+    match refusal {
+        Refusal::NotARecord => 1,
+        Refusal::OverALimit => 2,
+        Refusal::BadBook => 3,
+        Refusal::BadFunction => 4,
+        Refusal::BadHint => 5,
+        Refusal::BadSegment => 6,
+        Refusal::BadUse => 7,
+        Refusal::Stopped(_) => 8,
+        Refusal::Full => 9,
+    }
+}
+
+// The side of a number: 0 early, any other late.
 pub fn side_of(side: u32) -> Side
     ensures { result ≡ side_named side }
 {
     if side == 0 { Side::Early } else { Side::Late }
 }
 
-// The tests of numbers 2 and 4: the first that fails, or 0.
-pub fn tested(blocks: &[u8], after: u32, before: u32) -> u32
-    ensures { result ≡ test_number blocks.now after before }
+// The side of a number that is one.
+fn side_in(side: u32) -> Option<Side>
+    ensures { result ≡ cond (leb side 1) (Some (side_named side)) None }
+{
+    match side {
+        0 => Some(Side::Early),
+        1 => Some(Side::Late),
+        _ => None,
+    }
+}
+
+// The tests of numbers 2 and 4: the first that fails.
+pub fn tested(blocks: &[u8], after: u32, before: u32) -> Result<(), Refusal>
+    ensures { result ≡ unless (cut_refusal blocks.now after before) tt }
 {
     if 512 < blocks.len() / 8 {
-        return 2; // too many blocks
+        return Err(Refusal::OverALimit); // too many blocks
     }
     let n = (blocks.len() / 8) as u32;
     let total = function::count_insts(blocks, 0, n);
     let long = 4096 < total;
     if long {
-        return 2; // too many instructions
+        return Err(Refusal::OverALimit); // too many instructions
     }
     if !function::blocks_ok(blocks, 0, n) {
-        return 4; // a block empty or of bad frequency
+        return Err(Refusal::BadFunction); // a block empty or of bad frequency
     }
     let crossed = before <= after;
     if crossed {
-        return 4; // ends not in order
+        return Err(Refusal::BadFunction); // ends not in order
     }
-    if total <= before as u64 {
-        return 4; // past the last instruction
+    if total <= u64::from(before) {
+        return Err(Refusal::BadFunction); // past the last instruction
     }
-    0
+    Ok(())
+}
+
+// All the tests of a call, in the order of their numbers: its side, or the first refusal.
+pub fn admitted(blocks: &[u8], after: u32, before: u32, side: u32) -> Result<Side, Refusal>
+    ensures { result ≡ admission blocks.now after before side }
+{
+    let Some(named) = side_in(side) else {
+        return Err(Refusal::NotARecord); // no side
+    };
+    if blocks.len() % 8 != 0 {
+        return Err(Refusal::NotARecord); // not whole rows
+    }
+    if blocks.is_empty() {
+        return Err(Refusal::NotARecord); // no block
+    }
+    tested(blocks, after, before)?;
+    Ok(named)
 }
 
 // The cut of accepted blocks, by the table of starts, which is made in `work`.
@@ -56,10 +103,7 @@ fn cut_by(blocks: &[u8], n: u32, after: u32, before: u32, side: Side, work: &mut
     ensures { (result.0 ≡ side_of side (blocks_at (words_of blocks.now) 0 n) after before) × (words_of work.new ≡ splice (words_of work.old) 0 (start_words (words_of blocks.now) 0 n)) }
 {
     block_starts::put_starts(blocks, 0, n, work, 0);
-    match side {
-        Side::Early => split_placement::early_cut(work, 0, n, Inst(after), Inst(before)),
-        Side::Late => split_placement::late_cut(work, 0, n, Inst(after), Inst(before)),
-    }
+    split_placement::cut(work, 0, n, Inst(after), Inst(before), side)
 }
 
 // blocks: rows of two little-endian words, instruction count and frequency bits. side: 0 early, 1 late. work: what it holds does not matter.
@@ -73,23 +117,18 @@ pub fn find_optimal_split_point(
     ensures value { result ≡ cut_answer blocks.now after before side }
     ensures work_after { words_of work.new ≡ work_left blocks.now after before side (words_of work.old) }
 {
-    if 1 < side {
-        return Cut { number: 1, inst: 0 };
-    }
-    if blocks.len() % 8 != 0 {
-        return Cut { number: 1, inst: 0 };
-    }
-    if blocks.len() == 0 {
-        return Cut { number: 1, inst: 0 };
-    }
-    let number = tested(blocks, after, before);
-    if number != 0 {
-        return Cut { number, inst: 0 };
-    }
-    let n = (blocks.len() / 8) as u32;
-    let found = cut_by(blocks, n, after, before, side_of(side), work);
-    Cut {
-        number: 0,
-        inst: found.0,
+    match admitted(blocks, after, before, side) {
+        Err(refusal) => Cut {
+            number: number_of(refusal),
+            inst: 0,
+        },
+        Ok(side) => {
+            let n = (blocks.len() / 8) as u32;
+            let found = cut_by(blocks, n, after, before, side, work);
+            Cut {
+                number: 0,
+                inst: found.0,
+            }
+        }
     }
 }

@@ -90,13 +90,13 @@ fn all(out: &mut [u8], work: &mut [u8; 4104]) -> usize
     bad_ends(out, c, work)
 }
 
+// What cut_moves_main::main does alike are the calls of `write_to` and `fail`: lengths, answers and words are its own.
 fn main(rt: HostRuntime) -> io::Result<()> {
     let mut out = [0u8; 1024];
     let mut work = [0u8; 4104];
     let n = all(&mut out, &mut work);
     let mut sink = Noted::new(rt.stdout());
-    let w = streams::write_to(&mut sink, &out[0..n]);
-    if w.failed {
+    if streams::write_to(&mut sink, &out[0..n]).is_err() {
         let what = "find_cut_main: the answers could not be written, and are cut";
         return streams::fail(&rt, what, sink.reason);
     }

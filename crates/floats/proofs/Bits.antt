@@ -1,9 +1,11 @@
 -- Bit patterns and the values that they stand for, from +0 up to +∞: the order, the entry rules, and that products of small values are finite. Assumes nothing.
 use mathlib.Core.Path.{◌≡◌, refl, sym, ap, ◌∙◌, subst}
 use mathlib.Core.Logic.{◌⊎◌, inl, inr}
-use Prim.Native.Nat.{ℕ, zero, suc, ◌+◌, ◌-◌, ◌*◌, ◌/◌, ◌%◌, ◌^◌, ◌≤◌, ◌<◌}
+use Prim.Native.Nat.{ℕ, zero, suc, ◌+◌, ◌*◌, ◌/◌, ◌%◌, ◌^◌, ◌≤◌, ◌<◌}
 use native.Mathlib.Nat.{le_trans, le_of_eq, le_of_lt, lt_of_lt_of_le, lt_of_le_of_lt, lt_of_mul-lt-mul_right, not-le_of_lt, eq-or-lt_of_le, mul-one, mul_comm, mul_assoc, mul_right_comm, mul-mul-mul_comm, mul-le-mul, mul-le-mul_right, mul-lt-mul_of_pos_right, le_of_mul-le-mul_right, mul-pos, pow-suc}
 use native.Mathlib.Omega.{arith}
+use Rattle.std.specs.Prelude.{min}
+use Rattle.std.proofs.Math.Nat.{min-le_left, min-eq_left, min-eq_right}
 use mathlib.Core.Bool.{Bool, true, false, not, cond, ◌&&◌, ◌||◌}
 use lib.Dec.{T, leb, eqb, ltb, ltb→lt, lt→ltb, eqb→eq, leb→le, le→leb, nleb→lt, not_T, lit<}
 use lib.Pow.{pow_pos, pow_mono}
@@ -306,21 +308,21 @@ bits_back b h = to_bits-of_bits binary32 b (word b h) (nonneg_number (of_bits bi
     word : (b : ℕ) → b ≤ 2139095040 → b < 4294967296
     word b h = omega arith
 
--- the two ways through `lesser_bits`
-abbrev Lesser : ℕ → ℕ → ℕ → Type 0
-Lesser a b r =
-    (r ≡ to_bits binary32 (min_f (of_bits binary32 a) (of_bits binary32 b))) × (of_bits binary32 r ≡ min_f (of_bits binary32 a) (of_bits binary32 b)) × (r ≤ 2139095040)
+-- the lesser pattern is that of the lesser float
+pub min_is : (a b : ℕ) → min a b ≡ cond (ltb b a) b a
+min_is a b = go (ltb b a) refl
+  where
+    go : (t : Bool) → ltb b a ≡ t → min a b ≡ cond t b a
+    go true e = min-eq_right (le_of_lt (ltb-true b a e))
+    go false e = min-eq_left (ltb-false b a e)
 
-lesser_at : (a b r : ℕ) → a ≤ 2139095040 → b ≤ 2139095040 → r ≤ 2139095040 → cond (ltb b a) b a ≡ r → Lesser a b r
-lesser_at a b r ha hb hr e =
-    let m : of_bits binary32 r ≡ min_f (of_bits binary32 a) (of_bits binary32 b) = sym (least_bits a b ha hb ∙ ap (of_bits binary32) e) in
+pub lesser : (a b r : ℕ) → a ≤ 2139095040 → b ≤ 2139095040 → r ≡ min a b
+    → (r ≡ to_bits binary32 (min_f (of_bits binary32 a) (of_bits binary32 b))) × (of_bits binary32 r ≡ min_f (of_bits binary32 a) (of_bits binary32 b)) × (r ≤ 2139095040)
+lesser a b r ha hb e =
+    let hr : r ≤ 2139095040 = omega (arith, e, min-le_left a b) in
+    let m : of_bits binary32 r ≡ min_f (of_bits binary32 a) (of_bits binary32 b) =
+    sym (least_bits a b ha hb ∙ ap (of_bits binary32) (sym (e ∙ min_is a b))) in
     (sym (bits_back r hr) ∙ ap (to_bits binary32) m, m, hr)
-
-pub lesser_second : (a b : ℕ) → a ≤ 2139095040 → b ≤ 2139095040 → b < a → Lesser a b b
-lesser_second a b ha hb h = lesser_at a b b ha hb hb (ap (λ (t : Bool). cond t b a) (is_true (ltb b a) (lt→ltb b a h)))
-
-pub lesser_first : (a b : ℕ) → a ≤ 2139095040 → b ≤ 2139095040 → a ≤ b → Lesser a b a
-lesser_first a b ha hb h = lesser_at a b a ha hb ha (ap (λ (t : Bool). cond t b a) (is_false (ltb b a) (not_T (ltb b a) (λ t. not-le_of_lt (ltb→lt b a t) h))))
 
 -- ---- the entry rules
 pub plain_test : (b : ℕ) → b < 4294967296 → ltb b 2139095040 ≡ plain (of_bits binary32 b)

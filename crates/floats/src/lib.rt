@@ -36,7 +36,7 @@ pub fn bits_of(x: f32) -> u32
     f32::to_bits(x)
 }
 
-// `f32::min` where neither is a NaN.
+// `f32::min` where neither is a NaN: of a NaN and a number that gives the number, and this the first.
 pub fn lesser(x: f32, y: f32) -> f32
     ensures { result ≡ min_f x y }
 {
@@ -48,5 +48,5 @@ pub fn lesser_bits(a: u32, b: u32) -> u32
     requires { (a ≤ 0x7f80_0000) × (b ≤ 0x7f80_0000) }
     ensures { (result ≡ to_bits binary32 (min_f (of_bits binary32 a) (of_bits binary32 b))) × (of_bits binary32 result ≡ min_f (of_bits binary32 a) (of_bits binary32 b)) × (result ≤ 0x7f80_0000) }
 {
-    if b < a { b } else { a }
+    a.min(b)
 }

@@ -9,23 +9,12 @@ ghost use Rattle.live_range.specs.Points.{slot_of};
 
 use definition::{Inst, LiveRangePoint, Slot};
 
-fn slot_number(s: Slot) -> u32
-    ensures { (result ≡ slot_number s) × (result ≤ 2) }
-{
-    match s {
-        Slot::Boundary => 0,
-        Slot::Early => 1,
-        Slot::Normal => 2,
-    }
-}
-
 // The point at a slot of an instruction.
 pub fn point_at(i: Inst, s: Slot) -> LiveRangePoint
     requires { i.0 < 1073741824 }
     ensures { result ≡ point_at i s }
 {
-    let k = slot_number(s);
-    LiveRangePoint(4 * i.0 + k)
+    LiveRangePoint(4 * i.0 + s as u32)
 }
 
 // The instruction that a point is in; of a Boundary, the instruction behind it.

@@ -52,14 +52,6 @@ base_small (GroupClassDef s c i) x m h = h
 base_small (BlockparamIn p) x m h = zero_small
 base_small BlockparamOut x m h = zero_small
 
--- an arm: the kind is j
-pub is_base : (k j : UseKind) (x : Float) (m : Bool) → T (small x) → k ≡ j → (base_cost j x m ≡ base_cost k x m) × T (small (base_cost j x m))
-is_base k j x m h e = (ap (λ (i : UseKind). base_cost i x m) (sym e), base_small j x m h)
-
-pub is_base_fixed : (k j : UseKind) (x : Float) (m : Bool) (r : Float) → base_cost j x m ≡ fixed_cost m → T (small x) → k ≡ j
-    → (r ≡ fixed_cost m) × T (small r) → (r ≡ base_cost k x m) × T (small r)
-is_base_fixed k j x m r f h e q = (q.0 ∙ sym f ∙ ap (λ (i : UseKind). base_cost i x m) (sym e), q.1)
-
 pub is_fixed : (m b : Bool) → m ≡ b → (fixed_cost b ≡ fixed_cost m) × T (small (fixed_cost b))
 is_fixed m b e = (ap fixed_cost (sym e), fixed_small b)
 

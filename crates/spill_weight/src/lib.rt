@@ -10,7 +10,7 @@ ghost use Rattle.spill_weight.specs.Costs.{fixed_cost, base_cost, weight_from, S
 use definition::{Options, Remat, UseKind};
 
 // `f32::MAX`.
-pub const MAX: f32 = 340282350000000000000000000000000000000.0;
+pub const MAX: f32 = f32::MAX;
 
 // The cost of a use: its class's cost and whether its register is in memory are read by the caller.
 pub fn base_cost(kind: UseKind, class_cost: f32, memory: bool) -> f32
@@ -18,16 +18,13 @@ pub fn base_cost(kind: UseKind, class_cost: f32, memory: bool) -> f32
     ensures { (result ≡ base_cost kind class_cost memory) × T (small result) }
 {
     match kind {
-        UseKind::FixedDef { .. } => fixed_cost(memory),
-        UseKind::FixedUse { .. } => fixed_cost(memory),
-        UseKind::TiedUse { .. } => 0.5,
-        UseKind::ConstraintConflict => 0.5,
-        UseKind::ClassUse { .. } => class_cost,
-        UseKind::ClassDef { .. } => class_cost,
-        UseKind::GroupClassUse { .. } => class_cost,
-        UseKind::GroupClassDef { .. } => class_cost,
-        UseKind::BlockparamIn { .. } => 0.0,
-        UseKind::BlockparamOut => 0.0,
+        UseKind::FixedDef { .. } | UseKind::FixedUse { .. } => fixed_cost(memory),
+        UseKind::TiedUse { .. } | UseKind::ConstraintConflict => 0.5,
+        UseKind::ClassUse { .. }
+        | UseKind::ClassDef { .. }
+        | UseKind::GroupClassUse { .. }
+        | UseKind::GroupClassDef { .. } => class_cost,
+        UseKind::BlockparamIn { .. } | UseKind::BlockparamOut => 0.0,
     }
 }
 
@@ -84,7 +81,8 @@ pub fn weight(sum: f32, insts: u32, k: u32, spillslots: bool) -> f32
 {
     let few = insts <= 1;
     if few && !spillslots {
-        return floats::float_of(0x7f800000);
+        f32::INFINITY
+    } else {
+        normalize(sum, insts, k)
     }
-    normalize(sum, insts, k)
 }

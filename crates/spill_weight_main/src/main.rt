@@ -43,10 +43,8 @@ fn sum_terms(n: u32) -> f32
     ensures { (result ≡ sum_terms n) × T (nonneg result) }
 {
     let mut sum: f32 = 0.0;
-    let mut i: u32 = 0;
-    while i < n {
+    for i in 0..n {
         sum = add_term(sum, cost_at(i), 0x40c00000 - i * 580031);
-        i += 1;
     }
     sum
 }

@@ -1,4 +1,5 @@
--- The place that the code answers is the definition's: `early_next`, `early_start`, `late_before`, `late_end`. Assumes nothing.
+-- The place that the code answers is the definition's: `early_next`, `early_start`, `late_before`, `late_end`; and the
+-- block that judges a place: `judges_early`, `judges_late`. Assumes nothing.
 use Prim.Native.Nat.{ℕ, suc, ◌+◌, ◌-◌, ◌*◌, ◌≤◌, ◌<◌}
 use native.Mathlib.Omega.{arith}
 use native.Mathlib.Numerals.{add-one}
@@ -13,11 +14,14 @@ use lib.Ieee.Bits.{is_true}
 use borrow.Author.Tests.{lt-ltb, le-ltb, ltb-true, ltb-false}
 use Rattle.definition.specs.declared.BlockData.{BlockData}
 use Rattle.definition.specs.Entry.{plain, every, block_ok, insts_of}
-use Rattle.definition.specs.SplitPlacement.{freq_at, early_cut, late_cut}
+use Rattle.definition.specs.declared.Side.{Side}
+use Rattle.definition.specs.declared.Side.TheVariants.{Early, Late}
+use Rattle.definition.specs.SplitPlacement.{freq_at, early_cut, late_cut, side_of}
+use Rattle.definition.specs.CutMoves.{first_open, last_open}
 use Rattle.floats.proofs.Bits.{lt_bits, bits_plain}
 use Rattle.function.specs.Blocks.{start_of, block_of, block_at, Starts}
 use Rattle.function.specs.BlockLaws.{start_next, start_mono, block_passes, all_pass, starts_frequency, Holding, block_holds}
-use Rattle.split_placement.specs.Places.{EarlyPlace, next, start, LatePlace, last, end, bits_of, first_least, last_least}
+use Rattle.split_placement.specs.Places.{EarlyPlace, next, start, LatePlace, last, end, bits_of, least}
 use Rattle.split_placement.proofs.Walks.{FirstOf, LastOf, first_of_lem, last_of}
 use Rattle.split_placement.proofs.Rules.{early_rule, late_rule, one_earliest, one_latest}
 
@@ -56,7 +60,7 @@ module _ (W : List ℕ) (at : ℕ) (bs : List BlockData) (s : Starts W at bs) wh
     lo_hi = omega (arith, start_order lo (suc hi) (omega (arith, f.there)) (omega (arith, f.low, g.high)))
 
     -- the block of an open place
-    record Early (p : ℕ) : Type 0 where
+    record EarlyBlock (p : ℕ) : Type 0 where
       block : ℕ
       above : suc a ≤ p
       low : lo ≤ block
@@ -64,7 +68,7 @@ module _ (W : List ℕ) (at : ℕ) (bs : List BlockData) (s : Starts W at bs) wh
       price : freq_at bs p ≡ of_bits binary32 (bits_of W at block)
       where_is : ((p ≡ suc a) × (block ≡ lo)) ⊎ ((p ≡ start_of bs block) × (lo < block))
 
-    early_block : (p : ℕ) → EarlyPlace bs a b p → Early p
+    early_block : (p : ℕ) → EarlyPlace bs a b p → EarlyBlock p
     early_block p (next e) =
         record { block = lo; above = omega arith; low = omega arith; high = lo_hi; price = ap (freq_at bs) e ∙ price_of lo (suc a) f.there f.low f.high; where_is = inl (e, refl) }
     early_block p (start q u v) =
@@ -84,7 +88,7 @@ module _ (W : List ℕ) (at : ℕ) (bs : List BlockData) (s : Starts W at bs) wh
       best_there = omega (arith, w.high, g.there)
 
       early_is : (c : ℕ) → EarlyPlace bs a b c → freq_at bs c ≡ of_bits binary32 (bits_of W at best)
-          → ((p : ℕ) (q : Early p) → p < c → q.block < best) → c ≡ early_cut bs a b
+          → ((p : ℕ) (q : EarlyBlock p) → p < c → q.block < best) → c ≡ early_cut bs a b
       early_is c place price earlier =
           one_earliest (EarlyPlace bs a b) (freq_at bs) c (early_cut bs a b)
           (record {
@@ -126,7 +130,7 @@ module _ (W : List ℕ) (at : ℕ) (bs : List BlockData) (s : Starts W at bs) wh
     pub late_lo_hi : lo ≤ hi
     late_lo_hi = omega (arith, start_order lo (suc hi) (omega (arith, f.there)) (omega (arith, f.low, g.high)))
 
-    record Late (p : ℕ) : Type 0 where
+    record LateBlock (p : ℕ) : Type 0 where
       block : ℕ
       upto : p ≤ b
       low : lo ≤ block
@@ -134,7 +138,7 @@ module _ (W : List ℕ) (at : ℕ) (bs : List BlockData) (s : Starts W at bs) wh
       price : freq_at bs (p - 1) ≡ of_bits binary32 (bits_of W at block)
       where_is : ((p ≡ b) × (block ≡ hi)) ⊎ (p ≡ start_of bs (suc block))
 
-    late_block : (p : ℕ) → LatePlace bs a b p → Late p
+    late_block : (p : ℕ) → LatePlace bs a b p → LateBlock p
     late_block p (last e) =
         record {
           block = hi;
@@ -160,7 +164,7 @@ module _ (W : List ℕ) (at : ℕ) (bs : List BlockData) (s : Starts W at bs) wh
       late_there = omega (arith, w.high, g.there)
 
       late_is : (c : ℕ) → LatePlace bs a b c → freq_at bs (c - 1) ≡ of_bits binary32 (bits_of W at best)
-          → ((p : ℕ) (q : Late p) → c < p → best < q.block) → c ≡ late_cut bs a b
+          → ((p : ℕ) (q : LateBlock p) → c < p → best < q.block) → c ≡ late_cut bs a b
       late_is c place price later =
           one_latest (LatePlace bs a b) (λ p. freq_at bs (p - 1)) c (late_cut bs a b)
           (record {
@@ -204,50 +208,94 @@ module _ (W : List ℕ) (at : ℕ) (bs : List BlockData) (s : Starts W at bs) wh
 abbrev pub Finds : List ℕ → ℕ → ℕ → ℕ → ℕ → Type 0
 Finds W at n i k = (bs : List BlockData) → Starts W at bs → length bs ≡ n → i < insts_of bs → k ≡ block_of bs i
 
-found : (bs : List BlockData) (i j k : ℕ) → i ≡ j → j < insts_of bs → k ≡ block_of bs i → Holding bs j k
-found bs i j k e h b = subst (λ (m : ℕ). Holding bs j m) (sym (b ∙ ap (block_of bs) e)) (block_holds bs j h)
+-- block k judges place i
+abbrev pub Judges : List ℕ → ℕ → ℕ → Side → ℕ → ℕ → Type 0
+Judges W at n side i k =
+    (bs : List BlockData) → Starts W at bs → length bs ≡ n → i < insts_of bs → k ≡ last_open side bs i
 
-module _ (W : List ℕ) (at n a b lo hi best : ℕ) (h : a < b) where
-  abbrev Is : ℕ → (List BlockData → ℕ) → Type 0
-  Is c cut = (bs : List BlockData) → Starts W at bs → length bs ≡ n → b < insts_of bs → c ≡ cut bs
+module _ (W : List ℕ) (at n i k : ℕ) (side : Side) where
+  pub judges_early : side ≡ Early → Finds W at n i k → Judges W at n side i k
+  unfolding last_open
+  judges_early e f bs s l h = f bs s l h ∙ ap (λ (x : Side). last_open x bs i) (sym e)
 
-  module _ (f : Finds W at n (a + 1) lo) (g : Finds W at n b hi) (e : best ≡ first_least (bits_of W at) lo lo (hi - lo)) where
-    module _ (bs : List BlockData) (s : Starts W at bs) (k : length bs ≡ n) (l : b < insts_of bs) where
-      lo_holds : Holding bs (suc a) lo
-      lo_holds = found bs (a + 1) (suc a) lo (omega arith) (omega arith) (f bs s k (omega arith))
+  pub judges_late : side ≡ Late → Finds W at n (i - 1) k → Judges W at n side i k
+  unfolding last_open
+  judges_late e f bs s l h = f bs s l (omega arith) ∙ ap (λ (x : Side). last_open x bs i) (sym e)
 
-      hi_holds : Holding bs b hi
-      hi_holds = found bs b b hi refl l (g bs s k l)
+-- the first open block judges the first open place
+pub first_judges : (side : Side) (bs : List BlockData) (after : ℕ) → last_open side bs (after + 1) ≡ first_open side bs after
+unfolding first_open last_open
+first_judges Early bs after = ap (block_of bs) (add-one after)
+first_judges Late bs after = ap (block_of bs) (omega arith)
 
-      walked : FirstOf (bits_of W at) lo hi best
-      walked = subst (λ (m : ℕ). FirstOf (bits_of W at) lo hi m) (sym e) (first_of_lem (bits_of W at) lo hi (lo_hi W at bs s a b lo hi h l lo_holds hi_holds))
+found : (bs : List BlockData) (i k : ℕ) → i < insts_of bs → k ≡ block_of bs i → Holding bs i k
+found bs i k h e = subst (λ (m : ℕ). Holding bs i m) (sym e) (block_holds bs i h)
 
-    pub early_next : best ≡ lo → Is (a + 1) (λ bs. early_cut bs a b)
-    early_next q bs s k l = add-one a ∙ early_first W at bs s a b lo hi h l (lo_holds bs s k l) (hi_holds bs s k l) best (walked bs s k l) q
+module _ (W : List ℕ) (at n a b lo hi best : ℕ) (side : Side) (h : a < b) (f : Judges W at n side (a + 1) lo)
+    (g : Judges W at n side b hi) (e : best ≡ least side (bits_of W at) lo lo (hi - lo)) where
+  -- c is the place, for all such blocks
+  abbrev Is : ℕ → Type 0
+  Is c =
+      (bs : List BlockData) → Starts W at bs → length bs ≡ n → b < insts_of bs → c ≡ side_of side bs a b
 
-    pub early_start : (c : ℕ) → (best ≡ lo → ⊥) → c ≡ get_or W (at + best * 2) 0 → Is c (λ bs. early_cut bs a b)
-    early_start c q r bs s k l =
-        let w = walked bs s k l in
-        let u : lo < best = omega (arith, w.low, q) in
-        r ∙ s.first best (omega (arith, w.high, (hi_holds bs s k l).there)) ∙ early_later W at bs s a b lo hi h l (lo_holds bs s k l) (hi_holds bs s k l) best w u
+  module _ (d : side ≡ Early) (bs : List BlockData) (s : Starts W at bs) (k : length bs ≡ n) (l : b < insts_of bs) where
+    lo_holds : Holding bs (suc a) lo
+    unfolding last_open
+    lo_holds =
+        found bs (suc a) lo (omega arith)
+        (f bs s k (omega arith) ∙ (λ x. last_open (d x) bs (add-one a x)))
 
-  module _ (f : Finds W at n a lo) (g : Finds W at n (b - 1) hi) (e : best ≡ last_least (bits_of W at) lo lo (hi - lo)) where
-    module _ (bs : List BlockData) (s : Starts W at bs) (k : length bs ≡ n) (l : b < insts_of bs) where
-      late_lo_holds : Holding bs a lo
-      late_lo_holds = found bs a a lo refl (omega arith) (f bs s k (omega arith))
+    hi_holds : Holding bs b hi
+    unfolding last_open
+    hi_holds = found bs b hi l (g bs s k l ∙ ap (λ (x : Side). last_open x bs b) d)
 
-      late_hi_holds : Holding bs (b - 1) hi
-      late_hi_holds = found bs (b - 1) (b - 1) hi refl (omega arith) (g bs s k (omega arith))
+    walked : FirstOf (bits_of W at) lo hi best
+    walked =
+        subst (λ (m : ℕ). FirstOf (bits_of W at) lo hi m)
+        (sym (e ∙ ap (λ (x : Side). least x (bits_of W at) lo lo (hi - lo)) d))
+        (first_of_lem (bits_of W at) lo hi (lo_hi W at bs s a b lo hi h l lo_holds hi_holds))
 
-      late_walked : LastOf (bits_of W at) lo hi best
-      late_walked = subst (λ (m : ℕ). LastOf (bits_of W at) lo hi m) (sym e) (last_of (bits_of W at) lo hi (late_lo_hi W at bs s a b lo hi h l late_lo_holds late_hi_holds))
+  pub early_next : side ≡ Early → best ≡ lo → Is (a + 1)
+  early_next d q bs s k l =
+      add-one a
+      ∙ early_first W at bs s a b lo hi h l (lo_holds d bs s k l) (hi_holds d bs s k l) best (walked d bs s k l) q
+      ∙ ap (λ (x : Side). side_of x bs a b) (sym d)
 
-    pub late_before : best ≡ hi → Is b (λ bs. late_cut bs a b)
-    late_before q bs s k l = late_last W at bs s a b lo hi h l (late_lo_holds bs s k l) (late_hi_holds bs s k l) best (late_walked bs s k l) q
+  pub early_start : (c : ℕ) → side ≡ Early → (best ≡ lo → ⊥) → c ≡ get_or W (at + best * 2) 0 → Is c
+  early_start c d q r bs s k l =
+      let w = walked d bs s k l in
+      let u : lo < best = omega (arith, w.low, q) in
+      r ∙ s.first best (omega (arith, w.high, (hi_holds d bs s k l).there))
+      ∙ early_later W at bs s a b lo hi h l (lo_holds d bs s k l) (hi_holds d bs s k l) best w u
+      ∙ ap (λ (x : Side). side_of x bs a b) (sym d)
 
-    pub late_end : (c : ℕ) → (best ≡ hi → ⊥) → c ≡ get_or W (at + (best + 1) * 2) 0 → Is c (λ bs. late_cut bs a b)
-    late_end c q r bs s k l =
-        let w = late_walked bs s k l in
-        let u : best < hi = omega (arith, w.high, q) in
-        r ∙ s.first (best + 1) (omega (arith, w.high, (late_hi_holds bs s k l).there)) ∙ ap (start_of bs) (add-one best)
-        ∙ late_earlier W at bs s a b lo hi h l (late_lo_holds bs s k l) (late_hi_holds bs s k l) best w u
+  module _ (d : side ≡ Late) (bs : List BlockData) (s : Starts W at bs) (k : length bs ≡ n) (l : b < insts_of bs) where
+    late_lo_holds : Holding bs a lo
+    unfolding first_open
+    late_lo_holds =
+        found bs a lo (omega arith)
+        (f bs s k (omega arith) ∙ first_judges side bs a ∙ ap (λ (x : Side). first_open x bs a) d)
+
+    late_hi_holds : Holding bs (b - 1) hi
+    unfolding last_open
+    late_hi_holds = found bs (b - 1) hi (omega arith) (g bs s k l ∙ ap (λ (x : Side). last_open x bs b) d)
+
+    late_walked : LastOf (bits_of W at) lo hi best
+    late_walked =
+        subst (λ (m : ℕ). LastOf (bits_of W at) lo hi m)
+        (sym (e ∙ ap (λ (x : Side). least x (bits_of W at) lo lo (hi - lo)) d))
+        (last_of (bits_of W at) lo hi (late_lo_hi W at bs s a b lo hi h l late_lo_holds late_hi_holds))
+
+  pub late_before : side ≡ Late → best ≡ hi → Is b
+  late_before d q bs s k l =
+      late_last W at bs s a b lo hi h l (late_lo_holds d bs s k l) (late_hi_holds d bs s k l) best
+      (late_walked d bs s k l) q
+      ∙ ap (λ (x : Side). side_of x bs a b) (sym d)
+
+  pub late_end : (c : ℕ) → side ≡ Late → (best ≡ hi → ⊥) → c ≡ get_or W (at + (best + 1) * 2) 0 → Is c
+  late_end c d q r bs s k l =
+      let w = late_walked d bs s k l in
+      let u : best < hi = omega (arith, w.high, q) in
+      r ∙ s.first (best + 1) (omega (arith, w.high, (late_hi_holds d bs s k l).there)) ∙ ap (start_of bs) (add-one best)
+      ∙ late_earlier W at bs s a b lo hi h l (late_lo_holds d bs s k l) (late_hi_holds d bs s k l) best w u
+      ∙ ap (λ (x : Side). side_of x bs a b) (sym d)

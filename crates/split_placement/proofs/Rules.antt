@@ -11,7 +11,7 @@ use lib.Ieee.{Float}
 use borrow.Author.Tests.{ltb-true, ltb-false, leb-true, lt-ltb, le-leb}
 use Rattle.definition.specs.declared.BlockData.{BlockData}
 use Rattle.definition.specs.Entry.{plain, every, block_ok}
-use Rattle.definition.specs.SplitPlacement.{freq_at, starts, ends, keep, earliest, latest, early_cut, late_cut}
+use Rattle.definition.specs.SplitPlacement.{freq_at, starts, ends, keep, early_cut, late_cut}
 use Rattle.function.specs.Bools.{and_l, and_r, both}
 use Rattle.function.specs.Blocks.{start_of}
 use Rattle.function.specs.BlockLaws.{block_plain}

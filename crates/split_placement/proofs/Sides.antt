@@ -6,7 +6,7 @@ use mathlib.Core.Option.{none}
 use mathlib.Core.List.{List}
 use Prim.Native.Nat.{ℕ}
 use lib.Dec.{T}
-use lib.Ieee.{Float, lt, le}
+use lib.Ieee.{Float, lt}
 use Rattle.definition.specs.declared.BlockData.{BlockData}
 use Rattle.definition.specs.declared.ClassData.{ClassData}
 use Rattle.definition.specs.declared.Inst.{Inst}
@@ -18,8 +18,8 @@ use Rattle.definition.specs.Types.{Job, State}
 use Rattle.definition.specs.RegInfo.{no_class, class_at}
 use Rattle.definition.specs.SplitPlacement.{early_cut, side_of}
 use Rattle.definition.specs.Admit.{cut, cut_side, forward_class, end_class, move}
-use Rattle.definition.specs.Entry.{block_ok, book_ok, book_tests, class_ok, class_tests, conj, entry, entry_tests, every}
-use Rattle.definition.specs.Entry.{function_ok, function_tests, plain, small}
+use Rattle.definition.specs.Entry.{block_ok, book_ok, book_tests, class_ok, class_tests, entry, entry_tests, every}
+use Rattle.definition.specs.Entry.{function_ok, function_tests, plain}
 use Rattle.definition.proofs.Places.{all_get_d, all_map}
 use Rattle.definition.proofs.Entries.{every_all, conj_all, lowest_none}
 use Rattle.definition.proofs.Moves.{CutAt, pos_at, side_at, move_cut}

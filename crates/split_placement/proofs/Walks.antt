@@ -5,25 +5,34 @@ use mathlib.Core.Path.{◌≡◌, refl, sym, ap, ◌∙◌, subst}
 use mathlib.Core.Bool.{Bool, true, false, cond}
 use lib.Dec.{ltb}
 use borrow.Author.Tests.{lt-ltb, le-ltb, ltb-true, ltb-false}
-use Rattle.split_placement.specs.Places.{first_least, last_least}
+use Rattle.definition.specs.declared.Side.{Side}
+use Rattle.definition.specs.declared.Side.TheVariants.{Early, Late}
+use Rattle.split_placement.specs.Places.{first_least, last_least, least, ahead}
 
--- ---- the lower of two
+-- ---- the one ahead of two
 
-pub pick_yes : (p q x y a b : ℕ) → x ≡ p → y ≡ q → y < x → b ≡ cond (ltb q p) b a
-pick_yes p q x y a b ex ey h = rw (← ex, ← ey, lt-ltb y x h)
+module _ {side : Side} (f : ℕ → ℕ) (a b : ℕ) {x y : ℕ} (p : x ≡ f a) (q : y ≡ f b) where
+  pub early_behind : side ≡ Early → y < x → b ≡ ahead side f a b
+  early_behind e h = rw e (rw (← p, ← q, lt-ltb y x h))
 
-pub pick_no : (p q x y a b : ℕ) → x ≡ p → y ≡ q → x ≤ y → a ≡ cond (ltb q p) b a
-pick_no p q x y a b ex ey h = rw (← ex, ← ey, le-ltb y x h)
+  pub early_stays : side ≡ Early → x ≤ y → a ≡ ahead side f a b
+  early_stays e h = rw e (rw (← p, ← q, le-ltb y x h))
 
--- ---- the loops
+  pub late_stays : side ≡ Late → x < y → a ≡ ahead side f a b
+  late_stays e h = rw e (rw (← p, ← q, lt-ltb x y h))
 
-pub record FirstSoFar (f : ℕ → ℕ) (from to best j : ℕ) : Type 0 where
+  pub late_behind : side ≡ Late → y ≤ x → b ≡ ahead side f a b
+  late_behind e h = rw e (rw (← p, ← q, le-ltb x y h))
+
+-- ---- the loop
+
+pub record SoFar (side : Side) (f : ℕ → ℕ) (from to best j : ℕ) : Type 0 where
   pub up : j ≤ from + (to - from)
   pub low : best ≤ j
-  pub is : first_least f from from (to - from) ≡ first_least f best j (to - j)
+  pub is : least side f from from (to - from) ≡ least side f best j (to - j)
 
-pub first_start : (f : ℕ → ℕ) (from to : ℕ) → FirstSoFar f from to from from
-first_start f from to = record { up = omega arith; low = omega arith; is = refl }
+pub walk_start : (side : Side) (f : ℕ → ℕ) (from to : ℕ) → SoFar side f from to from from
+walk_start side f from to = record { up = omega arith; low = omega arith; is = refl }
 
 picked : (t : Bool) (a j : ℕ) → a ≤ j → cond t (j + 1) a ≤ j + 1
 picked true a j h = omega arith
@@ -33,45 +42,36 @@ picked_else : (t : Bool) (a j : ℕ) → a ≤ j → cond t a (j + 1) ≤ j + 1
 picked_else true a j h = omega arith
 picked_else false a j h = omega arith
 
-pub first_next : {f : ℕ → ℕ} {from to best j : ℕ} (b : ℕ) → FirstSoFar f from to best j → j < to → b ≡ cond (ltb (f (j + 1)) (f best)) (j + 1) best → FirstSoFar f from to b (j + 1)
-unfolding first_least
-first_next {f} {from} {to} {best} {j} b s h e =
-    let k : to - j ≡ suc (to - (j + 1)) = omega arith in
-    record {
-      up = omega (arith, s.up);
-      low = omega (arith, e, picked (ltb (f (j + 1)) (f best)) best j s.low);
-      is = s.is ∙ ap (λ (n : ℕ). first_least f best j n) k ∙ ap (λ (c : ℕ). first_least f c (j + 1) (to - (j + 1))) (sym e);
-    }
+ahead_low : (side : Side) (f : ℕ → ℕ) (c j : ℕ) → c ≤ j → ahead side f c (j + 1) ≤ j + 1
+ahead_low Early f c j h = picked (ltb (f (j + 1)) (f c)) c j h
+ahead_low Late f c j h = picked_else (ltb (f c) (f (j + 1))) c j h
 
-pub first_end : {f : ℕ → ℕ} {from to best j : ℕ} → FirstSoFar f from to best j → to ≤ j → best ≡ first_least f from from (to - from)
-unfolding first_least
-first_end {f} {from} {to} {best} {j} s h =
-    let k : to - j ≡ 0 = omega arith in
-    sym (s.is ∙ ap (λ (n : ℕ). first_least f best j n) k)
+least_more : (side : Side) (f : ℕ → ℕ) (c j k : ℕ) → least side f c j (suc k) ≡ least side f (ahead side f c (j + 1)) (j + 1) k
+unfolding first_least last_least
+least_more Early f c j k = refl
+least_more Late f c j k = refl
 
-pub record LastSoFar (f : ℕ → ℕ) (from to best j : ℕ) : Type 0 where
-  pub up : j ≤ from + (to - from)
-  pub low : best ≤ j
-  pub is : last_least f from from (to - from) ≡ last_least f best j (to - j)
+least_none : (side : Side) (f : ℕ → ℕ) (c j : ℕ) → least side f c j 0 ≡ c
+unfolding first_least last_least
+least_none Early f c j = refl
+least_none Late f c j = refl
 
-pub last_start : (f : ℕ → ℕ) (from to : ℕ) → LastSoFar f from to from from
-last_start f from to = record { up = omega arith; low = omega arith; is = refl }
+module _ {side : Side} {f : ℕ → ℕ} {from to best j : ℕ} (s : SoFar side f from to best j) where
+  pub walk_next : (b : ℕ) → j < to → b ≡ ahead side f best (j + 1) → SoFar side f from to b (j + 1)
+  walk_next b h e =
+      let k : to - j ≡ suc (to - (j + 1)) = omega arith in
+      record {
+        up = omega (arith, s.up);
+        low = omega (arith, e, ahead_low side f best j s.low);
+        is =
+            s.is ∙ ap (least side f best j) k ∙ least_more side f best j (to - (j + 1))
+            ∙ ap (λ (c : ℕ). least side f c (j + 1) (to - (j + 1))) (sym e);
+      }
 
-pub last_next : {f : ℕ → ℕ} {from to best j : ℕ} (b : ℕ) → LastSoFar f from to best j → j < to → b ≡ cond (ltb (f best) (f (j + 1))) best (j + 1) → LastSoFar f from to b (j + 1)
-unfolding last_least
-last_next {f} {from} {to} {best} {j} b s h e =
-    let k : to - j ≡ suc (to - (j + 1)) = omega arith in
-    record {
-      up = omega (arith, s.up);
-      low = omega (arith, e, picked_else (ltb (f best) (f (j + 1))) best j s.low);
-      is = s.is ∙ ap (λ (n : ℕ). last_least f best j n) k ∙ ap (λ (c : ℕ). last_least f c (j + 1) (to - (j + 1))) (sym e);
-    }
-
-pub last_end : {f : ℕ → ℕ} {from to best j : ℕ} → LastSoFar f from to best j → to ≤ j → best ≡ last_least f from from (to - from)
-unfolding last_least
-last_end {f} {from} {to} {best} {j} s h =
-    let k : to - j ≡ 0 = omega arith in
-    sym (s.is ∙ ap (λ (n : ℕ). last_least f best j n) k)
+  pub walk_end : to ≤ j → best ≡ least side f from from (to - from)
+  walk_end h =
+      let k : to - j ≡ 0 = omega arith in
+      sym (s.is ∙ ap (least side f best j) k ∙ least_none side f best j)
 
 -- ---- what a walk from `lo` to `hi` finds
 

@@ -74,3 +74,13 @@ first_least f c j (suc k) = first_least f (cond (ltb (f (j + 1)) (f c)) (j + 1) 
 unfoldable pub last_least : (ℕ → ℕ) → ℕ → ℕ → ℕ → ℕ
 last_least f c j zero = c
 last_least f c j (suc k) = last_least f (cond (ltb (f c) (f (j + 1))) c (j + 1)) (j + 1) k
+
+-- the one of each side: early the first, late the last
+abbrev pub least : Side → (ℕ → ℕ) → ℕ → ℕ → ℕ → ℕ
+least Early f c j k = first_least f c j k
+least Late f c j k = last_least f c j k
+
+-- of c and of j behind it, the one of lower f; of equal ones the one ahead
+abbrev pub ahead : Side → (ℕ → ℕ) → ℕ → ℕ → ℕ
+ahead Early f c j = cond (ltb (f j) (f c)) j c
+ahead Late f c j = cond (ltb (f c) (f j)) c j

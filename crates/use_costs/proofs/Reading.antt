@@ -16,14 +16,10 @@ use Rattle.definition.specs.declared.Value.{Value}
 use Rattle.definition.specs.declared.ClassData.{ClassData}
 use Rattle.definition.specs.declared.ValueData.{ValueData}
 use Rattle.definition.specs.declared.BlockData.{BlockData}
-use Rattle.definition.specs.declared.UseKind.{UseKind}
 use Rattle.definition.specs.declared.Remat.TheVariants.{Never}
-use Rattle.definition.specs.Types.{Job}
 use Rattle.definition.specs.RegInfo.{no_class, no_value, class_at, value_at}
-use Rattle.definition.specs.Uses.{cost_of, half_f}
 use Rattle.definition.specs.Entry.{insts_of, plain, small}
 use Rattle.floats.proofs.Bits.{small_test, bits_plain}
-use Rattle.spill_weight.specs.Costs.{fixed_cost}
 use Rattle.reginfo.specs.Rows.{class_row, memory_row, classes_at}
 use Rattle.coalescing.specs.Rows.{value_row, values_at}
 use Rattle.function.specs.Blocks.{Starts, block_of, start_of}
@@ -87,10 +83,6 @@ module _ (W : List ℕ) (lay : Layout) where
 pub cost_of_lem : {d e : ClassData} → (d ≡ e) × T (small d.cost) → (d.cost ≡ e.cost) × T (small d.cost)
 cost_of_lem p = (ap (λ (x : ClassData). x.cost) p.0, p.1)
 
--- an arm: the kind is j
-pub is_cost : (J : Job) (k j : UseKind) {x : Float} → k ≡ j → (x ≡ cost_of J j) × T (small x) → (x ≡ cost_of J k) × T (small x)
-is_cost J k j e p = (p.0 ∙ ap (λ (i : UseKind). cost_of J i) (sym e), p.1)
-
 -- the block at hand holds the instruction
 pub near_here : (W : List ℕ) (at n b a e i : ℕ) → a ≡ get_or W (at + b * 2) 0 → e ≡ get_or W (at + (b + 1) * 2) 0 → b < n → a ≤ i → i < e
     → (b < n) × ((bs : List BlockData) → Starts W at bs → length bs ≡ n → i < insts_of bs → b ≡ block_of bs i)
@@ -101,15 +93,6 @@ near_here W at n b a e i ha he h l u = (
       let q : get_or W (at + (b + 1) * 2) 0 ≡ start_of bs (suc b) = ap (λ (j : ℕ). get_or W (at + j * 2) 0) (native.Mathlib.Numerals.add-one b) ∙ s.first (suc b) (omega arith) in
       block_found bs b i (omega arith) p (omega arith),
 )
-
--- a fixed kind, by its register
-pub is_fixed_cost : (J : Job) (k j : UseKind) (r : PhysReg) {m : Bool} {x : Float} → k ≡ j → cost_of J j ≡ fixed_cost (get_or J.memory r.0 false)
-    → m ≡ get_or J.memory r.0 false → (x ≡ fixed_cost m) × T (small x) → (x ≡ cost_of J k) × T (small x)
-is_fixed_cost J k j r e f h p = is_cost J k j e (p.0 ∙ ap fixed_cost h ∙ sym f, p.1)
-
-pub half_small : T (small half_f)
-unfolding small
-half_small = tt
 
 pub frequency_is : (b w : ℕ) (x : Float) → x ≡ of_bits binary32 b → b ≡ w → w < 0x7f80_0000 → (x ≡ of_bits binary32 w) × T (plain x)
 frequency_is b w x e f h =

@@ -16,6 +16,7 @@ ghost use Rattle.use_costs.specs.Book.{SmallBook};
 
 use definition::{Block, ClassData, Inst, PhysReg, RegClass, Remat, UseKind, Value};
 use layout::Layout;
+use spill_weight::fixed_cost;
 
 // Class c; an unknown class costs nothing.
 pub fn class_data(job: &[u8], lay: Layout, c: RegClass) -> ClassData
@@ -82,19 +83,18 @@ pub fn use_cost(job: &[u8], lay: Layout, kind: UseKind) -> f32
 {
     match kind {
         // "just pay the cost of the spill/reload, except if reg represents a memory location"
-        UseKind::FixedDef { reg } => spill_weight::fixed_cost(in_memory(job, lay, reg)),
-        UseKind::FixedUse { reg } => spill_weight::fixed_cost(in_memory(job, lay, reg)),
+        UseKind::FixedDef { reg } | UseKind::FixedUse { reg } => fixed_cost(in_memory(
+            job, lay, reg,
+        )),
         // "a move from one vreg to another": `SPILL_RELOAD_COST - MOVE_COST`
-        UseKind::TiedUse { .. } => 0.5,
-        UseKind::ConstraintConflict => 0.5,
+        UseKind::TiedUse { .. } | UseKind::ConstraintConflict => 0.5,
         // "Some instructions can directly accept stack operands": "the class spill cost"
-        UseKind::ClassUse { class, .. } => class_cost(job, lay, class),
-        UseKind::ClassDef { class, .. } => class_cost(job, lay, class),
-        UseKind::GroupClassUse { class, .. } => class_cost(job, lay, class),
-        UseKind::GroupClassDef { class, .. } => class_cost(job, lay, class),
+        UseKind::ClassUse { class, .. }
+        | UseKind::ClassDef { class, .. }
+        | UseKind::GroupClassUse { class, .. }
+        | UseKind::GroupClassDef { class, .. } => class_cost(job, lay, class),
         // "Blockparams don't care about being in a spill slot or in a register": nothing
-        UseKind::BlockparamIn { .. } => 0.0,
-        UseKind::BlockparamOut => 0.0,
+        UseKind::BlockparamIn { .. } | UseKind::BlockparamOut => 0.0,
     }
 }
 
@@ -103,13 +103,12 @@ pub fn block_near(starts: &[u8], at: usize, n: u32, b: Block, inst: Inst) -> Blo
     requires { (b.0 < n) × (at + n * 2 + 2 ≤ word_count starts.now) }
     ensures { (result.0 < n) × ((bs : List BlockData) → Starts (words_of starts.now) at bs → length bs ≡ n → inst.0 < insts_of bs → result.0 ≡ block_of bs inst.0) }
 {
-    if inst.0 < block_starts::start_at(starts, at, b).0 {
-        return block_starts::block_of(starts, at, n, inst);
+    let from = block_starts::start_at(starts, at, b);
+    if from <= inst && inst < block_starts::start_at(starts, at, Block(b.0 + 1)) {
+        b
+    } else {
+        block_starts::block_of(starts, at, n, inst)
     }
-    if block_starts::start_at(starts, at, Block(b.0 + 1)).0 <= inst.0 {
-        return block_starts::block_of(starts, at, n, inst);
-    }
-    b
 }
 
 // The frequency of block b.

@@ -1,9 +1,6 @@
-use native.Mathlib.Omega.{arith}
-use Rattle.cut_margins.proofs.Leaves.{chosen_early, chosen_late}
+use mathlib.Core.Path.{◌∙◌}
+use Rattle.cut_margins.proofs.Choice.{chosen_is}
 use Rattle.cut_margins.proofs.chosen.Goals as goal
 
-pub returns-in-Early : goal.returns-in-Early
-returns-in-Early c = chosen_early _ _ _ _ _ (omega arith) c.in-Early.is c.first_least.ensures.0
-
-pub returns-in-Late : goal.returns-in-Late
-returns-in-Late c = chosen_late _ _ _ _ _ (omega arith) c.in-Late.is c.last_least.ensures.0
+pub returns : goal.returns
+returns c = c.least.ensures.0 ∙ chosen_is _ _ _ _ c.requires.0

@@ -1,4 +1,3 @@
-use Prim.Native.Nat.{◌-◌}
 use native.Mathlib.Omega.{arith}
 use Rattle.cut_margins.proofs.Leaves.{edge_start, edge_next, edge_end}
 use Rattle.cut_margins.proofs.edge_of.Goals as goal

@@ -1,35 +1,42 @@
 use native.Mathlib.Omega.{arith}
-use mathlib.Core.Path.{sym, ◌∙◌}
+use mathlib.Core.Path.{sym}
 use lib.ListN.{length}
 use Rattle.words.specs.Laws.{length_whole}
-use Rattle.cut_moves.proofs.Whole.{left_empty, part_zero, Accepted, rows_there, rows_fit, all_passed, left_moves}
+use Rattle.find_cut.proofs.Answers.{rows_there}
+use Rattle.cut_moves.proofs.Numbers.{was_admitted_moves}
+use Rattle.cut_moves.proofs.Whole.{left_empty, part_zero, Accepted, rows_fit, left_moves}
+use Rattle.cut_moves.proofs.find_cut_moves.Goals.{In-Ok}
 use Rattle.cut_moves.proofs.find_cut_moves.Goals as goal
 
-pub returns-then-number-ne0 : goal.returns-then-number-ne0
-returns-then-number-ne0 c =
+-- a call that is admitted
+accepted : (c : In-Ok) → Accepted c.args.blocks.now c.args.after c.args.before c.args.side (length c.args.list.now) c.clear.new.s c.in-Ok.side
+accepted c = let a = c.args in
+    record {
+      zeros = c.clear.ensures.zeroed;
+      free = was_admitted_moves a.blocks.now a.after a.before a.side _ _ (sym c.in-Ok.ensures);
+    }
+
+pub returns-in-Err : goal.returns-in-Err
+returns-in-Err c =
     let a = c.args in
     let both =
-    left_empty a.blocks.now a.after a.before a.side (length a.list.now) _ c.clear.ensures.zeroed _ c.number_of-number.ensures
-    c.if-number-ne0.true in
+    left_empty a.blocks.now a.after a.before a.side (length a.list.now) _ c.clear.ensures.zeroed _ _ (sym c.in-Err.ensures)
+    c.number_of.ensures in
     record { value = both.0; list_after = both.1 }
 
 pub overflow_cast-n : goal.overflow_cast-n
-overflow_cast-n c =
-    let a = c.args in
-    let o : Accepted a.blocks.now a.after a.before a.side (length a.list.now) c.clear.new.s =
-    record { zeros = c.clear.ensures.zeroed; none = sym c.if-number-ne0.false ∙ c.number_of-number.ensures } in
-    omega (arith, (all_passed o).blocks_few)
+overflow_cast-n c = let o = accepted (goal.at.overflow_cast-n c).In-Ok in
+    omega (arith, o.free.passed.blocks_few)
 
-pub slice_bounds-put_sorted-end-2 : goal.slice_bounds-put_sorted-end-2
-slice_bounds-put_sorted-end-2 c = sym (length_whole c.clear.new.s)
+pub slice_bounds-put_sorted-end-in-Ok : goal.slice_bounds-put_sorted-end-in-Ok
+slice_bounds-put_sorted-end-in-Ok c = sym (length_whole c.clear.new.s)
 
 pub put_sorted-count-requires : goal.put_sorted-count-requires
 put_sorted-count-requires c =
     let a = c.args in
-    let o : Accepted a.blocks.now a.after a.before a.side (length a.list.now) c.clear.new.s =
-    record { zeros = c.clear.ensures.zeroed; none = sym c.if-number-ne0.false ∙ c.number_of-number.ensures } in
-    let p = all_passed o in (
-      rows_there o,
+    let o = accepted (goal.at.put_sorted-count-requires c).In-Ok in
+    let p = o.free.passed in (
+      rows_there a.blocks.now a.side o.free.read,
       p.blocks_few,
       omega arith,
       omega arith,
@@ -41,12 +48,9 @@ put_sorted-count-requires c =
       part_zero (length a.list.now) c.clear.new.s c.clear.ensures.zeroed,
     )
 
-pub returns : goal.returns
-returns c =
-    let a = c.args in
-    let o : Accepted a.blocks.now a.after a.before a.side (length a.list.now) c.clear.new.s =
-    record { zeros = c.clear.ensures.zeroed; none = sym c.if-number-ne0.false ∙ c.number_of-number.ensures } in
+pub returns-in-Ok : goal.returns-in-Ok
+returns-in-Ok c =
+    let o = accepted (goal.at.returns-in-Ok c).In-Ok in
     let r = c.put_sorted-count in
-    let both = left_moves o _ _ _ c.side_of.ensures r.auto.list
-    (λ i. omega (arith, c.slice_known-3-1.given i)) r.ensures.0 r.ensures.1 in
+    let both = left_moves o _ _ r.auto.list (λ i. omega (arith, c.type_inv.list i)) r.ensures.0 r.ensures.1 in
     record { value = both.0; list_after = both.1 }

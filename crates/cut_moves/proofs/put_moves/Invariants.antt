@@ -1,4 +1,3 @@
-use Prim.Native.Nat.{◌-◌}
 use mathlib.Core.Path.{◌≡◌}
 use lib.ListN.{length}
 use Rattle.words.specs.Words.{word_count, words_of}
@@ -8,7 +7,4 @@ use Rattle.cut_moves.proofs.put_moves.Given as goal
 
 abbrev pub invariant-loop-i : goal.invariant-loop-i
 invariant-loop-i l = (length l.list ≡ length l.initial.list)
-    × Putting l.side (bits (words_of l.starts)) l.c.0 l.e l.initial.i l.end (word_count l.initial.list) l.k l.i (words_of l.list)
-
-abbrev pub decreases-loop-i : goal.decreases-loop-i
-decreases-loop-i l = l.end - l.i
+    × Putting l.side (bits (words_of l.starts)) l.c.0 l.e l.initial.i l.i-end (word_count l.initial.list) l.k l.i (words_of l.list)

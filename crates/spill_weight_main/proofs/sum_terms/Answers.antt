@@ -1,4 +1,3 @@
-use Prim.Native.Nat.{◌-◌}
 use native.Mathlib.Omega.{arith}
 use Rattle.spill_weight_main.proofs.Terms.{start, next, done}
 use Rattle.spill_weight_main.proofs.sum_terms.Goals as goal
@@ -9,20 +8,8 @@ loop-i-init c = start _
 pub cost_at-requires : goal.cost_at-requires
 cost_at-requires c = omega arith
 
-pub overflow_mul-i : goal.overflow_mul-i
-overflow_mul-i c = omega arith
-
-pub overflow_sub-i : goal.overflow_sub-i
-overflow_sub-i c = omega arith
-
 pub add_term-sum-requires : goal.add_term-sum-requires
 add_term-sum-requires c = (c.loop-i.invariant.sound, c.cost_at.ensures.1, omega arith)
-
-pub overflow_add-i : goal.overflow_add-i
-overflow_add-i c = omega arith
-
-pub loop-i-smaller : goal.loop-i-smaller
-loop-i-smaller c = omega arith
 
 pub loop-i-preserved : goal.loop-i-preserved
 loop-i-preserved c = next c.loop-i.invariant (omega arith) c.cost_at.ensures.0 c.add_term-sum.ensures

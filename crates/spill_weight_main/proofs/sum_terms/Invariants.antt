@@ -1,4 +1,3 @@
-use Prim.Native.Nat.{◌-◌}
 use Rattle.spill_weight_main.proofs.Terms.{Summing}
 use Rattle.spill_weight_main.proofs.sum_terms.Given as goal
 
@@ -6,6 +5,3 @@ use Rattle.spill_weight_main.proofs.sum_terms.Given as goal
 
 abbrev pub invariant-loop-i : goal.invariant-loop-i
 invariant-loop-i l = Summing l.n l.sum l.i
-
-abbrev pub decreases-loop-i : goal.decreases-loop-i
-decreases-loop-i l = l.n - l.i

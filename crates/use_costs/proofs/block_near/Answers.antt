@@ -1,5 +1,10 @@
 use Rattle.use_costs.proofs.Reading.{near_here}
+use Rattle.std.proofs.Common.{◌≤◌, ◌<◌, arith}
+use Rattle.std.proofs.lemmas.Bool.Decides.{nat_tests}
 use Rattle.use_costs.proofs.block_near.Goals as goal
 
-pub returns : goal.returns
-returns c = near_here _ _ _ _ _ _ _ c.start_at.ensures c.start_at-2.ensures c.requires.0 c.if-inst-start_at.false c.if-start_at-inst.false
+pub returns-then-lt : goal.returns-then-lt
+returns-then-lt c =
+    let le : c.start_at-from.result.0 ≤ c.args.inst.0 = grind (arith, nat_tests, c.if-le.ensures) in
+    let lt : c.args.inst.0 < c.start_at.result.0 = grind (arith, nat_tests, c.if-lt.ensures) in
+    near_here _ _ _ _ _ _ _ c.start_at-from.ensures c.start_at.ensures c.requires.0 le lt
