@@ -1,16 +1,13 @@
 -- The machine, on the bytes of a sheet, gives what the definition gives. Assumes nothing.
-use Rattle.std.specs.Prelude.{◌≡◌, refl, List, [], ◌∷◌, Bool, true, false, cond, ℕ, suc, ◌<◌, get_or, replicate, eqb}
+use Rattle.std.specs.Prelude.{◌≡◌, refl, List, [], ◌∷◌, Bool, not, true, false, cond, ℕ, suc, ◌<◌, get_or, replicate, eqb, Some, None, Ok, Err}
 use Rattle.std.proofs.Common.{ap, ◌∙◌}
 use Rattle.std.proofs.Math.Option.{Option, none, some}
 use Rattle.definition.specs.Text.{◌>>=◌, given, lines_of, end_line as line_ended, onto_line}
 use Rattle.definition.specs.JobSheet.{opt, Record, records_of, ordered, sheet_of}
 use Rattle.sheet_rules.specs.Rules.{follows_of}
-use Rattle.sheet_fields.specs.declared.Next.{Next}
-use Rattle.sheet_fields.specs.declared.Next.TheVariants.{Go, Bad}
-use Rattle.sheet_fields.specs.Fields.{Fed, fed, begin_of}
-use Rattle.sheet.specs.declared.Answer.{Answer}
-use Rattle.sheet.specs.declared.Answer.TheVariants.{Read, Malformed, TooMany}
-use Rattle.sheet.specs.Machine.{run_of, open_of, ended_of, answer_of}
+use Rattle.sheet_fields.specs.Fields.{Next, Fed, fed, begin_of}
+use Rattle.sheet.specs.Machine.{Answer, run_of, open_of, ended_of, answer_of}
+use Rattle.sheet.specs.declared.SheetError.TheVariants.{Malformed, TooMany}
 use Rattle.agree.specs.Words.{Bytes}
 use Rattle.agree.specs.Split.{Seen, gone, at, view_n, view, run_s, view_run, Mid, Cut, cut, mid}
 use Rattle.agree.specs.Table.{Filled, filled, keyed, put, fill, blank}
@@ -19,9 +16,9 @@ use Rattle.agree.specs.Order.{ordered_n, same_order, likes_start}
 
 -- what an answer says, with the table that it leaves: no sheet, or records that fill the table
 abbrev pub outcome : Answer → List ℕ → Option Filled
-outcome Read o = some (filled false o)
-outcome Malformed o = none
-outcome TooMany o = some (filled true o)
+outcome (Ok tt) o = some (filled false o)
+outcome (Err Malformed) o = none
+outcome (Err TooMany) o = some (filled true o)
 
 -- what the machine gives
 abbrev pub ends : Fed → Option Filled
@@ -36,15 +33,15 @@ unfolding answer_of
 finish_view f = go f.next
   where
     go : (m : Next) → outcome (answer_of m) f.out ≡ ans_s (view_n m f.out)
-    go (Go s) = refl
-    go Bad = refl
+    go (Some s) = refl
+    go None = refl
 
 pub mid_answer : (x : Seen) → Mid x → ans_s x ≡ none
 unfolding ended_of
 mid_answer gone h = refl
 mid_answer (at s o) h = go (eqb s.prev 11) (eqb s.n 0) (eqb s.len 0) h
   where
-    go : (t u v : Bool) → cond u v false ≡ false → outcome (cond t (cond u (cond v (cond s.over TooMany Read) Malformed) Malformed) Malformed) o ≡ none
+    go : (t u v : Bool) → cond u v false ≡ false → outcome (cond t (cond u (cond v (cond s.over (Err TooMany) (Ok tt)) (Err Malformed)) (Err Malformed)) (Err Malformed)) o ≡ none
     go false u v h = refl
     go true false v h = refl
     go true true v h = rw h
@@ -54,11 +51,11 @@ pub ordered_answer : (rs : List Record) (prev : ℕ) (f : Filled) → ans_s (go_
 unfolding ordered_n fill ended_of begin_of
 ordered_answer [] prev f = go (eqb prev 11) f.over refl
   where
-    go : (t u : Bool) → f.over ≡ u → outcome (cond t (cond f.over TooMany Read) Malformed) f.out ≡ given t f
+    go : (t u : Bool) → f.over ≡ u → outcome (cond t (cond f.over (Err TooMany) (Ok tt)) (Err Malformed)) f.out ≡ given t f
     go true true e = rw e
     go true false e = rw e
     go false u e = refl
-ordered_answer (r ∷ rs) prev f = go (eqb (follows_of prev (keyed r)) 0) (ordered_answer rs (keyed r) (put f r))
+ordered_answer (r ∷ rs) prev f = go (not (follows_of prev (keyed r))) (ordered_answer rs (keyed r) (put f r))
   where
     go : (t : Bool) → ans_s (go_s (keyed r) (put f r) rs) ≡ given (ordered_n (keyed r) rs) (fill (put f r) rs)
         → ans_s (cond t gone (go_s (keyed r) (put f r) rs)) ≡ given (cond t false (ordered_n (keyed r) rs)) (fill (put f r) rs)
@@ -90,7 +87,7 @@ agree bs b n =
     ∙ go (lines_of bs) (cut mid bs (at (begin_of 12 false) (replicate n 0))) (lines_bytes bs b)
   where
     start : Fed
-    start = fed (Go (begin_of 12 false)) (replicate n 0)
+    start = fed (Some (begin_of 12 false)) (replicate n 0)
 
     last : (t : Bool) (rs : List Record) → given t (fill (blank n) rs) ≡ (given t rs >>= λ rs. some (fill (blank n) rs))
     last true rs = refl

@@ -1,29 +1,27 @@
 -- A field read byte by byte is the definition's field: numbers, and eight hexadecimal digits. Assumes nothing.
-use Rattle.std.specs.Prelude.{◌≡◌, refl, List, [], ◌∷◌, map, Bool, true, false, cond, ◌&&◌, ℕ, zero, suc, ◌+◌, ◌*◌, ◌^◌, ◌≤◌, ◌<◌, length, ltb, leb, eqb}
+use Rattle.std.specs.Prelude.{◌≡◌, refl, List, [], ◌∷◌, map, Bool, true, false, cond, ◌&&◌, ℕ, zero, suc, ◌+◌, ◌*◌, ◌^◌, ◌≤◌, ◌<◌, length, ltb, leb, eqb, Some, None}
 use Rattle.std.proofs.Common.{sym, ap, ◌∙◌, arith, add-one, ltb-true, ltb-false, lt-ltb, le-ltb, le-leb, ne_eqb}
 use Rattle.std.proofs.Math.Option.{Option, none, some}
 use native.Mathlib.Nat.{pow-le-pow_right, pow-suc}
 use Rattle.std.proofs.lemmas.Bool.{lt-leb}
 use Rattle.definition.specs.Text.{given, digit_of, value_from, all_below, no_leading_zero, read_number, read_bits}
-use Rattle.numeral.specs.Bytes.{num, number_byte, mask_byte, take_byte, closed_of}
+use Rattle.numeral.specs.Bytes.{num, number_byte, mask_byte, take_byte, closed_of, Took}
 use Rattle.numeral.specs.declared.Form.{Form}
 use Rattle.numeral.specs.declared.Form.TheVariants.{Number, Mask}
 use Rattle.numeral.specs.declared.Num.{Num}
-use Rattle.numeral.specs.declared.Took.{Took}
-use Rattle.numeral.specs.declared.Took.TheVariants as T
 
 abbrev pub onward : Took → (Num → Took) → Took
-onward (T.Num x) k = k x
-onward T.Bad k = T.Bad
+onward (Some x) k = k x
+onward None k = None
 
 -- what the bytes of a field make, one by one
 unfoldable pub take_all : Form → Num → List ℕ → Took
-take_all f x [] = T.Num x
+take_all f x [] = Some x
 take_all f x (b ∷ bs) = onward (take_byte f x b) (λ y. take_all f y bs)
 
 abbrev pub closing : Form → Took → Option ℕ
-closing f (T.Num x) = cond (closed_of f x) (some x.value) none
-closing f T.Bad = none
+closing f (Some x) = cond (closed_of f x) (some x.value) none
+closing f None = none
 
 -- the value only grows
 grows : (base : ℕ) → 0 < base → (v : ℕ) (ds : List ℕ) → v ≤ value_from base v ds

@@ -12,7 +12,7 @@ use Rattle.agree.specs.Table.{keyed}
 -- 12 stands before the first; the last is 11, end
 unfoldable pub ordered_n : ℕ → List Record → Bool
 ordered_n prev [] = eqb prev 11
-ordered_n prev (r ∷ rs) = cond (eqb (follows_of prev (keyed r)) 0) false (ordered_n (keyed r) rs)
+ordered_n prev (r ∷ rs) = cond (not (follows_of prev (keyed r))) false (ordered_n (keyed r) rs)
 
 -- ---- a test of all words
 
@@ -54,15 +54,15 @@ empty [] = true
 empty (w ∷ ws) = false
 
 pub record Like (ws : List Named) (prev : ℕ) : Type 0 where
-  pub follow : (w : Named) → among w ws ≡ not (eqb (follows_of prev (word_number w)) 0)
+  pub follow : (w : Named) → among w ws ≡ follows_of prev (word_number w)
   pub last : empty ws ≡ eqb prev 11
 
 module _ (ws : List Named) (prev : ℕ) where
   abbrev agrees : Named → Bool
-  agrees w = beq (among w ws) (not (eqb (follows_of prev (word_number w)) 0))
+  agrees w = beq (among w ws) (follows_of prev (word_number w))
 
   like : all agrees all_words ≡ true → empty ws ≡ eqb prev 11 → Like ws prev
-  like e f = record { follow = λ w. beq_true (among w ws) (not (eqb (follows_of prev (word_number w)) 0)) (each agrees e w); last = f }
+  like e f = record { follow = λ w. beq_true (among w ws) (follows_of prev (word_number w)) (each agrees e w); last = f }
 
 likes : (v : Named) → Like (next v) (word_number v)
 unfolding follows_of order
@@ -87,7 +87,7 @@ pub same_order : (rs : List Record) (ws : List Named) (prev : ℕ) → Like ws p
 unfolding ordered_n ordered
 same_order [] [] prev l = sym l.last
 same_order [] (w ∷ ws) prev l = sym l.last
-same_order (r ∷ rs) ws prev l = by (eqb (follows_of prev (keyed r)) 0) (l.follow r.word) (same_order rs (next r.word) (keyed r) (likes r.word)) ∙ opened ws
+same_order (r ∷ rs) ws prev l = by (follows_of prev (keyed r)) (l.follow r.word) (same_order rs (next r.word) (keyed r) (likes r.word)) ∙ opened ws
   where
     step : Bool → Bool
     step t = elim t [ true ↦ ordered (next r.word) rs | false ↦ false ]
@@ -96,6 +96,6 @@ same_order (r ∷ rs) ws prev l = by (eqb (follows_of prev (keyed r)) 0) (l.foll
     opened [] = refl
     opened (v ∷ vs) = refl
 
-    by : (t : Bool) → among r.word ws ≡ not t → ordered_n (keyed r) rs ≡ ordered (next r.word) rs → cond t false (ordered_n (keyed r) rs) ≡ step (among r.word ws)
-    by true a h = sym (ap step a)
-    by false a h = h ∙ sym (ap step a)
+    by : (t : Bool) → among r.word ws ≡ t → ordered_n (keyed r) rs ≡ ordered (next r.word) rs → cond (not t) false (ordered_n (keyed r) rs) ≡ step (among r.word ws)
+    by true a h = h ∙ sym (ap step a)
+    by false a h = sym (ap step a)

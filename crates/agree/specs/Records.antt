@@ -1,5 +1,5 @@
 -- Lines are records, a sheet is its records in order. Assumes nothing.
-use Rattle.std.specs.Prelude.{◌≡◌, refl, List, [], ◌∷◌, Bool, true, false, cond, ℕ, zero, suc, ◌+◌, ◌*◌, get_or, set, ltb, eqb}
+use Rattle.std.specs.Prelude.{◌≡◌, refl, List, [], ◌∷◌, Bool, not, true, false, cond, ℕ, zero, suc, ◌+◌, ◌*◌, get_or, set, ltb, eqb, Some, None}
 use Rattle.std.proofs.Common.{sym, ap, ◌∙◌, arith, lt-ltb}
 use Rattle.std.proofs.Math.Option.{Option, none, some}
 use Rattle.definition.specs.Text.{◌>>=◌, Fields, fields_of, end_field as field_ended, onto_field}
@@ -10,7 +10,6 @@ use Rattle.numeral.specs.declared.Form.TheVariants.{Nothing, Number, Mask, Word}
 use Rattle.sheet_rules.specs.Rules.{forms, form_row, form_of, code_at, form_at, key_of, order, follows_of, more_after, kind_after, low_of}
 use Rattle.sheet_places.specs.Places.{limit_of, count_at, place_of, tail_at, tail_of, up_of}
 use Rattle.sheet_fields.specs.declared.St.{St}
-use Rattle.sheet_fields.specs.declared.Next.TheVariants.{Go, Bad}
 use Rattle.sheet_fields.specs.Fields.{fed, begin_of, with_num, start_of, next_of, close_record}
 use Rattle.agree.specs.Words.{Bytes, spelled, word_of, record_word}
 use Rattle.agree.specs.Split.{field_of, Bounded, Seen, gone, at, view_n, view, on, field_s, fields_s, close_f, close_r, run_b, line_s, lines_s, form_of_st, with_value, done_b, done_s, field_done, line_fields, up_some}
@@ -72,19 +71,19 @@ pub record Inside (t : St) : Type 0 where
   pub clean : with_num t (num 0 0) ≡ t
   pub behind : eqb t.n 0 ≡ false
 
-close_record_lem : (t : St) (o : List ℕ) → close_r t o ≡ record_s t o (cond (eqb (more_after t.key t.kind t.n) 1) none (some []))
+close_record_lem : (t : St) (o : List ℕ) → close_r t o ≡ record_s t o (cond (more_after t.key t.kind t.n) none (some []))
 unfolding close_record counted puts ups
-close_record_lem t o = go (eqb (more_after t.key t.kind t.n) 1) refl
+close_record_lem t o = go (more_after t.key t.kind t.n) refl
   where
     o₁ : List ℕ
     o₁ = set o (tail_at t.key t.row) (tail_of t.key t.n (get_or o 9 0))
 
-    by : (v : Bool) → view (cond v (fed (Go (begin_of t.key t.over)) (set o₁ (count_at t.key) (get_or o (count_at t.key) 0 + 1))) (fed (Go (begin_of t.key true)) o₁))
+    by : (v : Bool) → view (cond v (fed (Some (begin_of t.key t.over)) (set o₁ (count_at t.key) (get_or o (count_at t.key) 0 + 1))) (fed (Some (begin_of t.key true)) o₁))
         ≡ placed t.key (cond v (filled t.over (set o₁ (count_at t.key) (get_or o (count_at t.key) 0 + 1))) (filled true o₁))
     by true = refl
     by false = refl
 
-    go : (u : Bool) → eqb (more_after t.key t.kind t.n) 1 ≡ u → close_r t o ≡ record_s t o (cond u none (some []))
+    go : (u : Bool) → more_after t.key t.kind t.n ≡ u → close_r t o ≡ record_s t o (cond u none (some []))
     go true e = rw e
     go false e = rw e (by (ltb (get_or o (count_at t.key) 0) (limit_of t.key)))
 
@@ -133,7 +132,7 @@ values_in (f ∷ fs) t o i b = go (field_of (form_of_st t) f) refl
 -- a line from its start
 abbrev pub line_p : ℕ → Filled → Option Record → Seen
 line_p prev f none = gone
-line_p prev f (some r) = cond (eqb (follows_of prev (keyed r)) 0) gone (placed (keyed r) (put f r))
+line_p prev f (some r) = cond (not (follows_of prev (keyed r))) gone (placed (keyed r) (put f r))
 
 unfoldable pub started : ℕ → Filled → ℕ → St
 started prev f k = record { prev = prev; key = k; kind = 0; n = 1; row = row_of f.out k; over = f.over; value = 0; len = 0 }
@@ -173,11 +172,11 @@ named (suc (suc (suc (suc (suc (suc (suc (suc (suc (suc zero)))))))))) = refl
 named (suc (suc (suc (suc (suc (suc (suc (suc (suc (suc (suc zero))))))))))) = refl
 named (suc (suc (suc (suc (suc (suc (suc (suc (suc (suc (suc (suc k)))))))))))) = lt-ltb 11 (suc (suc (suc (suc (suc (suc (suc (suc (suc (suc (suc (suc k)))))))))))) (omega arith)
 
-pub no_follower : (prev k : ℕ) → ltb 11 k ≡ true → eqb (follows_of prev k) 0 ≡ true
+pub no_follower : (prev k : ℕ) → ltb 11 k ≡ true → not (follows_of prev k) ≡ true
 unfolding follows_of
 no_follower prev k e = go (ltb 12 prev)
   where
-    go : (t : Bool) → eqb (cond t 0 (cond (ltb 11 k) 0 (get_or order (prev * 12 + k) 0))) 0 ≡ true
+    go : (t : Bool) → not (cond t false (cond (ltb 11 k) false (not (eqb (get_or order (prev * 12 + k) 0) 0)))) ≡ true
     go true = refl
     go false = rw e
 
@@ -194,27 +193,27 @@ fields_record_lem prev f first rest b bs =
     ∙ go (spelled first)
     ∙ ap (λ (o : Option Named). line_p prev f (o >>= λ w. read_record w rest >>= λ ns. some (rec w ns))) (record_word first b)
   where
-    refuse : (m : Option (List ℕ)) (w : Named) → eqb (follows_of prev (word_number w)) 0 ≡ true → gone ≡ line_p prev f (m >>= λ ns. some (rec w ns))
+    refuse : (m : Option (List ℕ)) (w : Named) → not (follows_of prev (word_number w)) ≡ true → gone ≡ line_p prev f (m >>= λ ns. some (rec w ns))
     refuse none w e = refl
     refuse (some ns) w e = rw e
 
-    admit : (m : Option (List ℕ)) (w : Named) → eqb (follows_of prev (word_number w)) 0 ≡ false → record_s (started prev f (word_number w)) f.out m ≡ line_p prev f (m >>= λ ns. some (rec w ns))
+    admit : (m : Option (List ℕ)) (w : Named) → not (follows_of prev (word_number w)) ≡ false → record_s (started prev f (word_number w)) f.out m ≡ line_p prev f (m >>= λ ns. some (rec w ns))
     admit none w e = refl
     admit (some ns) w e = rw e
 
     begun : ℕ → Bool → Seen
-    begun k u = on (all_s (view_n (cond u Bad (Go (started prev f k))) f.out) rest) close_r
+    begun k u = on (all_s (view_n (cond u None (Some (started prev f k))) f.out) rest) close_r
 
-    by : (w : Named) (u : Bool) → eqb (follows_of prev (word_number w)) 0 ≡ u → begun (word_number w) u ≡ line_p prev f (read_record w rest >>= λ ns. some (rec w ns))
+    by : (w : Named) (u : Bool) → not (follows_of prev (word_number w)) ≡ u → begun (word_number w) u ≡ line_p prev f (read_record w rest >>= λ ns. some (rec w ns))
     by w true e = ap (λ x. on x close_r) (all_gone rest) ∙ refuse (read_record w rest) w e
     by w false e =
         values_in rest (started prev f (word_number w)) f.out (record { clean = refl; behind = refl }) bs
         ∙ ap (λ (m : Option (List ℕ)). record_s (started prev f (word_number w)) f.out m) (record_values w rest)
         ∙ admit (read_record w rest) w e
 
-    word : (k : ℕ) (m : Option Named) → Named? k m → begun k (eqb (follows_of prev k) 0) ≡ line_p prev f (m >>= λ w. read_record w rest >>= λ ns. some (rec w ns))
+    word : (k : ℕ) (m : Option Named) → Named? k m → begun k (not (follows_of prev k)) ≡ line_p prev f (m >>= λ w. read_record w rest >>= λ ns. some (rec w ns))
     word k none h = ap (λ (u : Bool). begun k u) (no_follower prev k h) ∙ ap (λ x. on x close_r) (all_gone rest)
-    word k (some w) h = ap (λ (j : ℕ). begun j (eqb (follows_of prev j) 0)) h ∙ by w (eqb (follows_of prev (word_number w)) 0) refl
+    word k (some w) h = ap (λ (j : ℕ). begun j (not (follows_of prev j))) h ∙ by w (not (follows_of prev (word_number w))) refl
 
     go : (m : Option ℕ) → on (all_s (done_s (begin_of prev f.over) f.out m) rest) close_r ≡ line_p prev f ((m >>= λ v. word_of (key_of v)) >>= λ w. read_record w rest >>= λ ns. some (rec w ns))
     go none = ap (λ x. on x close_r) (all_gone rest)
@@ -228,7 +227,7 @@ line_record prev f l b =
 -- the records of a sheet, in order
 abbrev pub go_s : ℕ → Filled → List Record → Seen
 go_s prev f [] = placed prev f
-go_s prev f (r ∷ rs) = cond (eqb (follows_of prev (keyed r)) 0) gone (go_s (keyed r) (put f r) rs)
+go_s prev f (r ∷ rs) = cond (not (follows_of prev (keyed r))) gone (go_s (keyed r) (put f r) rs)
 
 abbrev pub sheet_s : ℕ → Filled → Option (List Record) → Seen
 sheet_s prev f none = gone
@@ -247,15 +246,15 @@ unfolding records_of
 lines_records [] b prev f = refl
 lines_records (l ∷ ls) b prev f = ap (λ x. lines_s x ls) (line_record prev f l b.0) ∙ go (record_of l) (λ r. lines_records ls b.1 (keyed r) (put f r))
   where
-    refuse : (m : Option (List Record)) (r : Record) → eqb (follows_of prev (keyed r)) 0 ≡ true → gone ≡ sheet_s prev f (m >>= λ rs. some (r ∷ rs))
+    refuse : (m : Option (List Record)) (r : Record) → not (follows_of prev (keyed r)) ≡ true → gone ≡ sheet_s prev f (m >>= λ rs. some (r ∷ rs))
     refuse none r e = refl
     refuse (some rs) r e = rw e
 
-    admit : (m : Option (List Record)) (r : Record) → eqb (follows_of prev (keyed r)) 0 ≡ false → sheet_s (keyed r) (put f r) m ≡ sheet_s prev f (m >>= λ rs. some (r ∷ rs))
+    admit : (m : Option (List Record)) (r : Record) → not (follows_of prev (keyed r)) ≡ false → sheet_s (keyed r) (put f r) m ≡ sheet_s prev f (m >>= λ rs. some (r ∷ rs))
     admit none r e = refl
     admit (some rs) r e = rw e
 
-    by : (r : Record) → lines_s (placed (keyed r) (put f r)) ls ≡ sheet_s (keyed r) (put f r) (records_of ls) → (u : Bool) → eqb (follows_of prev (keyed r)) 0 ≡ u
+    by : (r : Record) → lines_s (placed (keyed r) (put f r)) ls ≡ sheet_s (keyed r) (put f r) (records_of ls) → (u : Bool) → not (follows_of prev (keyed r)) ≡ u
         → lines_s (cond u gone (placed (keyed r) (put f r))) ls ≡ sheet_s prev f (records_of ls >>= λ rs. some (r ∷ rs))
     by r ih true e = lines_gone ls ∙ refuse (records_of ls) r e
     by r ih false e = ih ∙ admit (records_of ls) r e
@@ -263,4 +262,4 @@ lines_records (l ∷ ls) b prev f = ap (λ x. lines_s x ls) (line_record prev f 
     go : (m : Option Record) → ((r : Record) → lines_s (placed (keyed r) (put f r)) ls ≡ sheet_s (keyed r) (put f r) (records_of ls))
         → lines_s (line_p prev f m) ls ≡ sheet_s prev f (m >>= λ r. records_of ls >>= λ rs. some (r ∷ rs))
     go none ih = lines_gone ls
-    go (some r) ih = by r (ih r) (eqb (follows_of prev (keyed r)) 0) refl
+    go (some r) ih = by r (ih r) (not (follows_of prev (keyed r))) refl

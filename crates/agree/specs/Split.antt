@@ -1,5 +1,5 @@
 -- The machine's bytes, cut into lines and fields. Assumes nothing.
-use Rattle.std.specs.Prelude.{◌≡◌, Bool, cond, ℕ, ◌+◌, ◌*◌, ◌≤◌, get_or, set, ltb}
+use Rattle.std.specs.Prelude.{◌≡◌, Bool, not, cond, ℕ, ◌+◌, ◌*◌, ◌≤◌, get_or, set, ltb, Some, None}
 use Rattle.std.proofs.Math.Path.{refl, ap, subst}
 use Rattle.std.proofs.Common.{sym, ◌∙◌, arith, ne_eqb}
 use mathlib.Core.List.{List, [], ◌∷◌}
@@ -7,17 +7,14 @@ use Rattle.std.proofs.Math.Bool.{true, false}
 use Rattle.std.proofs.Math.Option.{Option, none, some}
 use Rattle.std.proofs.Math.Dec.{eqb}
 use Rattle.definition.specs.Text.{digit_of, read_number, read_bits, lines_of, end_line as line_ended, onto_line, Fields, fields_of, end_field as field_ended, onto_field}
-use Rattle.numeral.specs.Bytes.{num, take_byte, closed_of, number_byte, mask_byte, word_byte}
+use Rattle.numeral.specs.Bytes.{num, take_byte, closed_of, number_byte, mask_byte, word_byte, Took}
 use Rattle.numeral.specs.declared.Form.{Form}
 use Rattle.numeral.specs.declared.Form.TheVariants.{Nothing, Number, Mask, Word}
 use Rattle.numeral.specs.declared.Num.{Num}
-use Rattle.numeral.specs.declared.Took.{Took}
-use Rattle.numeral.specs.declared.Took.TheVariants as T
 use Rattle.sheet_rules.specs.Rules.{form_at, low_of, follows_of, key_of}
 use Rattle.sheet_places.specs.Places.{count_at, row_at, place_of, up_of}
 use Rattle.sheet_fields.specs.declared.St.{St}
-use Rattle.sheet_fields.specs.declared.Next.{Next}
-use Rattle.sheet_fields.specs.declared.Next.TheVariants.{Go, Bad}
+use Rattle.sheet_fields.specs.Fields.{Next}
 use Rattle.sheet_fields.specs.Fields.{Fed, fed, with_num, on_took, byte_of, start_of, next_of, end_field, close_record}
 use Rattle.sheet.specs.Machine.{on_field, end_line, step_of, on_next, push_of, run_of}
 use Rattle.agree.specs.Fields.{onward, take_all, closing, number_field, bits_field}
@@ -52,8 +49,8 @@ pub data Seen : Type 0 where
   at : St → List ℕ → Seen
 
 abbrev pub view_n : Next → List ℕ → Seen
-view_n (Go s) o = at s o
-view_n Bad o = gone
+view_n (Some s) o = at s o
+view_n None o = gone
 
 abbrev pub view : Fed → Seen
 view f = view_n f.next f.out
@@ -67,8 +64,8 @@ run_s x [] = x
 run_s x (b ∷ bs) = run_s (on x (λ s o. view (step_of s b o))) bs
 
 view_push : (n : Next) (b : ℕ) (o : List ℕ) → view (on_next n b o) ≡ on (view_n n o) (λ s o. view (step_of s b o))
-view_push (Go s) b o = refl
-view_push Bad b o = refl
+view_push (Some s) b o = refl
+view_push None b o = refl
 
 pub view_run : (f : Fed) (bs : List ℕ) → view (run_of f bs) ≡ run_s (view f) bs
 unfolding run_of push_of
@@ -158,8 +155,8 @@ unfolding end_line
 close_line s o = go (end_field s o).next (end_field s o).out
   where
     go : (n : Next) (p : List ℕ) → view (on_field n p) ≡ on (view_n n p) close_r
-    go (Go t) p = refl
-    go Bad p = refl
+    go (Some t) p = refl
+    go None p = refl
 
 pub close_lines : (x : Seen) → on x close_l ≡ on (on x close_f) close_r
 close_lines gone = refl
@@ -189,8 +186,8 @@ abbrev pub form_of_st : St → Form
 form_of_st s = form_at s.key s.kind s.n
 
 abbrev pub took_s : St → List ℕ → Took → Seen
-took_s s o (T.Num y) = at (with_num s y) o
-took_s s o T.Bad = gone
+took_s s o (Some y) = at (with_num s y) o
+took_s s o None = gone
 
 run_gone : (bs : List ℕ) → run_b gone bs ≡ gone
 run_gone [] = refl
@@ -203,8 +200,8 @@ bytes s o (b ∷ f) x = go (take_byte (form_of_st s) x b) (λ y. bytes s o f y)
   where
     go : (t : Took) → ((y : Num) → run_b (at (with_num s y) o) f ≡ took_s s o (take_all (form_of_st s) y f))
         → run_b (view_n (on_took (with_num s x) t) o) f ≡ took_s s o (onward t (λ y. take_all (form_of_st s) y f))
-    go (T.Num y) h = h y
-    go T.Bad h = run_gone f
+    go (Some y) h = h y
+    go None h = run_gone f
 
 -- what a field's value does
 abbrev pub with_value : St → ℕ → St
@@ -226,7 +223,7 @@ field_done s o f b y =
     done_t u none = gone
     done_t u (some v) = done_b u s o v
 
-    by : (t u : Bool) (x : Num) → view (cond t (cond u (fed (start_of (with_num s x) o) o) (fed (Go (next_of (with_num s x))) (set o (place_of s.key s.row s.n) (low_of x.value)))) (fed Bad o))
+    by : (t u : Bool) (x : Num) → view (cond t (cond u (fed (start_of (with_num s x) o) o) (fed (Some (next_of (with_num s x))) (set o (place_of s.key s.row s.n) (low_of x.value)))) (fed None o))
         ≡ done_t u (cond t (some x.value) none)
     by true true x = refl
     by true false x = refl
@@ -237,45 +234,45 @@ field_done s o f b y =
     same (some v) = refl
 
     go : (t : Took) → on (took_s s o t) close_f ≡ done_s s o (closing (form_of_st s) t)
-    go (T.Num x) = by (closed_of (form_of_st s) x) (eqb s.n 0) x ∙ same (cond (closed_of (form_of_st s) x) (some x.value) none)
-    go T.Bad = refl
+    go (Some x) = by (closed_of (form_of_st s) x) (eqb s.n 0) x ∙ same (cond (closed_of (form_of_st s) x) (some x.value) none)
+    go None = refl
 
 -- a byte that ends no line leaves the machine inside one
-abbrev Some : Took → Type 0
-Some (T.Num y) = eqb y.len 0 ≡ false
-Some T.Bad = Unit {0}
+abbrev NotEmpty : Took → Type 0
+NotEmpty (Some y) = eqb y.len 0 ≡ false
+NotEmpty None = Unit {0}
 
-else : (t : Bool) (y : Took) → Some y → Some (cond t T.Bad y)
+else : (t : Bool) (y : Took) → NotEmpty y → NotEmpty (cond t None y)
 else true y h = tt
 else false y h = h
 
 one_more_lem : (n : ℕ) → eqb (n + 1) 0 ≡ false
 one_more_lem n = ne_eqb (n + 1) 0 (λ q. let q' : n + 1 ≡ 0 = q in omega arith)
 
-took_some : (f : Form) (x : Num) (b : ℕ) → Some (take_byte f x b)
+took_some : (f : Form) (x : Num) (b : ℕ) → NotEmpty (take_byte f x b)
 unfolding take_byte number_byte mask_byte word_byte
 took_some Nothing x b = tt
 took_some (Number most) x b = else (ltb 9 (digit_of b)) R₁ (else (ltb 4294967295 x.value) R₂ (else (ltb x.value x.len) R₃ (else (ltb most (x.value * 10 + digit_of b)) R₄ refl)))
   where
     R₄ : Took
-    R₄ = T.Num (num (x.value * 10 + digit_of b) 1)
+    R₄ = Some (num (x.value * 10 + digit_of b) 1)
 
     R₃ : Took
-    R₃ = cond (ltb most (x.value * 10 + digit_of b)) T.Bad R₄
+    R₃ = cond (ltb most (x.value * 10 + digit_of b)) None R₄
 
     R₂ : Took
-    R₂ = cond (ltb x.value x.len) T.Bad R₃
+    R₂ = cond (ltb x.value x.len) None R₃
 
     R₁ : Took
-    R₁ = cond (ltb 4294967295 x.value) T.Bad R₂
+    R₁ = cond (ltb 4294967295 x.value) None R₂
 took_some Mask x b =
-    else (ltb 15 (digit_of b)) (cond (ltb 4294967295 x.value) T.Bad (cond (ltb 7 x.len) T.Bad (T.Num (num (x.value * 16 + digit_of b) (x.len + 1)))))
-    (else (ltb 4294967295 x.value) (cond (ltb 7 x.len) T.Bad (T.Num (num (x.value * 16 + digit_of b) (x.len + 1))))
-    (else (ltb 7 x.len) (T.Num (num (x.value * 16 + digit_of b) (x.len + 1))) (one_more_lem x.len)))
+    else (ltb 15 (digit_of b)) (cond (ltb 4294967295 x.value) None (cond (ltb 7 x.len) None (Some (num (x.value * 16 + digit_of b) (x.len + 1)))))
+    (else (ltb 4294967295 x.value) (cond (ltb 7 x.len) None (Some (num (x.value * 16 + digit_of b) (x.len + 1))))
+    (else (ltb 7 x.len) (Some (num (x.value * 16 + digit_of b) (x.len + 1))) (one_more_lem x.len)))
 took_some Word x b =
-    else (ltb b 1) (cond (ltb 281474976710655 x.value) T.Bad (cond (ltb 6 x.len) T.Bad (T.Num (num (x.value * 256 + b) (x.len + 1)))))
-    (else (ltb 281474976710655 x.value) (cond (ltb 6 x.len) T.Bad (T.Num (num (x.value * 256 + b) (x.len + 1))))
-    (else (ltb 6 x.len) (T.Num (num (x.value * 256 + b) (x.len + 1))) (one_more_lem x.len)))
+    else (ltb b 1) (cond (ltb 281474976710655 x.value) None (cond (ltb 6 x.len) None (Some (num (x.value * 256 + b) (x.len + 1)))))
+    (else (ltb 281474976710655 x.value) (cond (ltb 6 x.len) None (Some (num (x.value * 256 + b) (x.len + 1))))
+    (else (ltb 6 x.len) (Some (num (x.value * 256 + b) (x.len + 1))) (one_more_lem x.len)))
 
 pub up_some : (n : ℕ) → eqb (up_of n) 0 ≡ false
 unfolding up_of
@@ -290,20 +287,20 @@ unfolding end_field start_of next_of byte_of
 mid gone b = tt
 mid (at s o) b = go (eqb b 9)
   where
-    took : (t : Took) → Some t → Mid (view_n (on_took s t) o)
-    took (T.Num y) h = by (eqb s.n 0) h
+    took : (t : Took) → NotEmpty t → Mid (view_n (on_took s t) o)
+    took (Some y) h = by (eqb s.n 0) h
       where
         by : (t : Bool) → eqb y.len 0 ≡ false → cond t (eqb y.len 0) false ≡ false
         by true h = h
         by false h = refl
-    took T.Bad h = tt
+    took None h = tt
 
-    start : (t : Bool) (u : St) → fresh u ≡ false → Mid (view_n (cond t Bad (Go u)) o)
+    start : (t : Bool) (u : St) → fresh u ≡ false → Mid (view_n (cond t None (Some u)) o)
     start true u h = tt
     start false u h = h
 
-    end : (t u : Bool) → Mid (view (cond t (cond u (fed (start_of s o) o) (fed (Go (next_of s)) (set o (place_of s.key s.row s.n) (low_of s.value)))) (fed Bad o)))
-    end true true = start (eqb (follows_of s.prev (key_of s.value)) 0) (record { prev = s.prev; key = key_of s.value; kind = 0; n = 1; row = row_at (key_of s.value) (get_or o (count_at (key_of s.value)) 0); over = s.over; value = 0; len = 0 }) refl
+    end : (t u : Bool) → Mid (view (cond t (cond u (fed (start_of s o) o) (fed (Some (next_of s)) (set o (place_of s.key s.row s.n) (low_of s.value)))) (fed None o)))
+    end true true = start (not (follows_of s.prev (key_of s.value))) (record { prev = s.prev; key = key_of s.value; kind = 0; n = 1; row = row_at (key_of s.value) (get_or o (count_at (key_of s.value)) 0); over = s.over; value = 0; len = 0 }) refl
     end true false = ap (λ t. cond t (eqb 0 0) false) (up_some s.n)
     end false u = tt
 

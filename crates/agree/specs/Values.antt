@@ -14,7 +14,7 @@ use Rattle.agree.specs.Split.{field_of}
 
 -- the values of a record's fields from field n on, the word being field 0
 unfoldable pub values_of : ℕ → ℕ → ℕ → List (List ℕ) → Option (List ℕ)
-values_of key kind n [] = cond (eqb (more_after key kind n) 1) none (some [])
+values_of key kind n [] = cond (more_after key kind n) none (some [])
 values_of key kind n (f ∷ fs) = field_of (form_at key kind n) f >>= λ v. values_of key (kind_after n kind v) (up_of n) fs >>= λ vs. some (v ∷ vs)
 
 -- ---- the tables say the definition's forms
@@ -30,8 +30,8 @@ asked_field bits f = refl
 
 -- from field n on
 abbrev Says : ℕ → ℕ → ℕ → List Asked → Type 0
-Says key kind n [] = (more_after key kind n ≡ 0) × (form_at key kind n ≡ Nothing)
-Says key kind n (m ∷ ms) = (form_at key kind n ≡ asked m) × ((more_after key kind n ≡ 1) × ((v : ℕ) → Says key (kind_after n kind v) (up_of n) ms))
+Says key kind n [] = (more_after key kind n ≡ false) × (form_at key kind n ≡ Nothing)
+Says key kind n (m ∷ ms) = (form_at key kind n ≡ asked m) × ((more_after key kind n ≡ true) × ((v : ℕ) → Says key (kind_after n kind v) (up_of n) ms))
 
 by_forms : (ms : List Asked) (key kind n : ℕ) → Says key kind n ms → (fs : List (List ℕ)) → values_of key kind n fs ≡ read_fields ms fs
 unfolding values_of read_fields field_of

@@ -9,9 +9,10 @@ pub fn get(out: &[u8], at: usize) -> u32
     ensures { result ≡ get_or (words_of out.now) at 0 }
 {
     if at < out.len() / 4 {
-        return words::word_at(out, at);
+        words::word_at(out, at)
+    } else {
+        0
     }
-    0
 }
 
 // Stores word `at`; past the end nothing.
@@ -20,7 +21,6 @@ pub fn put(out: &mut [u8], at: usize, v: u32)
 {
     if at < out.len() / 4 {
         words::put_word(out, at, v);
-        return;
     }
 }
 
@@ -28,9 +28,5 @@ pub fn put(out: &mut [u8], at: usize, v: u32)
 pub fn clear(out: &mut [u8])
     ensures { words_of out.new ≡ replicate (word_count out.old) 0 }
 {
-    let mut i = 0;
-    while i < out.len() {
-        out[i] = 0;
-        i += 1;
-    }
+    out.fill(0);
 }

@@ -1,12 +1,10 @@
 -- A line of the second form by its fields. Assumes nothing.
-use Rattle.std.specs.Prelude.{◌≡◌, refl, List, [], ◌∷◌, Bool, true, false, cond, ℕ, zero, suc, ◌-◌, ltb, eqb}
+use Rattle.std.specs.Prelude.{◌≡◌, refl, List, [], ◌∷◌, Bool, true, false, cond, ℕ, zero, suc, ◌-◌, ltb, eqb, Some, None}
 use Rattle.std.proofs.Common.{sym, ap, ◌∙◌, arith, le-ltb}
 use Rattle.std.proofs.Math.Option.{Option, none, some}
 use Rattle.definition.specs.Text.{◌>>=◌, Fields, fields_of, end_field as field_ended, onto_field, read_number}
-use Rattle.numeral.specs.Bytes.{num, take_byte, closed_of}
+use Rattle.numeral.specs.Bytes.{num, take_byte, closed_of, Took}
 use Rattle.numeral.specs.declared.Num.{Num}
-use Rattle.numeral.specs.declared.Took.{Took}
-use Rattle.numeral.specs.declared.Took.TheVariants as T
 use Rattle.sheet_fields.specs.declared.St.{St}
 use Rattle.sheet_form.specs.Front.{Keeping, keep_of}
 use Rattle.agree.specs.Fields.{onward as took_on, take_all, closing, number_field}
@@ -66,8 +64,8 @@ written_line (b ∷ l) key x s o t = go (eqb b 9) (fields_of l) (λ y. written_l
         ≡ close_w key t r.rest (closing digits (take_all digits y r.first)) (close_l s o))
         → line_v (took_p key s o t k) l
         ≡ close_w key t r.rest (closing digits (took_on k (λ y. take_all digits y r.first))) (close_l s o)
-    by r (T.Num y) h = h y
-    by r T.Bad h = nought_line l ∙ closed_none key t r.rest (close_l s o)
+    by r (Some y) h = h y
+    by r None h = nought_line l ∙ closed_none key t r.rest (close_l s o)
 
     go : (u : Bool) (r : Fields)
         → ((y : Num) → line_v (seen (written key y) s o t) l

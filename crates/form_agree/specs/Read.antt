@@ -8,8 +8,7 @@ use Rattle.definition.specs.Text.{◌>>=◌}
 use Rattle.definition.specs.JobSheet.{block, seg, Record, only, sheet_of, job_of_records}
 use Rattle.definition.specs.SheetForms.{is_second, behind_form, second_sheet, records_in, job_in, written_firsts, written_sets}
 use Rattle.sheet_fields.specs.Fields.{Fed}
-use Rattle.sheet.specs.declared.Answer.{Answer}
-use Rattle.sheet.specs.Machine.{open_of, answer_of}
+use Rattle.sheet.specs.Machine.{Answer, open_of, answer_of}
 use Rattle.sheet_form.specs.Front.{Keeping, Formed, run_form, open_form, second_of, finish_of}
 use Rattle.agree.specs.Words.{Bytes, none_some}
 use Rattle.agree.specs.Table.{Filled, fill, blank}

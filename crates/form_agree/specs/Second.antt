@@ -1,5 +1,5 @@
 -- The lines of a sheet of the second form are its records. Assumes nothing.
-use Rattle.std.specs.Prelude.{◌≡◌, Bool, length, take}
+use Rattle.std.specs.Prelude.{◌≡◌, Bool, not, length, take, Some, None}
 use Rattle.std.proofs.Math.Path.{refl, sym, ap}
 use Rattle.std.proofs.Common.{◌∙◌}
 use mathlib.Core.List.{List, [], ◌∷◌, ◌++◌}
@@ -13,7 +13,6 @@ use Rattle.definition.specs.JobSheet.{word_number, all_words, word_among, Form, 
 use Rattle.definition.specs.JobSheet.{read_record, Record, record_of, at}
 use Rattle.definition.specs.SheetForms.{read_second, second_record, second_records}
 use Rattle.sheet_rules.specs.Rules.{key_of, follows_of}
-use Rattle.sheet_fields.specs.declared.Next.TheVariants.{Go, Bad}
 use Rattle.sheet_fields.specs.Fields.{begin_of, start_of}
 use Rattle.sheet_form.specs.Front.{Keeping, keep_of}
 use Rattle.agree.specs.Words.{Bytes, spelled, word_of, record_word}
@@ -34,7 +33,7 @@ second_fields c fs = word_among all_words c >>= λ w. read_second w fs >>= λ ns
 -- the reader behind a record: what is kept of it, and the bare one in the table
 abbrev pub line_q : ℕ → Filled → Keeping → Option Record → Viewed
 line_q prev f t none = nought
-line_q prev f t (some r) = cond (eqb (follows_of prev (keyed r)) 0) nought
+line_q prev f t (some r) = cond (not (follows_of prev (keyed r))) nought
     (with_p word (keep_by r.word r.fields t) (placed (keyed r) (put f (bare r))))
 
 module _ (prev : ℕ) (f : Filled) (t : Keeping) where
@@ -44,7 +43,7 @@ module _ (prev : ℕ) (f : Filled) (t : Keeping) where
       → (m : Option (List ℕ))
       → with_p word t (line_p prev f (m >>= λ ns. some (rec w ns))) ≡ line_q prev f t (m >>= λ ns. some (rec w ns))
   plain_record w b k none = refl
-  plain_record w b k (some ns) = go (eqb (follows_of prev (word_number w)) 0)
+  plain_record w b k (some ns) = go (not (follows_of prev (word_number w)))
     where
       go : (u : Bool) → with_p word t (cond u gone (placed (word_number w) (put f (rec w ns))))
           ≡ cond u nought (with_p word (keep_by w ns t) (placed (word_number w) (put f (rec w (bare_fields w ns)))))
@@ -81,7 +80,7 @@ module _ (prev : ℕ) (f : Filled) (t : Keeping) where
     written_some : (ns : List ℕ) (v : ℕ) → length ns ≡ length ms
         → with_p word (keep_of (word_number w) v t) (line_p prev f (some (rec w ns)))
         ≡ line_q prev f t (some (rec w (ns ++ (v ∷ []))))
-    written_some ns v e = go (eqb (follows_of prev (word_number w)) 0)
+    written_some ns v e = go (not (follows_of prev (word_number w)))
       where
         kept : keep_of (word_number w) v t ≡ keep_by w (ns ++ (v ∷ [])) t
         kept = ap (λ (x : ℕ). keep_of (word_number w) x t) (sym (at_last ns v (length ms) e)) ∙ sym (kb (ns ++ (v ∷ [])))
@@ -158,7 +157,7 @@ module _ (prev : ℕ) (f : Filled) (t : Keeping) where
 
   -- ---- a line
 
-  refused_line_lem : (w : Word) (m : Option (List ℕ)) → eqb (follows_of prev (word_number w)) 0 ≡ true
+  refused_line_lem : (w : Word) (m : Option (List ℕ)) → not (follows_of prev (word_number w)) ≡ true
       → nought ≡ line_q prev f t (m >>= λ ns. some (rec w ns))
   refused_line_lem w none e = refl
   refused_line_lem w (some ns) e = rw e
@@ -217,14 +216,14 @@ module _ (prev : ℕ) (f : Filled) (t : Keeping) where
 
     -- what the reader holds behind the word
     behind : ℕ → Bool → Seen
-    behind k u = view_n (cond u Bad (Go (started prev f k))) f.out
+    behind k u = view_n (cond u None (Some (started prev f k))) f.out
 
     by_start : (k : ℕ) (u : Bool) → field_s (placed prev f) c ≡ behind k u → (w : Word) → k ≡ word_number w
-        → word_among all_words c ≡ some w → eqb (follows_of prev k) 0 ≡ u
+        → word_among all_words c ≡ some w → not (follows_of prev k) ≡ u
         → next_s t (field_s (placed prev f) c) y g gs ≡ line_q prev f t (read_second w (g ∷ gs) >>= λ ns. some (rec w ns))
     unfolding behind begun started
     by_start k true d w i e q = ap (λ x. next_s t x y g gs) d
-        ∙ refused_line_lem w (read_second w (g ∷ gs)) (ap (λ (j : ℕ). eqb (follows_of prev j) 0) (sym i) ∙ q)
+        ∙ refused_line_lem w (read_second w (g ∷ gs)) (ap (λ (j : ℕ). not (follows_of prev j)) (sym i) ∙ q)
     by_start k false d w i e q =
         ap (λ x. next_s t x y g gs) d
         ∙ ap (λ x. cond (eqb k 4) (cut_s 4 t x g (last_of 1 gs))
@@ -233,12 +232,12 @@ module _ (prev : ℕ) (f : Filled) (t : Keeping) where
         ∙ by_word w e
 
     by_name : (k : ℕ) (m : Option Word) → Named? k m → word_among all_words c ≡ m
-        → field_s (placed prev f) c ≡ behind k (eqb (follows_of prev k) 0)
+        → field_s (placed prev f) c ≡ behind k (not (follows_of prev k))
         → next_s t (field_s (placed prev f) c) y g gs
         ≡ line_q prev f t (m >>= λ w. read_second w (g ∷ gs) >>= λ ns. some (rec w ns))
     unfolding behind
     by_name k none n e d = ap (λ x. next_s t x y g gs) (d ∙ ap (λ (u : Bool). behind k u) (no_follower prev k n))
-    by_name k (some w) n e d = by_start k (eqb (follows_of prev k) 0) d w n e refl
+    by_name k (some w) n e d = by_start k (not (follows_of prev k)) d w n e refl
 
     by_fields : (m : Option ℕ) → spelled c ≡ m
         → next_s t (field_s (placed prev f) c) y g gs ≡ line_q prev f t (second_fields c (g ∷ gs))
@@ -294,12 +293,12 @@ lines_second (l ∷ ls) b prev f t =
     ap (λ x. lines_v x ls) (second_line prev f t l b.0)
     ∙ go (second_record l) (λ r. lines_second ls b.1 (keyed r) (put f (bare r)) (keep_by r.word r.fields t))
   where
-    refuse : (m : Option (List Record)) (r : Record) → eqb (follows_of prev (keyed r)) 0 ≡ true
+    refuse : (m : Option (List Record)) (r : Record) → not (follows_of prev (keyed r)) ≡ true
         → nought ≡ sheet_q prev f t (m >>= λ rs. some (r ∷ rs))
     refuse none r e = refl
     refuse (some rs) r e = rw e
 
-    admit : (m : Option (List Record)) (r : Record) → eqb (follows_of prev (keyed r)) 0 ≡ false
+    admit : (m : Option (List Record)) (r : Record) → not (follows_of prev (keyed r)) ≡ false
         → sheet_q (keyed r) (put f (bare r)) (keep_by r.word r.fields t) m
         ≡ sheet_q prev f t (m >>= λ rs. some (r ∷ rs))
     admit none r e = refl
@@ -307,7 +306,7 @@ lines_second (l ∷ ls) b prev f t =
 
     by : (r : Record) → lines_v (with_p word (keep_by r.word r.fields t) (placed (keyed r) (put f (bare r)))) ls
         ≡ sheet_q (keyed r) (put f (bare r)) (keep_by r.word r.fields t) (second_records ls)
-        → (u : Bool) → eqb (follows_of prev (keyed r)) 0 ≡ u
+        → (u : Bool) → not (follows_of prev (keyed r)) ≡ u
         → lines_v (cond u nought (with_p word (keep_by r.word r.fields t) (placed (keyed r) (put f (bare r))))) ls
         ≡ sheet_q prev f t (second_records ls >>= λ rs. some (r ∷ rs))
     by r ih true e = nought_lines ls ∙ refuse (second_records ls) r e
@@ -318,4 +317,4 @@ lines_second (l ∷ ls) b prev f t =
         ≡ sheet_q (keyed r) (put f (bare r)) (keep_by r.word r.fields t) (second_records ls))
         → lines_v (line_q prev f t m) ls ≡ sheet_q prev f t (m >>= λ r. second_records ls >>= λ rs. some (r ∷ rs))
     go none ih = nought_lines ls
-    go (some r) ih = by r (ih r) (eqb (follows_of prev (keyed r)) 0) refl
+    go (some r) ih = by r (ih r) (not (follows_of prev (keyed r))) refl

@@ -1,5 +1,5 @@
 -- The machine, on the bytes of a sheet of either form, gives what the definition gives. Assumes nothing.
-use Rattle.std.specs.Prelude.{◌≡◌, refl, List, [], ◌∷◌, Bool, true, false, cond, ◌&&◌, ℕ, zero, suc, ◌+◌, ◌≤◌, length, get_or, take, drop, set, replicate, ltb, eqb}
+use Rattle.std.specs.Prelude.{◌≡◌, refl, List, [], ◌∷◌, Bool, true, false, cond, ◌&&◌, ℕ, zero, suc, ◌+◌, ◌≤◌, length, get_or, take, drop, set, replicate, ltb, eqb, Some, None}
 use Rattle.std.proofs.Common.{sym, ap, subst, ◌∙◌, arith, length-set, drop-drop, eqb-true, eq-eqb, ne_eqb, lt-ltb, le-ltb}
 use Rattle.std.proofs.lemmas.Bool.{false≢true, eqb-false}
 use Rattle.std.proofs.Math.Option.{Option, none, some}
@@ -11,9 +11,7 @@ use Rattle.numeral.specs.Bytes.{num, closed_of}
 use Rattle.sheet_rules.specs.Rules.{form_at, low_of, more_after}
 use Rattle.sheet_places.specs.Places.{limit_of, count_at, place_of, tail_at, tail_of}
 use Rattle.sheet_fields.specs.declared.St.{St}
-use Rattle.sheet_fields.specs.declared.Next.{Next}
-use Rattle.sheet_fields.specs.declared.Next.TheVariants.{Go, Bad}
-use Rattle.sheet_fields.specs.Fields.{Fed, fed, begin_of, start_of, next_of, byte_of, end_field, close_record}
+use Rattle.sheet_fields.specs.Fields.{Next, Fed, fed, begin_of, start_of, next_of, byte_of, end_field, close_record}
 use Rattle.sheet.specs.Machine.{on_field, end_line, step_of, on_next, push_of, run_of, open_of, answer_of}
 use Rattle.sheet_form.specs.declared.Front.{Front}
 use Rattle.sheet_form.specs.declared.Front.TheVariants.{Opening, First, Word, Plain, Before, Written}
@@ -76,23 +74,23 @@ ends_view First g t e = absurd (false≢true e)
 ends_view Word g t e = go g.next
   where
     go : (r : Next) → with_kept t (outcome (answer_of r) g.out) ≡ ans_v (with_p word t (view_n r g.out))
-    go (Go s) = refl
-    go Bad = refl
+    go (Some s) = refl
+    go None = refl
 ends_view Plain g t e = go g.next
   where
     go : (r : Next) → none ≡ ans_v (view_p Plain (fed r g.out) t)
-    go (Go s) = refl
-    go Bad = refl
+    go (Some s) = refl
+    go None = refl
 ends_view (Before key left) g t e = go g.next
   where
     go : (r : Next) → none ≡ ans_v (view_p (Before key left) (fed r g.out) t)
-    go (Go s) = refl
-    go Bad = refl
+    go (Some s) = refl
+    go None = refl
 ends_view (Written key x) g t e = go g.next
   where
     go : (r : Next) → none ≡ ans_v (view_p (Written key x) (fed r g.out) t)
-    go (Go s) = refl
-    go Bad = refl
+    go (Some s) = refl
+    go None = refl
 
 -- the state behind the form line
 abbrev pub second_start : ℕ → Keeping → Formed
@@ -114,7 +112,7 @@ long_field s o = go (closed_of (form_at s.key s.kind s.n) (num s.value s.len)) (
   where
     go : (u v : Bool) → length
         (cond u (cond v (fed (start_of s o) o)
-        (fed (Go (next_of s)) (set o (place_of s.key s.row s.n) (low_of s.value)))) (fed Bad o)).out
+        (fed (Some (next_of s)) (set o (place_of s.key s.row s.n) (low_of s.value)))) (fed None o)).out
         ≡ length o
     go true true = refl
     go true false = length-set o (place_of s.key s.row s.n) (low_of s.value)
@@ -122,7 +120,7 @@ long_field s o = go (closed_of (form_at s.key s.kind s.n) (num s.value s.len)) (
 
 long_record : (t : St) (o : List ℕ) → length (close_record t o).out ≡ length o
 unfolding close_record
-long_record t o = go (eqb (more_after t.key t.kind t.n) 1)
+long_record t o = go (more_after t.key t.kind t.n)
     (ltb (get_or o (count_at t.key) 0) (limit_of t.key))
   where
     o₁ : List ℕ
@@ -132,9 +130,9 @@ long_record t o = go (eqb (more_after t.key t.kind t.n) 1)
     l₁ = length-set o (tail_at t.key t.row) (tail_of t.key t.n (get_or o 9 0))
 
     go : (u v : Bool) → length
-        (cond u (fed Bad o) (cond v
-        (fed (Go (begin_of t.key t.over)) (set o₁ (count_at t.key) (get_or o (count_at t.key) 0 + 1)))
-        (fed (Go (begin_of t.key true)) o₁))).out ≡ length o
+        (cond u (fed None o) (cond v
+        (fed (Some (begin_of t.key t.over)) (set o₁ (count_at t.key) (get_or o (count_at t.key) 0 + 1)))
+        (fed (Some (begin_of t.key true)) o₁))).out ≡ length o
     go true v = refl
     go false true = length-set o₁ (count_at t.key) (get_or o (count_at t.key) 0 + 1) ∙ l₁
     go false false = l₁
@@ -144,8 +142,8 @@ unfolding end_line
 long_line s o = go (end_field s o).next (end_field s o).out ∙ long_field s o
   where
     go : (r : Next) (p : List ℕ) → length (on_field r p).out ≡ length p
-    go (Go t) p = long_record t p
-    go Bad p = refl
+    go (Some t) p = long_record t p
+    go None p = refl
 
 long_push : (g : Fed) (b : ℕ) → length (push_of g b).out ≡ length g.out
 unfolding push_of step_of
@@ -159,8 +157,8 @@ long_push g b = go g.next
     by s false false = refl
 
     go : (r : Next) → length (on_next r b g.out).out ≡ length g.out
-    go (Go s) = by s (eqb b 10) (eqb b 9)
-    go Bad = refl
+    go (Some s) = by s (eqb b 10) (eqb b 9)
+    go None = refl
 
 -- ---- the form line
 

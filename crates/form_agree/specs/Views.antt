@@ -1,5 +1,5 @@
 -- The machine's bytes in the second form, cut into lines. Assumes nothing.
-use Rattle.std.specs.Prelude.{◌≡◌, List, [], ◌∷◌, ℕ, ◌-◌, ltb}
+use Rattle.std.specs.Prelude.{◌≡◌, List, [], ◌∷◌, ℕ, ◌-◌, ltb, Some, None}
 use Rattle.std.proofs.Math.Path.{refl, sym, ap}
 use Rattle.std.proofs.Common.{◌∙◌, subst, arith, eqb-true}
 use Rattle.std.proofs.Math.Bool.{Bool, true, false, cond}
@@ -7,16 +7,12 @@ use Rattle.std.proofs.lemmas.Bool.{false≢true}
 use Rattle.std.proofs.Math.Option.{Option, none, some}
 use Rattle.std.proofs.Math.Dec.{eqb}
 use Rattle.definition.specs.Text.{lines_of, end_line as line_ended, onto_line}
-use Rattle.numeral.specs.Bytes.{num, take_byte, closed_of}
+use Rattle.numeral.specs.Bytes.{num, take_byte, closed_of, Took}
 use Rattle.numeral.specs.declared.Form.{Form}
 use Rattle.numeral.specs.declared.Form.TheVariants.{Number}
 use Rattle.numeral.specs.declared.Num.{Num}
-use Rattle.numeral.specs.declared.Took.{Took}
-use Rattle.numeral.specs.declared.Took.TheVariants as T
 use Rattle.sheet_fields.specs.declared.St.{St}
-use Rattle.sheet_fields.specs.declared.Next.{Next}
-use Rattle.sheet_fields.specs.declared.Next.TheVariants.{Go, Bad}
-use Rattle.sheet_fields.specs.Fields.{Fed, fed}
+use Rattle.sheet_fields.specs.Fields.{Next, Fed, fed}
 use Rattle.sheet.specs.Machine.{step_of, push_of, answer_of}
 use Rattle.sheet_form.specs.declared.Front.{Front}
 use Rattle.sheet_form.specs.declared.Front.TheVariants.{Opening, First, Word, Plain, Before, Written}
@@ -70,8 +66,8 @@ after_p t gone = nought
 after_p t (at s o) = seen (place_after s.key) s o t
 
 abbrev pub took_p : ℕ → St → List ℕ → Keeping → Took → Viewed
-took_p key s o t (T.Num y) = seen (written key y) s o t
-took_p key s o t T.Bad = nought
+took_p key s o t (Some y) = seen (written key y) s o t
+took_p key s o t None = nought
 
 abbrev pub in_line : ℕ → Place → St → List ℕ → Keeping → Viewed
 in_line b word s o t = cond (eqb b 9) (after_p t (close_f s o)) (with_p word t (step_b b s o))
@@ -116,15 +112,15 @@ module _ (t : Keeping) (b : ℕ) where
   after_view h = go h.next
     where
       by : (s : St) (u v : Bool)
-          → view_p (cond u (Before 4 2) (cond v (Before 9 4) Plain)) (fed (Go s) h.out) t
+          → view_p (cond u (Before 4 2) (cond v (Before 9 4) Plain)) (fed (Some s) h.out) t
           ≡ seen (cond u (before 4 2) (cond v (before 9 4) plain)) s h.out t
       by s true v = refl
       by s false true = refl
       by s false false = refl
 
       go : (n : Next) → view_p (front_after n) (fed n h.out) t ≡ after_p t (view_n n h.out)
-      go (Go s) = by s (eqb s.key 4) (eqb s.key 9)
-      go Bad = refl
+      go (Some s) = by s (eqb s.key 4) (eqb s.key 9)
+      go None = refl
 
   push_word : (g : Fed) → view_f (by_front Word g t b) ≡ on_v (view_p Word g t) (push_p b)
   unfolding in_word push_of
@@ -139,13 +135,13 @@ module _ (t : Keeping) (b : ℕ) where
       by s false true e f = after_view (step_of s b g.out) ∙ ap (after_p t) (step_is s b g.out false true e f)
       by s false false e f = ap (with_p word t) (step_is s b g.out false false e f)
 
-      none_left : (v : Bool) → view_p (cond v (front_after Bad) Word) (fed Bad g.out) t ≡ nought
+      none_left : (v : Bool) → view_p (cond v (front_after None) Word) (fed None g.out) t ≡ nought
       none_left true = refl
       none_left false = refl
 
       go : (n : Next) → view_f (by_front Word (fed n g.out) t b) ≡ on_v (view_p Word (fed n g.out) t) (push_p b)
-      go (Go s) = by s (eqb b 10) (eqb b 9) refl refl
-      go Bad = none_left (eqb b 9)
+      go (Some s) = by s (eqb b 10) (eqb b 9) refl refl
+      go None = none_left (eqb b 9)
 
   push_plain : (g : Fed) → view_f (by_front Plain g t b) ≡ on_v (view_p Plain g t) (push_p b)
   unfolding in_plain push_of
@@ -157,13 +153,13 @@ module _ (t : Keeping) (b : ℕ) where
       by s true v e f = ap (with_p word t) (step_is s b g.out true v e f)
       by s false v e f = ap (with_p plain t) (step_is s b g.out false v e f ∙ sym (in_is s b g.out v f))
 
-      none_left : (u : Bool) → view_p (cond u Word Plain) (fed Bad g.out) t ≡ nought
+      none_left : (u : Bool) → view_p (cond u Word Plain) (fed None g.out) t ≡ nought
       none_left true = refl
       none_left false = refl
 
       go : (n : Next) → view_f (by_front Plain (fed n g.out) t b) ≡ on_v (view_p Plain (fed n g.out) t) (push_p b)
-      go (Go s) = by s (eqb b 10) (eqb b 9) refl refl
-      go Bad = none_left (eqb b 10)
+      go (Some s) = by s (eqb b 10) (eqb b 9) refl refl
+      go None = none_left (eqb b 10)
 
   push_before : (key left : ℕ) (g : Fed)
       → view_f (by_front (Before key left) g t b) ≡ on_v (view_p (Before key left) g t) (push_p b)
@@ -177,8 +173,8 @@ module _ (t : Keeping) (b : ℕ) where
           (stands (Before key left) h))) t)
 
       by : (s : St) (u v w : Bool) → eqb b 10 ≡ u → eqb b 9 ≡ v
-          → view_f (onward (cond u (lost (Before key left) (fed (Go s) g.out))
-          (cond v (cond w (stands (Written key (num 0 0)) (fed (Go s) g.out))
+          → view_f (onward (cond u (lost (Before key left) (fed (Some s) g.out))
+          (cond v (cond w (stands (Written key (num 0 0)) (fed (Some s) g.out))
           (stands (Before key (left - 1)) (step_of s b g.out)))
           (stands (Before key left) (step_of s b g.out)))) t)
           ≡ cond u nought (cond v
@@ -189,7 +185,7 @@ module _ (t : Keeping) (b : ℕ) where
       by s false true false e f = ap (with_p (before key (left - 1)) t) (step_is s b g.out false true e f)
       by s false false w e f = ap (with_p (before key left) t) (step_is s b g.out false false e f)
 
-      none_left : (u v w : Bool) → shut (fed Bad g.out) u v w ≡ nought
+      none_left : (u v w : Bool) → shut (fed None g.out) u v w ≡ nought
       none_left true v w = refl
       none_left false true true = refl
       none_left false true false = refl
@@ -197,8 +193,8 @@ module _ (t : Keeping) (b : ℕ) where
 
       go : (n : Next) → view_f (by_front (Before key left) (fed n g.out) t b)
           ≡ on_v (view_p (Before key left) (fed n g.out) t) (push_p b)
-      go (Go s) = by s (eqb b 10) (eqb b 9) (ltb left 2) refl refl
-      go Bad = none_left (eqb b 10) (eqb b 9) (ltb left 2)
+      go (Some s) = by s (eqb b 10) (eqb b 9) (ltb left 2) refl refl
+      go None = none_left (eqb b 10) (eqb b 9) (ltb left 2)
 
   push_written : (key : ℕ) (x : Num) (g : Fed)
       → view_f (by_front (Written key x) g t b) ≡ on_v (view_p (Written key x) g t) (push_p b)
@@ -209,28 +205,28 @@ module _ (t : Keeping) (b : ℕ) where
       put n u v w k =
           view_f (cond u (onward (cond w (stands Word (push_of (fed n g.out) 10)) (lost Word (fed n g.out)))
           (keep_of key x.value t))
-          (onward (stood (cond v (standing (Written key x) Bad) (on_digit key x n k)) g.out) t))
+          (onward (stood (cond v (standing (Written key x) None) (on_digit key x n k)) g.out) t))
 
-      by : (s : St) (u v w : Bool) (k : Took) → put (Go s) u v w k
+      by : (s : St) (u v w : Bool) (k : Took) → put (Some s) u v w k
           ≡ cond u (cond w (with_p word (keep_of key x.value t) (close_l s g.out)) nought)
           (cond v nought (took_p key s g.out t k))
       by s true v true k = ap (with_p word (keep_of key x.value t)) (step_is s 10 g.out true false refl refl)
       by s true v false k = refl
       by s false true w k = refl
-      by s false false w (T.Num y) = refl
-      by s false false w T.Bad = refl
+      by s false false w (Some y) = refl
+      by s false false w None = refl
 
-      none_left : (u v w : Bool) (k : Took) → put Bad u v w k ≡ nought
+      none_left : (u v w : Bool) (k : Took) → put None u v w k ≡ nought
       none_left true v true k = refl
       none_left true v false k = refl
       none_left false true w k = refl
-      none_left false false w (T.Num y) = refl
-      none_left false false w T.Bad = refl
+      none_left false false w (Some y) = refl
+      none_left false false w None = refl
 
       go : (n : Next) → view_f (by_front (Written key x) (fed n g.out) t b)
           ≡ on_v (view_p (Written key x) (fed n g.out) t) (push_p b)
-      go (Go s) = by s (eqb b 10) (eqb b 9) (closed_of digits x) (take_byte digits x b)
-      go Bad = none_left (eqb b 10) (eqb b 9) (closed_of digits x) (take_byte digits x b)
+      go (Some s) = by s (eqb b 10) (eqb b 9) (closed_of digits x) (take_byte digits x b)
+      go None = none_left (eqb b 10) (eqb b 9) (closed_of digits x) (take_byte digits x b)
 
   view_push : (m : Front) → second_of m ≡ true → (g : Fed) → view_f (by_front m g t b) ≡ on_v (view_p m g t) (push_p b)
   unfolding second_of
@@ -254,8 +250,8 @@ stays Word g t b e = go (eqb b 9) (push_of g b).next
     by false false = refl
 
     go : (u : Bool) (n : Next) → second_of (cond u (front_after n) Word) ≡ true
-    go true (Go s) = by (eqb s.key 4) (eqb s.key 9)
-    go true Bad = refl
+    go true (Some s) = by (eqb s.key 4) (eqb s.key 9)
+    go true None = refl
     go false n = refl
 stays Plain g t b e = go (eqb b 10)
   where
@@ -276,13 +272,13 @@ stays (Written key x) g t b e = go (eqb b 10) (eqb b 9) (closed_of digits x) (ta
   where
     go : (u v w : Bool) (k : Took)
         → second_of (cond u (onward (cond w (stands Word (push_of g 10)) (lost Word g)) (keep_of key x.value t))
-        (onward (stood (cond v (standing (Written key x) Bad) (on_digit key x g.next k)) g.out) t)).at.front
+        (onward (stood (cond v (standing (Written key x) None) (on_digit key x g.next k)) g.out) t)).at.front
         ≡ true
     go true v true k = refl
     go true v false k = refl
     go false true w k = refl
-    go false false w (T.Num y) = refl
-    go false false w T.Bad = refl
+    go false false w (Some y) = refl
+    go false false w None = refl
 
 pub second_stays : (f : Formed) (bs : List ℕ) → second_of f.at.front ≡ true
     → second_of (run_form f bs).at.front ≡ true
@@ -327,7 +323,7 @@ front_of (written key x) = Written key x
 
 abbrev pub ans_v : Viewed → Option Ended
 ans_v nought = none
-ans_v (seen p s o t) = with_kept t (outcome (finish_of (front_of p) (Go s)) o)
+ans_v (seen p s o t) = with_kept t (outcome (finish_of (front_of p) (Some s)) o)
 
 pub ans_word : (t : Keeping) (y : Seen) → ans_v (with_p word t y) ≡ with_kept t (ans_s y)
 unfolding finish_of answer_of
@@ -374,8 +370,8 @@ inside (seen (written key x) s o t) b = go (eqb b 9) (take_byte digits x b)
   where
     go : (u : Bool) (k : Took) → ans_v (cond u nought (took_p key s o t k)) ≡ none
     go true k = refl
-    go false (T.Num y) = refl
-    go false T.Bad = refl
+    go false (Some y) = refl
+    go false None = refl
 
 -- the bytes of a sheet are its lines; without a line feed at their end there is no sheet
 abbrev pub CutV : Option (List (List ℕ)) → Viewed → List ℕ → Type 0

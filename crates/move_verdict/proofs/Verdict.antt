@@ -1,74 +1,67 @@
--- The number of the answer to a sheet that was read. Assumes nothing.
+-- The verdict on a sheet that was read. Assumes nothing.
 use mathlib.Core.Path.{◌≡◌, refl, sym, ap, ◌∙◌}
-use mathlib.Core.Bool.{Bool, true, false, not, cond, false≢true}
+use mathlib.Core.Bool.{Bool, true, false, cond, false≢true}
 use mathlib.Core.Option.{Option, none, some}
 use mathlib.Core.List.{List}
+use Rattle.std.specs.Prelude.{Result, Ok, Err, is_ok, IsOk}
 use Prim.Native.Nat.{ℕ}
-use native.Mathlib.Omega.{arith}
 use Rattle.words.specs.Words.{word_count, words_of}
 use Rattle.definition.specs.declared.SheetRefusal.{SheetRefusal}
-use Rattle.definition.specs.declared.SheetRefusal.TheVariants.{By, WrittenDiffers}
+use Rattle.definition.specs.declared.SheetRefusal.TheVariants.{By}
 use Rattle.definition.specs.declared.Refusal.TheVariants.{NotARecord}
 use Rattle.definition.specs.JobSheet.{Record}
-use Rattle.definition.specs.SheetForms.{is_second, records_in, tests_of, verdict, verdict_of, refused', sheet_number_of}
+use Rattle.definition.specs.SheetForms.{is_second, records_in, tests_of, verdict, verdict_of, refused'}
 use Rattle.definition.specs.Conversion.{already, moved_unless, moved_for, move_to, sheet_text, moved_records}
-use Rattle.definition.proofs.Forms.{not_zero}
 use Rattle.entry.specs.declared.Entered.{Entered}
+use Rattle.entry.specs.Number.{refusal_in}
 use Rattle.sheet_places.specs.Places.{table_words}
 use Rattle.sheet_form.specs.declared.Reading.{Reading}
 use Rattle.sheet_form.specs.Front.{Formed, second_of}
 use Rattle.form_agree.specs.Read.{forms_front}
 use Rattle.sheet_verdict.specs.Leads.{table_read}
-use Rattle.sheet_verdict.specs.Judged.{verdict_number, LeadsTo, Judged}
+use Rattle.sheet_verdict.specs.Judged.{LeadsTo, Judged}
 use Rattle.job_pages.specs.Starts.{moves}
-use Rattle.move_verdict.specs.Settled.{moved_number, Settles}
+use Rattle.move_verdict.specs.Settled.{moved_verdict, Settles}
 
--- ---- the form that is asked for
+-- ---- the definition's verdict
 
-pub already_second : (second b f : Bool) → b ≡ f → second ≡ true → b ≡ already second f
-already_second second b f e t = e ∙ ap (λ (x : Bool). already x f) (sym t)
+-- as the verdict of an answer
+abbrev ended : Option SheetRefusal → Result Unit SheetRefusal
+ended none = Ok tt
+ended (some r) = Err r
 
-pub already_first : (second b f : Bool) → b ≡ f → second ≡ false → not b ≡ already second f
-already_first second b f e t = ap not e ∙ ap (λ (x : Bool). already x f) (sym t)
-
--- ---- the definition's number
-
-refused_not_zero : (r : SheetRefusal) → sheet_number_of r ≡ 0 → ⊥
-refused_not_zero (By r) e = not_zero r e
-refused_not_zero WrittenDiffers e = omega (arith, e)
-
--- no number is none
-none_by : (o : Option SheetRefusal) → verdict_number o ≡ 0 → o ≡ none
+-- no refusal is none
+none_by : (o : Option SheetRefusal) → IsOk (ended o) → o ≡ none
 none_by none e = refl
-none_by (some r) e = absurd (refused_not_zero r e)
+none_by (some r) e = absurd (false≢true e)
 
-unless_number : (o : Option SheetRefusal) (t : List ℕ) → verdict_number o ≡ moved_number (moved_unless o t)
-unless_number none t = refl
-unless_number (some r) t = refl
+unless_verdict : (o : Option SheetRefusal) (t : List ℕ) → ended o ≡ moved_verdict (moved_unless o t)
+unless_verdict none t = refl
+unless_verdict (some r) t = refl
 
--- in the other form than the one that is asked for, the verdict's
-for_number : (asked second : Bool) (m : Option (List Record)) → already asked second ≡ false
-    → verdict_number (verdict_of second m) ≡ moved_number (moved_for asked m)
-for_number true true m e = absurd (false≢true (sym e))
-for_number true false none e = refl
-for_number true false (some rs) e = unless_number (tests_of false rs) (sheet_text true (moved_records true rs))
-for_number false true none e = refl
-for_number false true (some rs) e = unless_number (tests_of true rs) (sheet_text false (moved_records false rs))
-for_number false false m e = absurd (false≢true (sym e))
+-- in the other form than the one that is asked for, the definition's
+for_verdict : (asked second : Bool) (m : Option (List Record)) → already asked second ≡ false
+    → ended (verdict_of second m) ≡ moved_verdict (moved_for asked m)
+for_verdict true true m e = absurd (false≢true (sym e))
+for_verdict true false none e = refl
+for_verdict true false (some rs) e = unless_verdict (tests_of false rs) (sheet_text true (moved_records true rs))
+for_verdict false true none e = refl
+for_verdict false true (some rs) e = unless_verdict (tests_of true rs) (sheet_text false (moved_records false rs))
+for_verdict false false m e = absurd (false≢true (sym e))
 
-other_number : (asked : Bool) (sheet : List ℕ) → already asked (is_second sheet) ≡ false
-    → verdict_number (verdict sheet) ≡ moved_number (move_to asked sheet)
+other_verdict : (asked : Bool) (sheet : List ℕ) → already asked (is_second sheet) ≡ false
+    → ended (verdict sheet) ≡ moved_verdict (move_to asked sheet)
 unfolding verdict move_to
-other_number asked sheet e =
-    for_number asked (is_second sheet) (records_in sheet) e
-    ∙ ap (λ (b : Bool). moved_number (cond b (refused' (By NotARecord)) (moved_for asked (records_in sheet)))) (sym e)
+other_verdict asked sheet e =
+    for_verdict asked (is_second sheet) (records_in sheet) e
+    ∙ ap (λ (b : Bool). moved_verdict (cond b (refused' (By NotARecord)) (moved_for asked (records_in sheet)))) (sym e)
 
--- and in that form 1
-same_number : (asked : Bool) (sheet : List ℕ) → already asked (is_second sheet) ≡ true
-    → 1 ≡ moved_number (move_to asked sheet)
+-- and in that form no record's
+same_verdict : (asked : Bool) (sheet : List ℕ) → already asked (is_second sheet) ≡ true
+    → Err (By NotARecord) ≡ moved_verdict (move_to asked sheet)
 unfolding move_to
-same_number asked sheet e =
-    ap (λ (b : Bool). moved_number (cond b (refused' (By NotARecord)) (moved_for asked (records_in sheet)))) (sym e)
+same_verdict asked sheet e =
+    ap (λ (b : Bool). moved_verdict (cond b (refused' (By NotARecord)) (moved_for asked (records_in sheet)))) (sym e)
 
 -- ---- the sheets that lead here
 
@@ -80,20 +73,22 @@ module _ (second : Bool) (cur : Reading) (b : Bool) (i : b ≡ already second (s
       (ap (λ (f : Formed). second_of f.at.front) s.is ∙ forms_front table_words 1536 sheet s.bytes)
 
   -- they have the form that is asked for
-  pub settled_one : (W Y : List ℕ) → b ≡ true → Settles second cur W Y 1
-  settled_one W Y e = λ sheet s. record {
-    number = same_number second sheet (sym (front sheet W Y s) ∙ e);
-    moves = λ z. absurd (omega (arith, z));
+  pub settled_same : (W Y : List ℕ) → b ≡ true → Settles second cur W Y (Err (By NotARecord))
+  settled_same W Y e = λ sheet s. record {
+    verdict = same_verdict second sheet (sym (front sheet W Y s) ∙ e);
+    moves = λ z. absurd (false≢true z);
   }
 
-  -- they have the other one
-  pub settled_judged : (T U K : List ℕ) (e : Entered) → word_count T ≡ table_words → word_count U ≡ 1536
-      → Judged cur T (words_of U) K e → b ≡ false → Settles second cur (words_of T) (words_of U) e.number
-  settled_judged T U K e l k j f = λ sheet s.
+  -- they have the other one: the verdict is the definition's
+  pub settled_judged : (T U K : List ℕ) (r : Result Entered SheetRefusal) (v : Result Unit SheetRefusal) → word_count T ≡ table_words → word_count U ≡ 1536
+      → Judged cur T (words_of U) K r → v ≡ ended (refusal_in r) → b ≡ false
+      → Settles second cur (words_of T) (words_of U) v
+  settled_judged T U K r v l k j q f = λ sheet s.
       let a : already second (is_second sheet) ≡ false = sym (front sheet (words_of T) (words_of U) s) ∙ f in
+      let d : v ≡ ended (verdict sheet) = q ∙ ap (λ (o : Option SheetRefusal). ended o) (j.refused sheet s) in
       record {
-        number = j.number sheet s ∙ other_number second sheet a;
+        verdict = d ∙ other_verdict second sheet a;
         moves = λ z.
-            let p : verdict sheet ≡ none = none_by (verdict sheet) (sym (j.number sheet s) ∙ z) in
+            let p : verdict sheet ≡ none = none_by (verdict sheet) (ap (λ (w : Result Unit SheetRefusal). is_ok w) (sym d) ∙ z) in
             moves second sheet (words_of T) (table_read sheet cur T U l k s p) p a;
       }

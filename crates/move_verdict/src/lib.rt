@@ -1,4 +1,4 @@
-// The verdict on a job sheet that was read and is to be moved to a form: 1 where it has that form already, else the number of its tests, or none.
+// The verdict on a job sheet that was read and is to be moved to a form: no record's refusal where it has that form already, else that of its tests, or none.
 #![tactic(auto)]
 
 ghost use Rattle.std.specs.Prelude.{◌≡◌, ◌≤◌};
@@ -10,24 +10,30 @@ ghost use Rattle.sheet_form.specs.Front.{formed, open_form, second_of};
 ghost use Rattle.sheet_form.specs.Stream.{Streamed};
 ghost use Rattle.move_verdict.specs.Settled.{Settles};
 
+use definition::{Refusal, SheetRefusal};
 use sheet_form::Reading;
 
 // Whether the sheet that was read has the form that is asked for, the second or the first.
 fn is_already(second: bool, cur: Reading) -> bool
     ensures { result ≡ already second (second_of cur.front) }
 {
-    let is = sheet_form::is_second(cur);
-    if second { is } else { !is }
+    second == sheet_form::is_second(cur)
 }
 
-// The number of the answer to every sheet that leads the reader to this state and these tables; 0 where it is to be written. A sheet in the form that is asked for gets 1 before any test.
-pub fn verdict_on(second: bool, cur: Reading, table: &[u8], written: &[u8], work: &mut [u8]) -> u32
+// The refusal of every sheet that leads the reader to this state and these tables, or none where it is to be written. A sheet in the form that is asked for is refused with 1 before any test.
+pub fn verdict_on(
+    second: bool,
+    cur: Reading,
+    table: &[u8],
+    written: &[u8],
+    work: &mut [u8],
+) -> Result<(), SheetRefusal>
     requires { Streamed (open_form table_words 1536) (formed cur (words_of table.now) (words_of written.now)) × (word_count table.now ≡ table_words) × (word_count written.now ≡ 1536) × (max_work ≤ word_count work.old) }
     ensures { Settles second cur (words_of table.now) (words_of written.now) result }
 {
     if is_already(second, cur) {
-        return 1;
+        return Err(SheetRefusal::By(Refusal::NotARecord));
     }
-    let e = sheet_verdict::judge(cur, table, written, work);
-    e.number
+    sheet_verdict::judge(cur, table, written, work)?;
+    Ok(())
 }

@@ -21,102 +21,64 @@ pub struct Num {
     pub len: u64,
 }
 
-#[derive(Clone, Copy)]
-pub enum Took {
-    Num(Num),
-    Bad,
-}
-
-fn wide(b: u8) -> u64
-    ensures { (result ≡ b) × (result < 256) }
-{
-    b as u64
-}
-
-// The digit that a byte is, to 15; 16 for none.
+// The digit that a byte is, to 15; 16 for none, and no Option: as the definition has it, 16 is a digit of no base.
+#[tactic(auto, unfolding(definition::specs::Text::digit_of))]
 pub fn digit(b: u8) -> u64
     ensures { result ≡ digit_of b }
 {
-    let x = wide(b);
-    if x < 48 {
-        return 16;
+    match b {
+        b'0'..=b'9' => u64::from(b - b'0'),
+        b'a'..=b'f' => u64::from(b - b'a' + 10),
+        _ => 16,
     }
-    if x < 58 {
-        return x - 48;
-    }
-    if x < 97 {
-        return 16;
-    }
-    if x < 103 {
-        return x - 87;
-    }
-    16
 }
 
-fn number_byte(most: u64, x: Num, b: u8) -> Took
+#[tactic(auto, unfolding(crate::specs::Bytes::number_byte))]
+fn number_byte(most: u64, x: Num, b: u8) -> Option<Num>
     ensures { result ≡ number_byte most x b }
 {
     let d = digit(b);
-    if 9 < d {
-        return Took::Bad;
+    if 9 < d || u64::from(u32::MAX) < x.value || x.value < x.len {
+        return None;
     }
-    if 4294967295 < x.value {
-        return Took::Bad;
-    }
-    if x.value < x.len {
-        return Took::Bad;
-    }
-    let v = x.value * 10 + d;
-    if most < v {
-        return Took::Bad;
-    }
-    Took::Num(Num { value: v, len: 1 })
+    let value = x.value * 10 + d;
+    (value <= most).then_some(Num { value, len: 1 })
 }
 
-fn mask_byte(x: Num, b: u8) -> Took
+#[tactic(auto, unfolding(crate::specs::Bytes::mask_byte))]
+fn mask_byte(x: Num, b: u8) -> Option<Num>
     ensures { result ≡ mask_byte x b }
 {
     let d = digit(b);
-    if 15 < d {
-        return Took::Bad;
+    if 15 < d || u64::from(u32::MAX) < x.value || 7 < x.len {
+        return None;
     }
-    if 4294967295 < x.value {
-        return Took::Bad;
-    }
-    if 7 < x.len {
-        return Took::Bad;
-    }
-    Took::Num(Num {
+    Some(Num {
         value: x.value * 16 + d,
         len: x.len + 1,
     })
 }
 
-fn word_byte(x: Num, b: u8) -> Took
+#[tactic(auto, unfolding(crate::specs::Bytes::word_byte))]
+fn word_byte(x: Num, b: u8) -> Option<Num>
     ensures { result ≡ word_byte x b }
 {
-    let d = wide(b);
-    if d < 1 {
-        return Took::Bad;
+    if b == 0 || 281474976710655 < x.value || 6 < x.len {
+        return None;
     }
-    if 281474976710655 < x.value {
-        return Took::Bad;
-    }
-    if 6 < x.len {
-        return Took::Bad;
-    }
-    Took::Num(Num {
-        value: x.value * 256 + d,
+    Some(Num {
+        value: x.value * 256 + u64::from(b),
         len: x.len + 1,
     })
 }
 
 // One more byte of a field.
-pub fn take_byte(form: Form, x: Num, b: u8) -> Took
+#[tactic(auto, unfolding(crate::specs::Bytes::take_byte))]
+pub fn take_byte(form: Form, x: Num, b: u8) -> Option<Num>
     ensures { result ≡ take_byte form x b }
 {
     match form {
-        Form::Nothing => Took::Bad,
+        Form::Nothing => None,
         Form::Number(most) => number_byte(most, x, b),
         Form::Mask => mask_byte(x, b),
         Form::Word => word_byte(x, b),
@@ -124,13 +86,13 @@ pub fn take_byte(form: Form, x: Num, b: u8) -> Took
 }
 
 // Whether a field may end here.
+#[tactic(auto, unfolding(crate::specs::Bytes::closed_of))]
 pub fn closed(form: Form, x: Num) -> bool
     ensures { result ≡ closed_of form x }
 {
     match form {
         Form::Nothing => false,
-        Form::Number(_) => 0 < x.len,
+        Form::Number(_) | Form::Word => 0 < x.len,
         Form::Mask => x.len == 8,
-        Form::Word => 0 < x.len,
     }
 }

@@ -5,10 +5,10 @@ ghost use Rattle.std.specs.Prelude.{◌≡◌, ℕ, ◌+◌, ◌-◌, ◌*◌, �
 ghost use Rattle.words.specs.Words.{words_of};
 ghost use Rattle.sheet_fields.specs.Fields.{fed, begin_of, byte_of, start_of, next_of, end_field, close_record};
 
-use numeral::{Num, Took};
+use numeral::Num;
 
 // Where the reader stands: the record before, the record of this line (12: its word is not read yet), its first field, how many fields
-// it has so far, where its row goes, whether a table was full; and what was read of the field.
+// it has so far, where its row goes, whether a table was full; and what was read of the field. A step gives None where the sheet is none.
 #[derive(Clone, Copy)]
 pub struct St {
     pub prev: u32,
@@ -21,128 +21,100 @@ pub struct St {
     pub len: u64,
 }
 
-// The state, or that the sheet is none.
-#[derive(Clone, Copy)]
-pub enum Next {
-    Go(St),
-    Bad,
-}
-
 // The start of a line.
+#[tactic(auto, unfolding(crate::specs::Fields::begin_of))]
 pub fn begin(prev: u32, over: bool) -> St
     ensures { result ≡ begin_of prev over }
 {
     St {
-        prev: prev,
+        prev,
         key: 12,
         kind: 0,
         n: 0,
         row: 0,
-        over: over,
+        over,
         value: 0,
         len: 0,
     }
 }
 
 // A byte of a field.
-pub fn byte(s: St, b: u8) -> Next
+#[tactic(auto, unfolding(crate::specs::Fields::byte_of))]
+pub fn byte(s: St, b: u8) -> Option<St>
     ensures { result ≡ byte_of s b }
 {
-    let f = sheet_rules::form_at(s.key, s.kind, s.n);
-    let t = numeral::take_byte(
-        f,
-        Num {
-            value: s.value,
-            len: s.len,
-        },
-        b,
-    );
-    match t {
-        Took::Num(x) => Next::Go(St {
-            prev: s.prev,
-            key: s.key,
-            kind: s.kind,
-            n: s.n,
-            row: s.row,
-            over: s.over,
-            value: x.value,
-            len: x.len,
-        }),
-        Took::Bad => Next::Bad,
-    }
+    let form = sheet_rules::form_at(s.key, s.kind, s.n);
+    let so_far = Num {
+        value: s.value,
+        len: s.len,
+    };
+    let Num { value, len } = numeral::take_byte(form, so_far, b)?;
+    Some(St { value, len, ..s })
 }
 
 // The word of a record was read.
-fn start(s: St, out: &[u8]) -> Next
+#[tactic(auto, unfolding(crate::specs::Fields::start_of, crate::specs::Fields::begin_of))]
+fn start(s: St, out: &[u8]) -> Option<St>
     ensures { result ≡ start_of s (words_of out.now) }
 {
-    let k = sheet_rules::key_of(s.value);
-    if sheet_rules::follows(s.prev, k) == 0 {
-        return Next::Bad;
+    let key = sheet_rules::key_of(s.value);
+    if !sheet_rules::follows(s.prev, key) {
+        return None;
     }
-    let c = cells::get(out, sheet_places::count_at(k));
-    let row = sheet_places::row_at(k, c);
-    Next::Go(St {
-        prev: s.prev,
-        key: k,
-        kind: 0,
+    let c = cells::get(out, sheet_places::count_at(key));
+    let row = sheet_places::row_at(key, c);
+    Some(St {
+        key,
         n: 1,
-        row: row,
-        over: s.over,
-        value: 0,
-        len: 0,
+        row,
+        ..begin(s.prev, s.over)
     })
 }
 
+#[tactic(auto, unfolding(crate::specs::Fields::next_of))]
 fn next_field(s: St) -> St
     ensures { result ≡ next_of s }
 {
-    let kind = sheet_rules::kind_after(s.n, s.kind, s.value);
-    let n = sheet_places::up(s.n);
     St {
-        prev: s.prev,
-        key: s.key,
-        kind: kind,
-        n: n,
-        row: s.row,
-        over: s.over,
+        kind: sheet_rules::kind_after(s.n, s.kind, s.value),
+        n: sheet_places::up(s.n),
         value: 0,
         len: 0,
+        ..s
     }
 }
 
 // A field ends.
-pub fn end_field(s: St, out: &mut [u8]) -> Next
+#[tactic(auto, unfolding(crate::specs::Fields::end_field))]
+pub fn end_field(s: St, out: &mut [u8]) -> Option<St>
     ensures { fed result (words_of out.new) ≡ end_field s (words_of out.old) }
 {
-    let f = sheet_rules::form_at(s.key, s.kind, s.n);
-    let done = numeral::closed(
-        f,
-        Num {
-            value: s.value,
-            len: s.len,
-        },
-    );
-    if done {
-        if s.n == 0 {
-            return start(s, out);
-        }
-        cells::put(
-            out,
-            sheet_places::place(s.key, s.row, s.n),
-            sheet_rules::low(s.value),
-        );
-        return Next::Go(next_field(s));
+    let form = sheet_rules::form_at(s.key, s.kind, s.n);
+    let so_far = Num {
+        value: s.value,
+        len: s.len,
+    };
+    if !numeral::closed(form, so_far) {
+        return None;
     }
-    Next::Bad
+    if s.n == 0 {
+        return start(s, out);
+    }
+    cells::put(
+        out,
+        sheet_places::place(s.key, s.row, s.n),
+        sheet_rules::low(s.value),
+    );
+    Some(next_field(s))
 }
 
 // A record ends: its last word, and its count, unless its table is full.
-pub fn close_record(t: St, out: &mut [u8]) -> Next
+#[tactic(auto, unfolding(crate::specs::Fields::close_record))]
+pub fn close_record(t: St, out: &mut [u8]) -> Option<St>
     ensures { fed result (words_of out.new) ≡ close_record t (words_of out.old) }
 {
-    if sheet_rules::more_after(t.key, t.kind, t.n) == 1 {
-        return Next::Bad;
+    if sheet_rules::more_after(t.key, t.kind, t.n) {
+        return None;
     }
     let a = sheet_places::count_at(t.key);
     let c = cells::get(out, a);
@@ -152,9 +124,9 @@ pub fn close_record(t: St, out: &mut [u8]) -> Next
         sheet_places::tail_at(t.key, t.row),
         sheet_places::tail(t.key, t.n, uses),
     );
-    if c < sheet_places::limit(t.key) {
-        cells::put(out, a, c + 1);
-        return Next::Go(begin(t.key, t.over));
+    if sheet_places::limit(t.key) <= c {
+        return Some(begin(t.key, true));
     }
-    Next::Go(begin(t.key, true))
+    cells::put(out, a, c + 1);
+    Some(begin(t.key, t.over))
 }

@@ -1,19 +1,14 @@
 -- The reader of either form as a machine: what each byte does to the form, to the reader of the first form and to the
 -- written fields that are kept. Assumes nothing.
-use Rattle.std.specs.Prelude.{List, [], ◌∷◌, Bool, true, false, cond, ℕ, ◌+◌, ◌-◌, length, get_or, set, replicate, ltb, eqb}
+use Rattle.std.specs.Prelude.{List, [], ◌∷◌, Bool, true, false, cond, ℕ, ◌+◌, ◌-◌, length, get_or, set, replicate, ltb, eqb, Option, None, Some, Err}
 use Rattle.definition.specs.SheetForms.{form_line}
 use Rattle.numeral.specs.Bytes.{num, take_byte, closed_of}
 use Rattle.numeral.specs.declared.Form.TheVariants.{Number}
 use Rattle.numeral.specs.declared.Num.{Num}
-use Rattle.numeral.specs.declared.Took.{Took}
-use Rattle.numeral.specs.declared.Took.TheVariants as T
 use Rattle.sheet_rules.specs.Rules.{low_of}
-use Rattle.sheet_fields.specs.declared.Next.{Next}
-use Rattle.sheet_fields.specs.declared.Next.TheVariants.{Go, Bad}
-use Rattle.sheet_fields.specs.Fields.{Fed, fed}
-use Rattle.sheet.specs.declared.Answer.{Answer}
-use Rattle.sheet.specs.declared.Answer.TheVariants.{Malformed}
-use Rattle.sheet.specs.Machine.{push_of, open_of, answer_of}
+use Rattle.sheet_fields.specs.Fields.{Next, Fed, fed}
+use Rattle.sheet.specs.declared.SheetError.TheVariants.{Malformed}
+use Rattle.sheet.specs.Machine.{Answer, push_of, open_of, answer_of}
 use Rattle.sheet_form.specs.declared.Front.{Front}
 use Rattle.sheet_form.specs.declared.Front.TheVariants.{Opening, First, Word, Plain, Before, Written}
 use Rattle.sheet_form.specs.declared.Kept.{Kept}
@@ -34,7 +29,7 @@ stood s out = stands s.front (fed s.next out)
 
 -- the sheet is none
 abbrev pub lost : Front → Fed → Stands
-lost f g = stands f (fed Bad g.out)
+lost f g = stands f (fed None g.out)
 
 -- behind k bytes of the form line: the reader is fed each, and begins anew behind the last one
 unfoldable pub opening_of : ℕ → Fed → ℕ → Stands
@@ -48,8 +43,8 @@ abbrev pub after_word : ℕ → Front
 after_word key = cond (eqb key 4) (Before 4 2) (cond (eqb key 9) (Before 9 4) Plain)
 
 unfoldable pub front_after : Next → Front
-front_after (Go t) = after_word t.key
-front_after Bad = Plain
+front_after (Some t) = after_word t.key
+front_after None = Plain
 
 -- in the word of a line: a tab ends it
 unfoldable pub in_word : Fed → ℕ → Stands
@@ -70,13 +65,13 @@ before_of key left g b =
 abbrev pub standing : Front → Next → Stood
 standing f r = record { front = f; next = r }
 
-abbrev pub on_digit : ℕ → Num → Next → Took → Stood
-on_digit key x r (T.Num y) = standing (Written key y) r
-on_digit key x r T.Bad = standing (Written key x) Bad
+abbrev pub on_digit : ℕ → Num → Next → Option Num → Stood
+on_digit key x r (Some y) = standing (Written key y) r
+on_digit key x r None = standing (Written key x) None
 
 -- in the written field: another byte than a line feed is held back
 unfoldable pub written_of : ℕ → Num → Next → ℕ → Stood
-written_of key x r b = cond (eqb b 9) (standing (Written key x) Bad) (on_digit key x r (take_byte (Number 4294967295) x b))
+written_of key x r b = cond (eqb b 9) (standing (Written key x) None) (on_digit key x r (take_byte (Number 4294967295) x b))
 
 -- the written field ends with its line
 unfoldable pub close_of : Num → Fed → Stands
@@ -159,6 +154,6 @@ unfoldable pub finish_of : Front → Next → Answer
 finish_of (Opening k) r = answer_of r
 finish_of First r = answer_of r
 finish_of Word r = answer_of r
-finish_of Plain r = Malformed
-finish_of (Before key left) r = Malformed
-finish_of (Written key x) r = Malformed
+finish_of Plain r = Err Malformed
+finish_of (Before key left) r = Err Malformed
+finish_of (Written key x) r = Err Malformed

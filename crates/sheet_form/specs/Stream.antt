@@ -28,17 +28,17 @@ pub record Streamed (f g : Formed) : Type 0 where
   pub small : (i : ℕ) → get_or bytes i 0 < 256
   pub is : g ≡ run_form f bytes
 
-pub none_yet : (f : Formed) → Streamed f f
+unfoldable pub none_yet : (f : Formed) → Streamed f f
 unfolding run_form
 none_yet f = record { bytes = []; small = λ i. omega arith; is = refl }
 
-small_both : (xs ys : List ℕ) → ((i : ℕ) → get_or xs i 0 < 256) → ((i : ℕ) → get_or ys i 0 < 256) → (i : ℕ)
+pub small_both : (xs ys : List ℕ) → ((i : ℕ) → get_or xs i 0 < 256) → ((i : ℕ) → get_or ys i 0 < 256) → (i : ℕ)
     → get_or (xs ++ ys) i 0 < 256
 small_both [] ys h g i = g i
 small_both (x ∷ xs) ys h g zero = h 0
 small_both (x ∷ xs) ys h g (suc i) = small_both xs ys (λ j. h (suc j)) g i
 
-pub one_more_lem : {f g : Formed} (h : Formed) (part : List ℕ) → Streamed f g → ((i : ℕ) → get_or part i 0 < 256)
+unfoldable pub one_more_lem : {f g : Formed} (h : Formed) (part : List ℕ) → Streamed f g → ((i : ℕ) → get_or part i 0 < 256)
     → h ≡ run_form g part → Streamed f h
 one_more_lem {f} {g} h part s b e = record {
   bytes = s.bytes ++ part;

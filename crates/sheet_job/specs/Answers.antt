@@ -1,5 +1,5 @@
 -- What the reader says of a sheet gives the definition's answer to it. Assumes nothing.
-use Rattle.std.specs.Prelude.{◌≡◌, refl, List, [], ◌∷◌, map, Bool, true, false, cond, ◌&&◌, ◌||◌, ℕ, zero, suc, ◌+◌, ◌≤◌, ◌<◌, length, get_or, replicate, ltb}
+use Rattle.std.specs.Prelude.{◌≡◌, refl, List, [], ◌∷◌, map, Bool, true, false, cond, ◌&&◌, ◌||◌, ℕ, zero, suc, ◌+◌, ◌≤◌, ◌<◌, length, get_or, replicate, ltb, Ok, Err}
 use Rattle.std.proofs.Common.{sym, ap, ◌∙◌, arith, ltb-true, lt-ltb}
 use Rattle.std.proofs.lemmas.Bool.{false≢true, lt-leb}
 use Rattle.std.proofs.Math.Option.{Option, none, some}
@@ -15,8 +15,8 @@ use Rattle.definition.specs.Text.{◌>>=◌}
 use Rattle.definition.specs.JobSheet.{Word as Named, opt, bank, class, reg, block, value, vgroup, operand, hint, seg, use', end, word_number, Record, only, bank_of, class_data_of, memory_of, block_data_of, value_data_of, vgroup_of, operand_of, hint_of, segments_of, next, among, ordered, job_of_records, answer_or_one}
 use Rattle.job.specs.Job.{raw_job}
 use Rattle.sheet_places.specs.Places.{limits, limit_of, table_words}
-use Rattle.sheet.specs.declared.Answer.{Answer}
-use Rattle.sheet.specs.declared.Answer.TheVariants.{Read, Malformed, TooMany}
+use Rattle.sheet.specs.Machine.{Answer}
+use Rattle.sheet.specs.declared.SheetError.TheVariants.{Malformed, TooMany}
 use Rattle.agree.specs.Words.{none_some}
 use Rattle.agree.specs.Table.{Filled, filled, fill, blank}
 use Rattle.agree.specs.Records.{rec}
@@ -299,9 +299,9 @@ over_answer job room e = ap (λ (o : Option Refusal). answer_to o job room) (ove
 
 -- what the reader says, and what its table stands for
 abbrev pub answered : Answer → List ℕ → Room → Out Result
-answered Read T room = answer (raw_job T (fixed_layout T)) room
-answered Malformed T room = refused NotARecord
-answered TooMany T room = refused OverALimit
+answered (Ok tt) T room = answer (raw_job T (fixed_layout T)) room
+answered (Err Malformed) T room = refused NotARecord
+answered (Err TooMany) T room = refused OverALimit
 
 abbrev pub the : Option Filled → Filled
 the none = blank 0
@@ -316,14 +316,14 @@ full n e rs s v =
 -- by what the reader says and the records of the sheet, if it is one
 pub said : (n : ℕ) → n ≡ table_words → (room : Room) (a : Answer) (o : List ℕ) (m : Option (List Record)) → On Sound m → outcome a o ≡ (m >>= λ rs. some (fill (blank n) rs))
     → answered a o room ≡ answer_or_one (m >>= λ rs. some (job_of_records rs)) room
-said n e room Malformed o none s q = refl
-said n e room Malformed o (some rs) s q = absurd (none_some q)
-said n e room Read o none s q = absurd (none_some (sym q))
-said n e room TooMany o none s q = absurd (none_some (sym q))
-said n e room Read o (some rs) s q =
+said n e room (Err Malformed) o none s q = refl
+said n e room (Err Malformed) o (some rs) s q = absurd (none_some q)
+said n e room (Ok tt) o none s q = absurd (none_some (sym q))
+said n e room (Err TooMany) o none s q = absurd (none_some (sym q))
+said n e room (Ok tt) o (some rs) s q =
     let i : filled false o ≡ fill (blank n) rs = ap the q in
     ap (λ (f : Filled). answer (raw_job f.out (fixed_layout f.out)) room) i
     ∙ alike_answer (raw_job (fill (blank n) rs).out (fixed_layout (fill (blank n) rs).out)) (job_of_records rs) room (table_job n e rs s (sym (ap (λ (f : Filled). f.over) i)))
-said n e room TooMany o (some rs) s q =
+said n e room (Err TooMany) o (some rs) s q =
     let i : filled true o ≡ fill (blank n) rs = ap the q in
     sym (over_answer (job_of_records rs) room (full n e rs s (sym (ap (λ (f : Filled). f.over) i))))

@@ -2,7 +2,7 @@
 use mathlib.Core.Path.{◌≡◌, refl}
 use mathlib.Core.List.{List, [], ◌∷◌}
 use mathlib.Core.Bool.{Bool, true, false, cond}
-use Prim.Native.Nat.{ℕ, zero, suc, ◌*◌, ◌≤◌, ◌<◌}
+use Prim.Native.Nat.{ℕ, zero, suc, ◌+◌, ◌*◌, ◌≤◌, ◌<◌}
 use native.Mathlib.Omega.{arith}
 use native.Mathlib.Nat.{mul-le-mul}
 use lib.ListN.{get_or}
@@ -23,21 +23,21 @@ picked : (b : Bool) (m x y : ℕ) → x < m → y < m → cond b x y < m
 picked true m x y p q = p
 picked false m x y p q = q
 
-pub limit_lt : (k : ℕ) → limit_of k < 5000
+limit_lt : (k : ℕ) → limit_of k < 5000
 unfolding limit_of limits
 limit_lt k = picked (ltb 11 k) 5000 0 _ (omega arith) (below 5000 (omega arith) limits (refl, (refl, (refl, (refl, (refl, (refl, (refl, (refl, (refl, (refl, (refl, (refl, tt)))))))))))) k)
 
-pub base_lt : (k : ℕ) → base_of k < 60000
+base_lt : (k : ℕ) → base_of k < 60000
 unfolding base_of bases
 base_lt k = picked (ltb 11 k) 60000 0 _ (omega arith) (below 60000 (omega arith) bases (refl, (refl, (refl, (refl, (refl, (refl, (refl, (refl, (refl, (refl, (refl, (refl, tt)))))))))))) k)
 
-pub width_lt : (k : ℕ) → width_of k < 10
+width_lt : (k : ℕ) → width_of k < 10
 unfolding width_of widths
 width_lt k = picked (ltb 11 k) 10 0 _ (omega arith) (below 10 (omega arith) widths (refl, (refl, (refl, (refl, (refl, (refl, (refl, (refl, (refl, (refl, (refl, (refl, tt)))))))))))) k)
 
-pub product : (c w : ℕ) → c < 5000 → w < 10 → c * w ≤ 50000
-product c w h g =
-    let h' : c ≤ 5000 = omega arith in
-    let g' : w ≤ 10 = omega arith in
-    let p : c * w ≤ 5000 * 10 = mul-le-mul h' g' in
-    omega arith
+pub within : (k c : ℕ) → c < limit_of k → base_of k + c * width_of k < 110000
+within k c h =
+    let w : width_of k ≤ 10 = omega (arith, width_lt k) in
+    let l : c ≤ 5000 = omega (arith, limit_lt k) in
+    let p : c * width_of k ≤ 5000 * 10 = mul-le-mul l w in
+    omega (arith, base_lt k)

@@ -2,9 +2,13 @@
 // 4294967295 is nowhere: no table of words has that place.
 #![tactic(auto)]
 
-ghost use Rattle.std.specs.Prelude.{◌≡◌, ℕ, ◌+◌, ◌-◌, ◌*◌, ◌≤◌, ◌<◌};
+ghost use Rattle.std.specs.Prelude.{◌≡◌, ℕ, ◌+◌, ◌-◌, ◌*◌, ◌≤◌, ◌<◌, cond, ltb, get_or};
 ghost use Rattle.sheet_places.specs.Places.{limit_of, base_of, width_of, stored_of, count_at, row_at, place_of, tail_at, tail_of, up_of};
 
+// A number, and no Option: `cells` reads 0 there and stores nothing, so that no caller has to ask.
+const NOWHERE: usize = 4294967295;
+
+// Four tables by the kind's number, as the definition has four lists.
 const LIMITS: [u32; 12] = [1, 8, 32, 256, 512, 1024, 256, 1024, 1024, 1024, 4096, 1];
 
 const BASES: [u32; 12] = [
@@ -15,127 +19,105 @@ const WIDTHS: [u32; 12] = [4, 1, 4, 1, 2, 3, 9, 4, 3, 5, 6, 0];
 
 const STORED: [u32; 12] = [4, 1, 4, 1, 2, 3, 8, 4, 3, 4, 6, 0];
 
+// The entry of a kind of record; 0 for none.
+fn entry(table: &[u32; 12], key: u32) -> u32
+    ensures { result ≡ cond (ltb 11 key) 0 (get_or table.now key 0) }
+{
+    if key < 12 { table[key as usize] } else { 0 }
+}
+
 // How many records of a kind have room.
+#[tactic(auto, unfolding(crate::specs::Places::limit_of, crate::specs::Places::limits))]
 pub fn limit(key: u32) -> u32
     ensures { result ≡ limit_of key }
 {
-    if 11 < key {
-        return 0;
-    }
-    let i = key as usize;
-    LIMITS[i]
+    entry(&LIMITS, key)
 }
 
+#[tactic(auto, unfolding(crate::specs::Places::base_of, crate::specs::Places::bases))]
 fn base(key: u32) -> u32
     ensures { result ≡ base_of key }
 {
-    if 11 < key {
-        return 0;
-    }
-    let i = key as usize;
-    BASES[i]
+    entry(&BASES, key)
 }
 
+#[tactic(auto, unfolding(crate::specs::Places::width_of, crate::specs::Places::widths))]
 fn width(key: u32) -> u32
     ensures { result ≡ width_of key }
 {
-    if 11 < key {
-        return 0;
-    }
-    let i = key as usize;
-    WIDTHS[i]
+    entry(&WIDTHS, key)
 }
 
 // How many fields of a record are stored.
+#[tactic(auto, unfolding(crate::specs::Places::stored_of, crate::specs::Places::stored_fields))]
 pub fn stored(key: u32) -> u32
     ensures { result ≡ stored_of key }
 {
-    if 11 < key {
-        return 0;
-    }
-    let i = key as usize;
-    STORED[i]
+    entry(&STORED, key)
 }
 
 // The word that counts the records of a kind; opt and end are not counted.
+#[tactic(auto, unfolding(crate::specs::Places::count_at))]
 pub fn count_at(key: u32) -> usize
     ensures { result ≡ count_at key }
 {
-    if key < 1 {
-        return 4294967295;
+    match key {
+        1..=10 => key as usize - 1,
+        _ => NOWHERE,
     }
-    if 10 < key {
-        return 4294967295;
-    }
-    key as usize - 1
 }
 
 // The first word of row c of a kind of record; nowhere if its table is full.
+#[tactic(auto, unfolding(crate::specs::Places::row_at), using(crate::proofs::Bounds::within))]
 pub fn row_at(key: u32, c: u32) -> usize
     ensures { result ≡ row_at key c }
 {
     if c < limit(key) {
-        let b = base(key);
-        let w = width(key);
-        return b as usize + c as usize * w as usize;
+        base(key) as usize + c as usize * width(key) as usize
+    } else {
+        NOWHERE
     }
-    4294967295
 }
 
 // The word of field n of a row; a vgroup's row has the number of its members before them.
+#[tactic(auto, unfolding(crate::specs::Places::place_of))]
 pub fn place(key: u32, row: usize, n: u32) -> usize
     ensures { result ≡ place_of key row n }
 {
-    if row < 4294967295 {
-        if stored(key) < n {
-            return 4294967295;
-        }
-        if n < 1 {
-            return 4294967295;
-        }
-        if key == 6 {
-            return row + n as usize;
-        }
-        return row + (n as usize - 1);
+    if NOWHERE <= row || stored(key) < n || n == 0 {
+        return NOWHERE;
     }
-    4294967295
+    if key == 6 {
+        row + n as usize
+    } else {
+        row + (n as usize - 1)
+    }
 }
 
 // The word of a row that is no field: a vgroup's number of members, the number of uses before a segment.
+#[tactic(auto, unfolding(crate::specs::Places::tail_at))]
 pub fn tail_at(key: u32, row: usize) -> usize
     ensures { result ≡ tail_at key row }
 {
-    if row < 4294967295 {
-        if key == 6 {
-            return row;
-        }
-        if key == 9 {
-            return row + 4;
-        }
-        return 4294967295;
+    match key {
+        6 if row < NOWHERE => row,
+        9 if row < NOWHERE => row + 4,
+        _ => NOWHERE,
     }
-    4294967295
 }
 
 // What goes there, behind n - 1 fields.
+#[tactic(auto, unfolding(crate::specs::Places::tail_of))]
 pub fn tail(key: u32, n: u32, uses: u32) -> u32
     ensures { result ≡ tail_of key n uses }
 {
-    if key == 9 {
-        return uses;
-    }
-    if n < 1 {
-        return 0;
-    }
-    n - 1
+    if key == 9 { uses } else { n.saturating_sub(1) }
 }
 
 // One field more; ten stands for ten or more.
+#[tactic(auto, unfolding(crate::specs::Places::up_of))]
 pub fn up(n: u32) -> u32
     ensures { result ≡ up_of n }
 {
-    if n < 10 {
-        return n + 1;
-    }
-    10
+    n.min(9) + 1
 }

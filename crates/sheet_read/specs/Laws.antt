@@ -1,5 +1,5 @@
 -- From what the machine says of a sheet to the reader's number and table. Assumes nothing.
-use Rattle.std.specs.Prelude.{◌≡◌, List, Bool, not, ℕ, ◌/◌, ◌≤◌, ◌<◌, get_or, replicate}
+use Rattle.std.specs.Prelude.{◌≡◌, List, Bool, not, ℕ, ◌/◌, ◌≤◌, ◌<◌, get_or, replicate, Ok, Err}
 use Rattle.std.proofs.Math.Path.{refl, sym, ap}
 use Rattle.std.proofs.Common.{◌∙◌, subst, arith}
 use Rattle.std.proofs.Math.Bool.{true, false, cond}
@@ -17,8 +17,9 @@ use Rattle.definition.specs.SheetForms.{is_second, records_in, written_firsts, w
 use Rattle.definition.proofs.Forms.{second_records_lem}
 use Rattle.job.specs.Job.{raw_job}
 use Rattle.sheet_places.specs.Places.{limits, limit_of, table_words}
-use Rattle.sheet.specs.declared.Answer.{Answer}
-use Rattle.sheet.specs.declared.Answer.TheVariants.{Read, Malformed, TooMany}
+use Rattle.sheet.specs.Machine.{Answer}
+use Rattle.sheet.specs.declared.SheetError.{SheetError}
+use Rattle.sheet.specs.declared.SheetError.TheVariants.{Malformed, TooMany}
 use Rattle.sheet_form.specs.declared.Reading.{Reading}
 use Rattle.sheet_form.specs.Front.{Keeping, Formed, formed, run_form, open_form, finish_of}
 use Rattle.agree.specs.Words.{Bytes, none_some}
@@ -38,7 +39,7 @@ use Rattle.form_agree.specs.Kept.{kept_words}
 use Rattle.form_agree.specs.Read.{bare_of, bare_in, bare_in_sound, bare_in_chosen, bare_in_job}
 use Rattle.form_agree.specs.Read.{forms_bare, none_written, all_written}
 use Rattle.sheet_read.specs.Read.{record_tests, records_fit, records_number, records_table, sheet_number, sheet_table}
-use Rattle.sheet_read.specs.Read.{records_written, written_table, Cleared, JobRead, ReadAs}
+use Rattle.sheet_read.specs.Read.{records_written, written_table, number_said, Cleared, JobRead, ReadAs}
 
 -- ---- the table was full exactly where a kind of record passes its limit
 
@@ -126,39 +127,34 @@ abbrev the : Option Filled → Filled
 the none = blank 0
 the (some f) = f
 
-abbrev pub number_said : Answer → ℕ
-number_said Read = 0
-number_said Malformed = 1
-number_said TooMany = 2
-
 abbrev pub table_said : ℕ → Answer → List ℕ → List ℕ
-table_said n Read o = o
-table_said n Malformed o = replicate n 0
-table_said n TooMany o = replicate n 0
+table_said n (Ok tt) o = o
+table_said n (Err Malformed) o = replicate n 0
+table_said n (Err TooMany) o = replicate n 0
 
 module _ (n : ℕ) (e : n ≡ table_words) where
   by_number : (a : Answer) (o : List ℕ) (m : Option (List Record))
       → outcome a o ≡ (m >>= λ rs. some (fill (blank n) rs)) → records_number m ≡ number_said a
-  by_number Malformed o none q = refl
-  by_number Malformed o (some rs) q = absurd (none_some q)
-  by_number Read o none q = absurd (none_some (sym q))
-  by_number TooMany o none q = absurd (none_some (sym q))
-  by_number Read o (some rs) q = ap (λ (t : Bool). cond t 0 2)
+  by_number (Err Malformed) o none q = refl
+  by_number (Err Malformed) o (some rs) q = absurd (none_some q)
+  by_number (Ok tt) o none q = absurd (none_some (sym q))
+  by_number (Err TooMany) o none q = absurd (none_some (sym q))
+  by_number (Ok tt) o (some rs) q = ap (λ (t : Bool). cond t 0 2)
       (fits n e rs (sym (ap (λ (f : Option Filled). (the f).over) q)))
-  by_number TooMany o (some rs) q = ap (λ (t : Bool). cond t 0 2)
+  by_number (Err TooMany) o (some rs) q = ap (λ (t : Bool). cond t 0 2)
       (crowds n e rs (sym (ap (λ (f : Option Filled). (the f).over) q)))
 
   by_table : (a : Answer) (o : List ℕ) (m : Option (List Record)) → outcome a o ≡ (m >>= λ rs. some (fill (blank n) rs))
       → records_table n m ≡ table_said n a o
-  by_table Malformed o none q = refl
-  by_table Malformed o (some rs) q = absurd (none_some q)
-  by_table Read o none q = absurd (none_some (sym q))
-  by_table TooMany o none q = absurd (none_some (sym q))
-  by_table Read o (some rs) q =
+  by_table (Err Malformed) o none q = refl
+  by_table (Err Malformed) o (some rs) q = absurd (none_some q)
+  by_table (Ok tt) o none q = absurd (none_some (sym q))
+  by_table (Err TooMany) o none q = absurd (none_some (sym q))
+  by_table (Ok tt) o (some rs) q =
       ap (λ (t : Bool). cond t (fill (blank n) rs).out (replicate n 0))
       (fits n e rs (sym (ap (λ (f : Option Filled). (the f).over) q)))
       ∙ sym (ap (λ (f : Option Filled). (the f).out) q)
-  by_table TooMany o (some rs) q = ap (λ (t : Bool). cond t (fill (blank n) rs).out (replicate n 0))
+  by_table (Err TooMany) o (some rs) q = ap (λ (t : Bool). cond t (fill (blank n) rs).out (replicate n 0))
       (crowds n e rs (sym (ap (λ (f : Option Filled). (the f).over) q)))
 
   -- the job of a sheet that was read
@@ -252,11 +248,11 @@ module _ (n : ℕ) (sheet : List ℕ) (cur : Reading) (x y : List ℕ) (w : Went
       ∙ sym (by_table n w.all (said_of cur) (words_of x) (bare_in sheet) agreed)
 
   -- a job sheet
-  pub read_sheet : (a : Answer) → a ≡ said_of cur → a ≡ Read → ReadAs sheet 0 x y
+  pub read_sheet : (a : Answer) → a ≡ said_of cur → a ≡ Ok tt → ReadAs sheet 0 x y
   read_sheet a i j = record {
-    number = of_number Read is;
+    number = of_number (Ok tt) is;
     long = w.long ∙ w.all;
-    table = of_table Read is ∙ ap (λ (k : ℕ). sheet_table k sheet) (sym w.long);
+    table = of_table (Ok tt) is ∙ ap (λ (k : ℕ). sheet_table k sheet) (sym w.long);
     written =
         ap (λ (s : Formed). s.keeping.words) w.is ∙ by_written n w.all sheet (words_of x) w.bytes read;
     zeros = λ h. absurd (omega (arith, h));
@@ -267,7 +263,7 @@ module _ (n : ℕ) (sheet : List ℕ) (cur : Reading) (x y : List ℕ) (w : Went
         (w.long ∙ w.all) refl;
   }
     where
-      is : said_of cur ≡ Read
+      is : said_of cur ≡ Ok tt
       is = sym i ∙ j
 
       read : some (filled false (words_of x)) ≡ (bare_in sheet >>= λ rs. some (fill (blank n) rs))
@@ -297,11 +293,7 @@ module _ (n : ℕ) (sheet : List ℕ) (cur : Reading) (x y : List ℕ) (w : Went
       m : word_count v ≡ n
       m = ap (λ (k : ℕ). k / 4) (ap length c.bytes ∙ length-replicate (length x) 0) ∙ w.long
 
-  -- number 1, number 2
-  pub no_sheet : (a : Answer) (r : ℕ) (v z : List ℕ) → a ≡ said_of cur → a ≡ Malformed → r ≡ 1
-      → Cleared x v → Cleared y z → ReadAs sheet r v z
-  no_sheet a r v z i j d c u = refuse_sheet Malformed r v z (sym i ∙ j) (omega (arith, d)) d refl c u
-
-  pub crowded_sheet : (a : Answer) (r : ℕ) (v z : List ℕ) → a ≡ said_of cur → a ≡ TooMany → r ≡ 2
-      → Cleared x v → Cleared y z → ReadAs sheet r v z
-  crowded_sheet a r v z i j d c u = refuse_sheet TooMany r v z (sym i ∙ j) (omega (arith, d)) d refl c u
+  pub refused_sheet : (a : Answer) (e : SheetError) (v z : List ℕ) → a ≡ said_of cur → a ≡ Err e → Cleared x v
+      → Cleared y z → ReadAs sheet (number_said (Err e)) v z
+  refused_sheet a Malformed v z i j c u = refuse_sheet (Err Malformed) 1 v z (sym i ∙ j) (omega arith) refl refl c u
+  refused_sheet a TooMany v z i j c u = refuse_sheet (Err TooMany) 2 v z (sym i ∙ j) (omega arith) refl refl c u

@@ -1,5 +1,5 @@
 -- What the reader says of a whole sheet of either form, and leaves in its two tables. Assumes nothing.
-use Rattle.std.specs.Prelude.{◌≡◌, List, [], ◌∷◌, Bool, true, false, cond, ℕ, ◌≤◌, length, replicate, leb}
+use Rattle.std.specs.Prelude.{◌≡◌, List, [], ◌∷◌, Bool, true, false, cond, ℕ, ◌≤◌, length, replicate, leb, Ok, Err}
 use Rattle.std.proofs.Math.Option.{Option, none, some}
 use Rattle.words.specs.Words.{word_count, words_of}
 use Rattle.definition.specs.declared.Refusal.{Refusal}
@@ -13,11 +13,19 @@ use Rattle.definition.specs.SheetForms.{is_second, records_in, job_in, written_f
 use Rattle.job.specs.Job.{raw_job}
 use Rattle.job_shape.specs.Shape.{Shaped}
 use Rattle.sheet_places.specs.Places.{table_words}
+use Rattle.sheet.specs.declared.SheetError.TheVariants.{Malformed, TooMany}
+use Rattle.sheet.specs.Machine.{Answer}
 use Rattle.agree.specs.Table.{fill, blank}
 use Rattle.sheet_job.specs.Fixed.{fixed_layout}
 use Rattle.sheet_job.specs.Jobs.{Alike}
 use Rattle.form_agree.specs.Kept.{kept_words}
 use Rattle.form_agree.specs.Read.{bare_in}
+
+-- the number of what the reader says; 0 for a job sheet
+abbrev pub number_said : Answer → ℕ
+number_said (Ok tt) = 0
+number_said (Err Malformed) = 1
+number_said (Err TooMany) = 2
 
 -- no kind of record passes its limit
 abbrev pub record_tests : List Record → List Bool

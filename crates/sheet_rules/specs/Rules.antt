@@ -1,5 +1,5 @@
 -- The rules of the records, as tables of numbers. Assumes nothing.
-use Rattle.std.specs.Prelude.{List, [], ◌∷◌, cond, ℕ, ◌+◌, ◌*◌, get_or, ltb, eqb}
+use Rattle.std.specs.Prelude.{List, [], ◌∷◌, Bool, true, false, not, cond, ℕ, ◌+◌, ◌*◌, get_or, ltb, eqb}
 use Rattle.numeral.specs.declared.Form.{Form}
 use Rattle.numeral.specs.declared.Form.TheVariants.{Nothing, Number, Mask, Word}
 
@@ -51,9 +51,9 @@ code_at key kind n = cond (ltb 10 n) 0 (get_or forms (form_row key kind n * 11 +
 unfoldable pub form_at : ℕ → ℕ → ℕ → Form
 form_at key kind n = form_of (code_at key kind n)
 
--- 1 if a record wants a field n; a vgroup wants none
-unfoldable pub more_after : ℕ → ℕ → ℕ → ℕ
-more_after key kind n = cond (eqb key 6) 0 (cond (eqb (code_at key kind n) 0) 0 1)
+-- whether a record wants a field n; a vgroup wants none
+unfoldable pub more_after : ℕ → ℕ → ℕ → Bool
+more_after key kind n = cond (eqb key 6) false (cond (eqb (code_at key kind n) 0) false true)
 
 -- the record that a word names, its bytes read in base 256; 12 for none
 unfoldable pub key_of : ℕ → ℕ
@@ -88,8 +88,9 @@ order =
     0 ∷ 0 ∷ 0 ∷ 0 ∷ 0 ∷ 0 ∷ 0 ∷ 0 ∷ 0 ∷ 0 ∷ 0 ∷ 0 ∷
     1 ∷ 0 ∷ 0 ∷ 0 ∷ 0 ∷ 0 ∷ 0 ∷ 0 ∷ 0 ∷ 0 ∷ 0 ∷ 0 ∷ []
 
-unfoldable pub follows_of : ℕ → ℕ → ℕ
-follows_of prev key = cond (ltb 12 prev) 0 (cond (ltb 11 key) 0 (get_or order (prev * 12 + key) 0))
+unfoldable pub follows_of : ℕ → ℕ → Bool
+follows_of prev key =
+    cond (ltb 12 prev) false (cond (ltb 11 key) false (not (eqb (get_or order (prev * 12 + key) 0) 0)))
 
 unfoldable pub low_of : ℕ → ℕ
 low_of v = cond (ltb 4294967295 v) 0 v

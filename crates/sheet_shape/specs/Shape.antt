@@ -1,5 +1,5 @@
 -- The table of a sheet has the shape that the entry tests ask for, by its fixed layout. Assumes nothing.
-use Rattle.std.specs.Prelude.{◌≡◌, Bool, true, false, ◌&&◌, ℕ, ◌+◌, ◌≤◌, replicate}
+use Rattle.std.specs.Prelude.{◌≡◌, Bool, true, false, ◌&&◌, ℕ, ◌+◌, ◌≤◌, replicate, Ok}
 use Rattle.std.proofs.Math.Path.{refl, sym, ap}
 use Rattle.std.proofs.Common.{◌∙◌, subst, arith, zero-add}
 use mathlib.Core.List.{List, [], ◌∷◌}
@@ -15,9 +15,7 @@ use Rattle.definition.specs.JobSheet.{Word as Named, opt, bank, class, reg, bloc
 use Rattle.layout.specs.Layout.{Fits}
 use Rattle.job_shape.specs.Shape.{word_in, all_below, choices_ok, use_counts, rises, counts_ok, Shaped}
 use Rattle.sheet_places.specs.Places.{bases, base_of, widths, width_of, limits, limit_of, stored_fields, stored_of, count_at, table_words}
-use Rattle.sheet.specs.declared.Answer.{Answer}
-use Rattle.sheet.specs.declared.Answer.TheVariants.{Read}
-use Rattle.sheet.specs.Machine.{run_of, open_of, answer_of}
+use Rattle.sheet.specs.Machine.{Answer, run_of, open_of, answer_of}
 use Rattle.agree.specs.Words.{Bytes, none_some}
 use Rattle.agree.specs.Table.{Filled, filled, fill, blank}
 use Rattle.agree.specs.Agree.{outcome, agree}
@@ -108,7 +106,7 @@ abbrev the : Option Filled → Filled
 the none = blank 0
 the (some f) = f
 
-pub read_shaped : (n : ℕ) → n ≡ table_words → (a : Answer) (o : List ℕ) (m : Option (List Record)) → On Sound m → On ChosenRecords m → outcome a o ≡ (m >>= λ rs. some (fill (blank n) rs)) → a ≡ Read
+pub read_shaped : (n : ℕ) → n ≡ table_words → (a : Answer) (o : List ℕ) (m : Option (List Record)) → On Sound m → On ChosenRecords m → outcome a o ≡ (m >>= λ rs. some (fill (blank n) rs)) → a ≡ Ok tt
     → (b : List ℕ) → word_count b ≡ table_words → words_of b ≡ o → Shaped b (fixed_layout (words_of b))
 read_shaped n e a o none s c q i b w t = absurd (none_some (sym (ap (λ (x : Answer). outcome x o) (sym i) ∙ q)))
 read_shaped n e a o (some rs) s c q i b w t =
@@ -116,7 +114,7 @@ read_shaped n e a o (some rs) s c q i b w t =
     table_shaped n e rs s c (sym (ap (λ (g : Filled). g.over) f)) b w (t ∙ ap (λ (g : Filled). g.out) f)
 
 -- THE LAW: the table of a sheet that was read is one that the entry tests take
-pub sheet_shaped : (n : ℕ) → n ≡ table_words → (bs : List ℕ) → Bytes bs → answer_of (run_of (open_of n) bs).next ≡ Read
+pub sheet_shaped : (n : ℕ) → n ≡ table_words → (bs : List ℕ) → Bytes bs → answer_of (run_of (open_of n) bs).next ≡ Ok tt
     → (b : List ℕ) → word_count b ≡ table_words → words_of b ≡ (run_of (open_of n) bs).out → Shaped b (fixed_layout (words_of b))
 sheet_shaped n e bs y i b w t =
     read_shaped n e (answer_of (run_of (open_of n) bs).next) (run_of (open_of n) bs).out (sheet_of bs) (sheet_sound bs) (sheet_chosen bs) (agree bs y n) i b w t

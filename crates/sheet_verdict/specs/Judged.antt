@@ -1,5 +1,5 @@
 -- The verdict on a sheet of either form, and what is known of one that passes. Assumes nothing.
-use Rattle.std.specs.Prelude.{◌≡◌, Bool, true, cond, List, ℕ, take, drop}
+use Rattle.std.specs.Prelude.{◌≡◌, Bool, true, cond, Result, IfOk, List, ℕ, take, drop}
 use Rattle.std.proofs.Math.Option.{Option, none, some}
 use Rattle.words.specs.Words.{words_of}
 use Rattle.definition.specs.Types.{Job}
@@ -9,6 +9,7 @@ use Rattle.definition.specs.SheetForms.{sheet_number_of, as_implied, tenth_test,
 use Rattle.layout.specs.declared.Layout.{Layout}
 use Rattle.job.specs.Job.{raw_job}
 use Rattle.entry.specs.declared.Entered.{Entered}
+use Rattle.entry.specs.Number.{refusal_in}
 use Rattle.entry.specs.Accepted.{Accepted, Prepared}
 use Rattle.sheet_places.specs.Places.{table_words}
 use Rattle.sheet_form.specs.declared.Reading.{Reading}
@@ -29,21 +30,19 @@ abbrev pub Ready : List ℕ → List ℕ → Entered → Type 0
 Ready T K e = Accepted T K e.lay e.wl e.insts × Prepared (words_of T) K e.lay e.wl
 
 -- tests 2 to 7 on the job of the bytes T, then 10 in the second form
-pub record Tested (second : Bool) (T : List ℕ) (lay : Layout) (Y K : List ℕ) (e : Entered) : Type 0 where
-  pub number : e.number
-      ≡ verdict_number (tenth_test (entry (raw_job (words_of T) lay))
-      (cond second (implied_in Y lay (raw_job (words_of T) lay)) true))
-  pub layout : e.lay ≡ lay
-  pub ready : e.number ≡ 0 → Ready T K e
+pub record Tested (second : Bool) (T : List ℕ) (lay : Layout) (Y K : List ℕ) (r : Result Entered SheetRefusal) : Type 0 where
+  pub refused : refusal_in r
+      ≡ tenth_test (entry (raw_job (words_of T) lay)) (cond second (implied_in Y lay (raw_job (words_of T) lay)) true)
+  pub ready : IfOk r (λ e. (e.lay ≡ lay) × Ready T K e)
 
 -- the bytes of a sheet lead the reader to the state cur, the words W and the kept words Y
 pub record LeadsTo (sheet : List ℕ) (cur : Reading) (W Y : List ℕ) : Type 0 where
   pub bytes : Bytes sheet
   pub is : formed cur W Y ≡ run_form (open_form table_words 1536) sheet
 
--- e is the verdict on every such sheet; where it passes, the table T stands for its job
-pub record Judged (cur : Reading) (T Y K : List ℕ) (e : Entered) : Type 0 where
-  pub number : (sheet : List ℕ) → LeadsTo sheet cur (words_of T) Y → e.number ≡ verdict_number (verdict sheet)
-  pub job : e.number ≡ 0 → (sheet : List ℕ) → LeadsTo sheet cur (words_of T) Y
-      → job_in sheet ≡ some (raw_job (words_of T) e.lay)
-  pub ready : e.number ≡ 0 → Ready T K e
+-- r is the verdict on every such sheet; where it passes, the table T stands for its job
+pub record Judged (cur : Reading) (T Y K : List ℕ) (r : Result Entered SheetRefusal) : Type 0 where
+  pub refused : (sheet : List ℕ) → LeadsTo sheet cur (words_of T) Y → refusal_in r ≡ verdict sheet
+  pub job : IfOk r
+      (λ e. (sheet : List ℕ) → LeadsTo sheet cur (words_of T) Y → job_in sheet ≡ some (raw_job (words_of T) e.lay))
+  pub ready : IfOk r (λ e. Ready T K e)

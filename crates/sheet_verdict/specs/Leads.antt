@@ -1,5 +1,5 @@
 -- What the state that a sheet leads the reader to says of the sheet. Assumes nothing.
-use Rattle.std.specs.Prelude.{◌≡◌, refl, List, Bool, true, ℕ}
+use Rattle.std.specs.Prelude.{◌≡◌, refl, List, Bool, true, ℕ, Ok, Err}
 use Rattle.std.proofs.Common.{sym, ap, ◌∙◌}
 use Rattle.std.proofs.Math.Option.{Option, none, some}
 use Rattle.words.specs.Words.{word_count, words_of}
@@ -9,8 +9,8 @@ use Rattle.definition.specs.JobSheet.{Record, job_of_records}
 use Rattle.definition.specs.declared.SheetRefusal.TheVariants.{By}
 use Rattle.definition.specs.SheetForms.{is_second, verdict, job_in}
 use Rattle.sheet_places.specs.Places.{table_words}
-use Rattle.sheet.specs.declared.Answer.{Answer}
-use Rattle.sheet.specs.declared.Answer.TheVariants.{Read, Malformed, TooMany}
+use Rattle.sheet.specs.Machine.{Answer}
+use Rattle.sheet.specs.declared.SheetError.TheVariants.{Malformed, TooMany}
 use Rattle.sheet_form.specs.declared.Reading.{Reading}
 use Rattle.sheet_form.specs.Front.{Formed, second_of}
 use Rattle.agree.specs.Words.{none_some}
@@ -35,7 +35,7 @@ module _ (sheet : List ℕ) (cur : Reading) (T U : List ℕ) (l : word_count T �
   front = ap (λ (f : Formed). second_of f.at.front) s.is ∙ forms_front table_words 1536 sheet s.bytes
 
   -- by what the reader says
-  pub none_read : said_of cur ≡ Malformed → verdict sheet ≡ some (By NotARecord)
+  pub none_read : said_of cur ≡ Err Malformed → verdict sheet ≡ some (By NotARecord)
   none_read i = no_job sheet (go (bare_in sheet) (bare_in_job sheet) (agreed table_words sheet cur T U went_over))
     where
       go : (m : Option (List Record)) → (m >>= λ rs. some (job_of_records rs)) ≡ job_in sheet
@@ -43,7 +43,7 @@ module _ (sheet : List ℕ) (cur : Reading) (T U : List ℕ) (l : word_count T �
       go none j q = sym j
       go (some rs) j q = absurd (none_some (sym (ap (λ (a : Answer). outcome a (words_of T)) i) ∙ q))
 
-  pub crowd_read : said_of cur ≡ TooMany → verdict sheet ≡ some (By OverALimit)
+  pub crowd_read : said_of cur ≡ Err TooMany → verdict sheet ≡ some (By OverALimit)
   crowd_read i =
       go (bare_in sheet) (bare_in_job sheet) (bare_in_sound sheet) (agreed table_words sheet cur T U went_over)
     where
@@ -61,7 +61,7 @@ module _ (sheet : List ℕ) (cur : Reading) (T U : List ℕ) (l : word_count T �
           job_refused sheet (job_of_records rs) OverALimit (sym j)
           (over_entry (job_of_records rs) (full table_words refl rs h v))
 
-  pub read_as : (a : Answer) → a ≡ said_of cur → a ≡ Read → ReadAs sheet 0 T U
+  pub read_as : (a : Answer) → a ≡ said_of cur → a ≡ Ok tt → ReadAs sheet 0 T U
   read_as a i r = read_sheet table_words sheet cur T U went_over a i r
 
   -- where the verdict is none, the table is the sheet's
@@ -69,6 +69,6 @@ module _ (sheet : List ℕ) (cur : Reading) (T U : List ℕ) (l : word_count T �
   table_read e = go (said_of cur) refl
     where
       go : (a : Answer) → said_of cur ≡ a → words_of T ≡ sheet_table table_words sheet
-      go Read i = (read_as Read (sym i) refl).table ∙ ap (λ (n : ℕ). sheet_table n sheet) l
-      go Malformed i = absurd (none_some (sym e ∙ none_read i))
-      go TooMany i = absurd (none_some (sym e ∙ crowd_read i))
+      go (Ok tt) i = (read_as (Ok tt) (sym i) refl).table ∙ ap (λ (n : ℕ). sheet_table n sheet) l
+      go (Err Malformed) i = absurd (none_some (sym e ∙ none_read i))
+      go (Err TooMany) i = absurd (none_some (sym e ∙ crowd_read i))

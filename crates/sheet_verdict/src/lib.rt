@@ -1,4 +1,4 @@
-// The verdict on a job sheet of either form that was read: the number of tests 1 to 7 and 10, or none, and what a build needs of a sheet that passes.
+// The verdict on a job sheet of either form that was read: the refusal of tests 1 to 7 and 10, or what a build needs of a sheet that passes.
 #![tactic(auto)]
 
 ghost use Rattle.std.specs.Prelude.{◌≡◌, ◌≤◌};
@@ -10,41 +10,51 @@ ghost use Rattle.sheet_form.specs.Front.{formed, open_form};
 ghost use Rattle.sheet_form.specs.Stream.{Streamed};
 ghost use Rattle.sheet_verdict.specs.Judged.{Tested, Judged};
 
+use definition::{Refusal, SheetRefusal};
 use entry::Entered;
 use layout::Layout;
-use sheet::Answer;
+use sheet::SheetError;
 use sheet_form::Reading;
 
 // Tests 2 to 7 on the job of a table, then 10 where there are written fields.
-fn judge_job(second: bool, table: &[u8], lay: Layout, written: &[u8], work: &mut [u8]) -> Entered
+#[tactic(auto, using(crate::proofs::Ways::tested_refused))]
+fn judge_job(
+    second: bool,
+    table: &[u8],
+    lay: Layout,
+    written: &[u8],
+    work: &mut [u8],
+) -> Result<Entered, SheetRefusal>
     requires { Shaped table.now lay × (word_count written.now ≡ 1536) × (max_work ≤ word_count work.old) }
     ensures { Tested second table.now lay (words_of written.now) (words_of work.new) result }
 {
-    let e = entry::enter_prepared(table, lay, work);
-    if e.number != 0 {
-        return e;
-    }
-    if second {
-        if !sheet_written::as_implied(table, lay, written) {
-            return entry::refuse(10, lay);
+    match entry::enter_prepared(table, lay, work) {
+        Ok(e) => {
+            if second {
+                if !sheet_written::as_implied(table, lay, written) {
+                    return Err(SheetRefusal::WrittenDiffers);
+                }
+            }
+            Ok(e)
         }
+        Err(r) => Err(SheetRefusal::By(r)),
     }
-    e
 }
 
 // The verdict on every sheet that leads the reader to this state and these tables.
-pub fn judge(cur: Reading, table: &[u8], written: &[u8], work: &mut [u8]) -> Entered
+pub fn judge(
+    cur: Reading,
+    table: &[u8],
+    written: &[u8],
+    work: &mut [u8],
+) -> Result<Entered, SheetRefusal>
     requires { Streamed (open_form table_words 1536) (formed cur (words_of table.now) (words_of written.now)) × (word_count table.now ≡ table_words) × (word_count written.now ≡ 1536) × (max_work ≤ word_count work.old) }
     ensures { Judged cur table.now (words_of written.now) (words_of work.new) result }
 {
     let lay = sheet_job::fixed_layout(table);
-    let read = sheet_form::finish(cur);
-    match read {
-        Answer::Read => {
-            let second = sheet_form::is_second(cur);
-            judge_job(second, table, lay, written, work)
-        }
-        Answer::Malformed => entry::refuse(1, lay),
-        Answer::TooMany => entry::refuse(2, lay),
+    match sheet_form::finish(cur) {
+        Ok(()) => judge_job(sheet_form::is_second(cur), table, lay, written, work),
+        Err(SheetError::Malformed) => Err(SheetRefusal::By(Refusal::NotARecord)),
+        Err(SheetError::TooMany) => Err(SheetRefusal::By(Refusal::OverALimit)),
     }
 }

@@ -1,10 +1,10 @@
 -- Two lists of numbers compared place by place, from the front. Assumes nothing.
-use Prim.Native.Nat.{ℕ, ◌+◌, ◌≤◌, ◌<◌}
+use Prim.Native.Nat.{ℕ, ◌+◌, ◌<◌}
 use native.Mathlib.Numerals.{add-one}
 use mathlib.Core.Path.{◌≡◌, refl, sym, ◌∙◌}
-use mathlib.Core.Bool.{true, false}
+use mathlib.Core.Bool.{false}
 use mathlib.Core.List.{List}
-use lib.ListN.{length, get_or, drop, drop_of_length-le}
+use lib.ListN.{length, get_or, drop}
 use lib.Seq.{drop-cons}
 use borrow.Author.Tests.{eq-eqb, ne_eqb}
 use Rattle.definition.specs.Text.{same}
@@ -37,12 +37,3 @@ module _ {xs ys : List ℕ} {n i : ℕ} (a : Agree xs ys n i) where
     pub agree_stop : (x ≡ y → ⊥) → false ≡ same xs ys
     agree_stop e =
         sym (a.is ∙ rw (drop-cons xs i 0 in_x, drop-cons ys i 0 in_y, ne_eqb _ _ (λ z. e (ex ∙ z ∙ sym ey))))
-
-  pub agree_end : n ≤ i → true ≡ same xs ys
-  agree_end h = sym (a.is ∙ rw (drop_of_length-le xs {i = i} past_x, drop_of_length-le ys {i = i} past_y))
-    where
-      past_x : length xs ≤ i
-      past_x = rw a.long_x h
-
-      past_y : length ys ≤ i
-      past_y = rw a.long_y h

@@ -3,7 +3,7 @@ use Prim.Native.Nat.{ℕ, zero, suc, ◌+◌, ◌*◌, ◌≤◌, ◌<◌}
 use native.Mathlib.Omega.{arith}
 use native.Mathlib.Nat.{add-zero, zero-add}
 use mathlib.Core.Path.{◌≡◌, refl, sym, ap, ◌∙◌}
-use mathlib.Core.Bool.{true, false}
+use mathlib.Core.Bool.{false}
 use mathlib.Core.List.{List, [], ◌∷◌}
 use lib.ListN.{length, get_or, take}
 use lib.Seq.{length-take-le, get_or-take}
@@ -20,7 +20,7 @@ use Rattle.function.proofs.Rows.{row_starts, row_last}
 use Rattle.layout.specs.declared.Layout.{Layout}
 use Rattle.job.specs.Job.{raw_job}
 use Rattle.entry_function.proofs.Tables.{raw_blocks}
-use Rattle.sheet_written.proofs.Agree.{Agree, agree_start, agree_next, agree_stop, agree_end}
+use Rattle.sheet_written.proofs.Agree.{Agree, agree_start, agree_next, agree_stop}
 
 -- ---- the implied ones
 
@@ -97,9 +97,6 @@ module _ {X W : List ℕ} {lay : Layout} {i f : ℕ} (c : Comparing X W lay i f)
       first = omega (arith, c.first, row_starts W lay.blocks.at lay.blocks.n i h);
       agree = agree_next c.agree h x f written_at first_at q;
     }
-
-  pub firsts_end : lay.blocks.n ≤ i → true ≡ same (take lay.blocks.n X) (firsts_of W lay)
-  firsts_end h = agree_end c.agree h
 
   -- the sum with one more block is at most the number of all instructions
   module _ (h : i < lay.blocks.n) (y : ℕ) (r : y ≡ get_or W (lay.blocks.at + i * 2) 0) where

@@ -3,7 +3,7 @@ use Prim.Native.Nat.{ℕ, zero, suc, ◌+◌, ◌*◌, ◌≤◌, ◌<◌}
 use native.Mathlib.Omega.{arith}
 use native.Mathlib.Nat.{zero-add}
 use mathlib.Core.Path.{◌≡◌, refl, sym, ap, ◌∙◌}
-use mathlib.Core.Bool.{true, false}
+use mathlib.Core.Bool.{false}
 use mathlib.Core.List.{List, ◌∷◌, map}
 use lib.ListN.{length, get_or, take, drop, length-drop}
 use lib.Seq.{length-take-le, get_or-take, get_or-drop}
@@ -24,7 +24,7 @@ use Rattle.layout.specs.Layout.{seg_row, segment_of}
 use Rattle.job.specs.Job.{raw_job}
 use Rattle.entry_function.proofs.Tables.{raw_values, raw_segments}
 use Rattle.entry_segments.proofs.Tests.{seg_value}
-use Rattle.sheet_written.proofs.Agree.{Agree, agree_start, agree_next, agree_stop, agree_end}
+use Rattle.sheet_written.proofs.Agree.{Agree, agree_start, agree_next, agree_stop}
 
 -- ---- the implied ones
 
@@ -91,6 +91,3 @@ module _ {X W : List ℕ} {lay : Layout} {j : ℕ} (c : Comparing X W lay j) whe
 
     pub sets_next : x ≡ a.0 → Comparing X W lay (j + 1)
     sets_next n = record { agree = agree_next c.agree h x a.0 written_at set_at_lem n }
-
-  pub sets_end : lay.segments.n ≤ j → true ≡ same (take lay.segments.n (drop 512 X)) (sets_of W lay)
-  sets_end h = agree_end c.agree h

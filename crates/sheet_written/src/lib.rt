@@ -18,15 +18,12 @@ fn firsts_as_implied(job: &[u8], lay: Layout, written: &[u8]) -> bool
     ensures { result ≡ same (take lay.blocks.n (words_of written.now))
         (implied_firsts (raw_job (words_of job.now) lay)) }
 {
-    let n = lay.blocks.n as u32;
     let mut first: u32 = 0;
-    let mut i: u32 = 0;
-    while i < n {
+    for i in 0..lay.blocks.n as u32 {
         if words::word_at(written, i as usize) != first {
             return false;
         }
         first += function::count_at(job, lay.blocks.at, Block(i));
-        i += 1;
     }
     true
 }
@@ -37,28 +34,24 @@ fn sets_as_implied(job: &[u8], lay: Layout, written: &[u8]) -> bool
     ensures { result ≡ same (take lay.segments.n (drop 512 (words_of written.now)))
         (implied_sets (raw_job (words_of job.now) lay)) }
 {
-    let n = lay.segments.n;
-    let mut j: usize = 0;
-    while j < n {
+    for j in 0..lay.segments.n {
         let s = layout::seg_at(job, lay.segments.at + j * 5);
         let set = coalescing::set_for_value(job, lay.values.at, lay.values.n, s.value);
-        if words::word_at(written, 512 + j) != set.0 {
+        let leader = set.0;
+        if words::word_at(written, 512 + j) != leader {
             return false;
         }
-        j += 1;
     }
     true
 }
 
 // Whether no written field differs from the implied one, for a job that passed the entry tests.
+#[tactic(auto, unfolding(definition::specs::SheetForms::as_implied))]
 pub fn as_implied(job: &[u8], lay: Layout, written: &[u8]) -> bool
     requires { Passed job.now lay × (word_count written.now ≡ 1536) }
     ensures { result ≡ as_implied (take lay.blocks.n (words_of written.now))
         (take lay.segments.n (drop 512 (words_of written.now)))
         (raw_job (words_of job.now) lay) }
 {
-    if !firsts_as_implied(job, lay, written) {
-        return false;
-    }
-    sets_as_implied(job, lay, written)
+    firsts_as_implied(job, lay, written) && sets_as_implied(job, lay, written)
 }

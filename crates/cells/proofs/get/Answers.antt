@@ -5,6 +5,6 @@ use native.Mathlib.Omega.{arith}
 use mathlib.Core.Path.{sym}
 use Rattle.cells.proofs.get.Goals as goal
 
-pub returns : goal.returns
-returns c = let s = c.args.out.now in
+pub returns-else-at-out : goal.returns-else-at-out
+returns-else-at-out c = let s = c.args.out.now in
     sym (get_or-eq_default (words_of s) 0 (omega (arith, length_words s)))

@@ -5,6 +5,6 @@ use native.Mathlib.Omega.{arith}
 use mathlib.Core.Path.{sym}
 use Rattle.cells.proofs.put.Goals as goal
 
-pub returns : goal.returns
-returns c = let s = c.args.out.now in
+pub returns-else-at-out : goal.returns-else-at-out
+returns-else-at-out c = let s = c.args.out.now in
     sym (set_out (words_of s) c.args.at c.args.v (omega (arith, length_words s)))

@@ -1,13 +1,17 @@
-use Rattle.sheet.proofs.Ways.{run_more, run_done}
-use mathlib.Core.Path.{refl, sym, ◌∙◌}
-use borrow.Author.Rules.{rules}
+use mathlib.Core.Path.{◌≡◌, ◌∙◌}
+use mathlib.Core.List.{List}
+use Prim.Native.Nat.{ℕ, ◌+◌, ◌<◌}
+use native.Mathlib.Numerals.{add-one}
+use lib.ListN.{length, get_or, drop}
+use lib.Seq.{drop-cons}
+use Rattle.sheet_fields.specs.Fields.{Fed}
+use Rattle.sheet.specs.Machine.{push_of, run_of}
 use Rattle.sheet.proofs.feed.Goals as goal
 
-pub loop-i-init : goal.loop-i-init
-loop-i-init c = (refl, refl)
+-- one turn of the loop
+run_more : (f g : Fed) (bs : List ℕ) (i : ℕ) → i < length bs → g ≡ push_of f (get_or bs i 0) → run_of f (drop i bs) ≡ run_of g (drop (i + 1) bs)
+unfolding run_of
+run_more f g bs i h e = rw (add-one, e, drop-cons bs i 0)
 
-pub loop-i-preserved : goal.loop-i-preserved
-loop-i-preserved c = (search rules, c.loop-i.invariant.1 ∙ run_more _ _ _ _ c.loop-i-test.true c.push-at.ensures)
-
-pub returns : goal.returns
-returns c = sym (c.loop-i.invariant.1 ∙ run_done _ _ _ c.loop-i-test.false)
+pub loop-b-preserved : goal.loop-b-preserved
+loop-b-preserved c = c.loop-b.invariant ∙ run_more _ _ _ _ c.loop-b-test.true c.push-at.ensures

@@ -1,14 +1,9 @@
 use mathlib.Core.Path.{◌≡◌}
-use Prim.Native.Nat.{◌-◌}
-use lib.ListN.{length, drop}
+use lib.ListN.{drop}
 use Rattle.words.specs.Words.{words_of}
 use Rattle.sheet_form.specs.Front.{formed, run_form}
 use Rattle.sheet_form.proofs.feed.Given as goal
 
 abbrev pub invariant-loop-i : goal.invariant-loop-i
-invariant-loop-i l = (length l.table ≡ length l.initial.table) × (length l.written ≡ length l.initial.written)
-    × (run_form (formed l.initial.at (words_of l.initial.table) (words_of l.initial.written)) (drop l.initial.i l.part)
-    ≡ run_form (formed l.at (words_of l.table) (words_of l.written)) (drop l.i l.part))
-
-abbrev pub decreases-loop-i : goal.decreases-loop-i
-decreases-loop-i l = length l.part - l.i
+invariant-loop-i l = run_form (formed l.initial.at (words_of l.initial.table) (words_of l.initial.written)) l.part
+    ≡ run_form (formed l.at (words_of l.table) (words_of l.written)) (drop l.i l.part)

@@ -1,27 +1,27 @@
+use mathlib.Core.Path.{ap, ◌∙◌}
+use Rattle.std.specs.Prelude.{Err}
 use Rattle.sheet_verdict.proofs.Ways.{shaped_read, judged_malformed, judged_crowded, judged_read}
 use Rattle.sheet_verdict.proofs.judge.Goals as goal
 
 pub judge_job-requires : goal.judge_job-requires
 judge_job-requires c = let p = c.requires in (
-  shaped_read _ _ _ p.0 p.1 p.2 _ c.finish-read.ensures
-      c.in-Read.is _
+  shaped_read _ _ _ p.0 p.1 p.2 _ c.finish.ensures
+      c.in-Ok.is _
       c.fixed_layout-lay.ensures,
   p.2,
   p.3,
 )
 
-pub returns-in-Read : goal.returns-in-Read
-returns-in-Read c = let p = c.requires in
-    judged_read _ _ _ _ p.1 p.2 _ c.finish-read.ensures c.in-Read.is _
-    c.is_second-second.ensures _ c.fixed_layout-lay.ensures _
+pub returns-in-Ok : goal.returns-in-Ok
+returns-in-Ok c = let p = c.requires in
+    judged_read _ _ _ _ p.1 p.2 _ c.finish.ensures c.in-Ok.is _
+    c.is_second.ensures _ c.fixed_layout-lay.ensures _
     c.judge_job.ensures
 
-pub returns-in-Malformed : goal.returns-in-Malformed
-returns-in-Malformed c = let p = c.requires in
-    judged_malformed _ _ _ _ p.1 p.2 _ c.finish-read.ensures c.in-Malformed.is _ _
-    c.refuse.ensures
+pub returns-in-Err-Malformed : goal.returns-in-Err-Malformed
+returns-in-Err-Malformed c = let p = c.requires in
+    judged_malformed _ _ _ _ p.1 p.2 _ c.finish.ensures (c.in-Err-Malformed.is ∙ ap Err c.in-Err-Malformed.field-0-is)
 
-pub returns-in-TooMany : goal.returns-in-TooMany
-returns-in-TooMany c = let p = c.requires in
-    judged_crowded _ _ _ _ p.1 p.2 _ c.finish-read.ensures c.in-TooMany.is _ _
-    c.refuse-in-TooMany.ensures
+pub returns-in-Err-TooMany : goal.returns-in-Err-TooMany
+returns-in-Err-TooMany c = let p = c.requires in
+    judged_crowded _ _ _ _ p.1 p.2 _ c.finish.ensures (c.in-Err-TooMany.is ∙ ap Err c.in-Err-TooMany.field-0-is)

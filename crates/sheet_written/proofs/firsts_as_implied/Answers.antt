@@ -1,6 +1,5 @@
 use native.Mathlib.Omega.{arith}
-use Rattle.sheet_written.proofs.Firsts.{firsts_start, firsts_stop, firsts_next}
-use Rattle.sheet_written.proofs.Firsts.{firsts_end, firsts_few}
+use Rattle.sheet_written.proofs.Firsts.{firsts_start, firsts_stop, firsts_next, firsts_few}
 use Rattle.sheet_written.proofs.firsts_as_implied.Goals as goal
 
 pub loop-i-init : goal.loop-i-init
@@ -14,6 +13,3 @@ overflow_add-first c = omega (arith, firsts_few c.loop-i.invariant (omega arith)
 
 pub loop-i-preserved : goal.loop-i-preserved
 loop-i-preserved c = firsts_next c.loop-i.invariant (omega arith) _ c.word_at.ensures c.if-word_at-first.false _ c.count_at-first.ensures
-
-pub returns : goal.returns
-returns c = firsts_end c.loop-i.invariant (omega arith)

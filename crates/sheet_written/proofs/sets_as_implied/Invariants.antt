@@ -1,10 +1,6 @@
-use Prim.Native.Nat.{◌-◌}
 use Rattle.words.specs.Words.{words_of}
 use Rattle.sheet_written.proofs.Sets.{Comparing}
 use Rattle.sheet_written.proofs.sets_as_implied.Given as goal
 
 abbrev pub invariant-loop-j : goal.invariant-loop-j
 invariant-loop-j l = Comparing (words_of l.written) (words_of l.job) l.lay l.j
-
-abbrev pub decreases-loop-j : goal.decreases-loop-j
-decreases-loop-j l = l.n - l.j
