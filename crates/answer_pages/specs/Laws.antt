@@ -14,9 +14,9 @@ use Rattle.definition.proofs.Forms.{same_text}
 use Rattle.virt_regs.specs.declared.OutLayout.{OutLayout}
 use Rattle.virt_regs.specs.Encoding.{Holds}
 use Rattle.register_sheet.specs.Typed.{refused_line}
-use Rattle.lines.specs.Wrote.{Wrote}
 use Rattle.sheet_output.specs.declared.Cursor.{Cursor}
-use Rattle.sheet_output.specs.declared.Page.{Page}
+use Rattle.lines.specs.declared.Page.{Page}
+use Rattle.lines.specs.Wrote.{Wrote}
 use Rattle.sheet_output.specs.Left.{at_start, rows_left}
 use Rattle.sheet_output.specs.Rows.{behind_end}
 use Rattle.sheet_output.specs.Pages.{Shows, Filled}
@@ -44,11 +44,11 @@ left_end (refused' f) c e = ap (λ (b : Bool). cond b [] (answer_text (refused' 
 pub printing_start : (n : ℕ) (ol : OutLayout) (o : SheetOut Result) (r : BuildEnd) (x : List ℕ) → SheetAnswered n ol o r x → Printing ol o r x at_start
 printing_start n ol o r x a = record { end = a.end; holds = a.holds; stands = λ res e. start_stands (state_of res) }
 
-pub prints_next : (ol : OutLayout) (r : BuildEnd) (x : List ℕ) (c : Cursor) (p : Page) (B : List ℕ) → Prints ol r x c → Turned ol r x c p B → Prints ol r x p.cur
+pub prints_next : (ol : OutLayout) (r : BuildEnd) (x : List ℕ) (c : Cursor) (p : Page Cursor) (B : List ℕ) → Prints ol r x c → Turned ol r x c p B → Prints ol r x p.cur
 prints_next ol r x c p B h t = record { few_regs = h.few_regs; few_groups = h.few_groups; answer = h.answer; printing = (t.paged h.answer h.printing).printing }
 
 -- page after page: the pages `out` so far and what is left are the sheet, and at the end the pages are
-pub pages_next : (ol : OutLayout) (o : SheetOut Result) (r : BuildEnd) (x : List ℕ) (out : List ℕ) (c : Cursor) (p : Page) (B : List ℕ) → out ++ left_of o c ≡ answer_text o → Paged ol o r x c p B
+pub pages_next : (ol : OutLayout) (o : SheetOut Result) (r : BuildEnd) (x : List ℕ) (out : List ℕ) (c : Cursor) (p : Page Cursor) (B : List ℕ) → out ++ left_of o c ≡ answer_text o → Paged ol o r x c p B
     → (out ++ take p.n B) ++ left_of o p.cur ≡ answer_text o
 pages_next ol o r x out c p B e g = append_assoc out (take p.n B) (left_of o p.cur) ∙ ap (λ (t : List ℕ). out ++ t) (sym g.text) ∙ e
 
@@ -123,7 +123,7 @@ fill_asked ol r x c p z =
       stands = g.stands d.res d.is;
     }
 
-pub fill_turned : (ol : OutLayout) (r : BuildEnd) (x : List ℕ) (c : Cursor) (p : Page) (B : List ℕ) → r.number ≡ 0 → 256 ≤ length B → Filled ol (word_count x) (words_of x) r.registers r.groups c p B
+pub fill_turned : (ol : OutLayout) (r : BuildEnd) (x : List ℕ) (c : Cursor) (p : Page Cursor) (B : List ℕ) → r.number ≡ 0 → 256 ≤ length B → Filled ol (word_count x) (words_of x) r.registers r.groups c p B
     → Turned ol r x c p B
 unfolding left_of
 fill_turned ol r x c p B z l f =
@@ -146,7 +146,7 @@ fill_turned ol r x c p B z l f =
 
 -- ---- the page of a refusal
 
-refused_text : (f : SheetRefusal) (c : Cursor) (p : Page) (B : List ℕ) → Refuses (sheet_number_of f) c p B → left_of (refused' f) c ≡ take p.n B ++ left_of (refused' f) p.cur
+refused_text : (f : SheetRefusal) (c : Cursor) (p : Page Cursor) (B : List ℕ) → Refuses (sheet_number_of f) c p B → left_of (refused' f) c ≡ take p.n B ++ left_of (refused' f) p.cur
 unfolding left_of answer_text refused_line
 refused_text f c p B h =
     sym h.text ∙ sym (append-nil (take p.n B)) ∙ ap (λ (d : Cursor). take p.n B ++ left_of (refused' f) d) (sym h.behind)
@@ -154,7 +154,7 @@ refused_text f c p B h =
 one_less : (ol : OutLayout) (a b : ℕ) (c : Cursor) → c.ended ≡ false → rows_left ol a b (behind_end c) < rows_left ol a b c
 one_less ol a b c e = rw e (omega arith)
 
-pub refused_turned : (ol : OutLayout) (r : BuildEnd) (x : List ℕ) (c : Cursor) (p : Page) (B : List ℕ) → (r.number ≡ 0 → ⊥) → Refuses r.number c p B → Turned ol r x c p B
+pub refused_turned : (ol : OutLayout) (r : BuildEnd) (x : List ℕ) (c : Cursor) (p : Page Cursor) (B : List ℕ) → (r.number ≡ 0 → ⊥) → Refuses r.number c p B → Turned ol r x c p B
 unfolding sheet_end
 refused_turned ol r x c p B nz h =
     record {
@@ -172,10 +172,10 @@ refused_turned ol r x c p B nz h =
     }
 
 -- its line
-pub refuses_line : (k : ℕ) (c : Cursor) (p : Page) (X B : List ℕ) → c.ended ≡ false → p.cur ≡ behind_end c → 256 ≤ length B → Wrote (256) 0 X p.n B (refused_line k) → Refuses k c p B
+pub refuses_line : (k : ℕ) (c : Cursor) (p : Page Cursor) (X B : List ℕ) → c.ended ≡ false → p.cur ≡ behind_end c → 256 ≤ length B → Wrote (256) 0 X p.n B (refused_line k) → Refuses k c p B
 refuses_line k c p X B e b l w =
     record { behind = b; within = omega (arith, w.most); text = w.is ∙ sym (ap (λ (t : Bool). cond t [] (refused_line k)) e) }
 
-pub refuses_none : (k : ℕ) (c : Cursor) (p : Page) (B : List ℕ) → c.ended ≡ true → p.cur ≡ behind_end c → p.n ≡ 0 → Refuses k c p B
+pub refuses_none : (k : ℕ) (c : Cursor) (p : Page Cursor) (B : List ℕ) → c.ended ≡ true → p.cur ≡ behind_end c → p.n ≡ 0 → Refuses k c p B
 refuses_none k c p B e b n =
     record { behind = b; within = omega (arith, n); text = ap (λ (m : ℕ). take m B) n ∙ sym (ap (λ (t : Bool). cond t [] (refused_line k)) e) }

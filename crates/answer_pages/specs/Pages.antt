@@ -7,7 +7,7 @@ use Rattle.virt_regs.specs.declared.OutLayout.{OutLayout}
 use Rattle.virt_regs.specs.Encoding.{Holds}
 use Rattle.register_sheet.specs.Typed.{refused_line}
 use Rattle.sheet_output.specs.declared.Cursor.{Cursor}
-use Rattle.sheet_output.specs.declared.Page.{Page}
+use Rattle.lines.specs.declared.Page.{Page}
 use Rattle.sheet_output.specs.Left.{text_left, Stands, rows_left}
 use Rattle.sheet_output.specs.Rows.{behind_end}
 use Rattle.build_answer.specs.declared.BuildEnd.{BuildEnd}
@@ -33,19 +33,19 @@ pub record Prints (ol : OutLayout) (r : BuildEnd) (x : List ℕ) (c : Cursor) : 
   pub printing : Printing ol answer r x c
 
 -- a page p of o's sheet, in the first bytes of B
-pub record Paged (ol : OutLayout) (o : SheetOut Result) (r : BuildEnd) (x : List ℕ) (c : Cursor) (p : Page) (B : List ℕ) : Type 0 where
+pub record Paged (ol : OutLayout) (o : SheetOut Result) (r : BuildEnd) (x : List ℕ) (c : Cursor) (p : Page Cursor) (B : List ℕ) : Type 0 where
   pub printing : Printing ol o r x p.cur
   pub text : left_of o c ≡ take p.n B ++ left_of o p.cur
 
 -- it lies in B, and is one of every such answer; and as long as the end was not printed, fewer lines are left behind it
-pub record Turned (ol : OutLayout) (r : BuildEnd) (x : List ℕ) (c : Cursor) (p : Page) (B : List ℕ) : Type 0 where
+pub record Turned (ol : OutLayout) (r : BuildEnd) (x : List ℕ) (c : Cursor) (p : Page Cursor) (B : List ℕ) : Type 0 where
   pub within : p.n ≤ length B
   pub counts : p.n ≡ length (take p.n B)
   pub fewer : c.ended ≡ false → rows_left ol r.registers r.groups p.cur < rows_left ol r.registers r.groups c
   pub paged : (o : SheetOut Result) → Printing ol o r x c → Paged ol o r x c p B
 
 -- the page of a refusal by number k
-pub record Refuses (k : ℕ) (c : Cursor) (p : Page) (B : List ℕ) : Type 0 where
+pub record Refuses (k : ℕ) (c : Cursor) (p : Page Cursor) (B : List ℕ) : Type 0 where
   pub behind : p.cur ≡ behind_end c
   pub within : p.n ≤ length B
   pub text : take p.n B ≡ cond c.ended [] (refused_line k)

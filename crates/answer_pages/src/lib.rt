@@ -6,39 +6,33 @@ ghost use Rattle.sheet_output.specs.Rows.{behind_end};
 ghost use Rattle.answer_pages.specs.Pages.{Refuses, Prints, Turned};
 
 use build_answer::BuildEnd;
-use sheet_output::{Cursor, Page};
+use lines::Page;
+use sheet_output::Cursor;
 use virt_regs::OutLayout;
 
-// Behind the last line.
-fn behind_end(cur: Cursor) -> Cursor
-    ensures { result ≡ behind_end cur }
-{
-    Cursor {
-        regs: cur.regs,
-        segs: cur.segs,
-        segs_end: cur.segs_end,
-        uses: cur.uses,
-        uses_end: cur.uses_end,
-        groups: cur.groups,
-        ended: true,
-    }
-}
-
-// The page of a refusal: its line.
-fn refused_page(number: u32, cur: Cursor, buf: &mut [u8]) -> Page
+// The page of a refusal: its line, where the end is not printed.
+fn refused_page(number: u32, cur: Cursor, buf: &mut [u8]) -> Page<Cursor>
     requires { 256 ≤ length buf.old }
     ensures { Refuses number cur result buf.new }
 {
-    let c = behind_end(cur);
     if cur.ended {
-        return Page { cur: c, n: 0 };
+        return Page { cur, n: 0 };
     }
     let n = register_sheet::put_refused(buf, 0, number);
-    Page { cur: c, n }
+    Page {
+        cur: Cursor { ended: true, ..cur },
+        n,
+    }
 }
 
-// The next page of the sheet of an answer that stands in the tables.
-pub fn page(end: BuildEnd, tables: &[u8], ol: OutLayout, cur: Cursor, buf: &mut [u8]) -> Page
+// The next page of the sheet of an answer that stands in the tables. Its number is 0 or a refusal's: C reads it so.
+pub fn page(
+    end: BuildEnd,
+    tables: &[u8],
+    ol: OutLayout,
+    cur: Cursor,
+    buf: &mut [u8],
+) -> Page<Cursor>
     requires { Prints ol end tables.now cur × (256 ≤ length buf.old) }
     ensures { Turned ol end tables.now cur result buf.new }
 {

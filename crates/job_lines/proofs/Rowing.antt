@@ -2,39 +2,16 @@
 use mathlib.Core.Path.{◌≡◌, refl, sym, ap, ◌∙◌}
 use mathlib.Core.Bool.{Bool, true, false}
 use mathlib.Core.List.{List, [], ◌∷◌, ◌++◌, append_assoc, append-nil}
-use Prim.Native.Nat.{ℕ, zero, suc, ◌+◌, ◌-◌, ◌*◌, ◌≤◌, ◌<◌}
+use Prim.Native.Nat.{ℕ, ◌+◌, ◌-◌, ◌*◌, ◌≤◌, ◌<◌}
 use native.Mathlib.Omega.{arith}
 use native.Mathlib.Numerals.{add-one}
 use lib.ListN.{length, get_or, take, drop, length-drop}
+use Rattle.std.specs.Prelude.{Option, Some, None}
 use lib.Seq.{take-suc, length-take-le, get_or-drop}
 use Rattle.definition.specs.Text.{decimal, eight_digits}
-use Rattle.definition.specs.JobSheet.{Word, opt, bank, class, reg, block, value, vgroup, operand, hint, seg, use', end}
-use Rattle.definition.specs.JobSheet.{spelling}
 use Rattle.lines.specs.Wrote.{Wrote}
 use Rattle.lines.specs.Laws.{then, as_text}
-use Rattle.job_lines.specs.Rows.{word_text, bits_at, value_text, row_fields, tabs, row_text, more_text}
-
--- none of the first numbers
-abbrev Past : ℕ → ℕ → Type 0
-Past key zero = Unit {0}
-Past key (suc n) = Past key n × (key ≡ n → ⊥)
-
-pub past : (key n : ℕ) → Past key n → n ≤ key
-past key zero p = omega arith
-past key (suc n) p = omega (arith, past key n p.0, p.1)
-
--- what stands last, and instead of what is behind it
-last : (ws : List Word) (w : Word) (k : ℕ) → length ws ≤ k → get_or (ws ++ (w ∷ [])) k w ≡ w
-last [] w zero h = refl
-last [] w (suc k) h = refl
-last (v ∷ ws) w zero h = absurd (omega (arith, h))
-last (v ∷ ws) w (suc k) h = last ws w k (omega (arith, h))
-
-pub no_kind : (key : ℕ) → 11 ≤ key → word_text key ≡ spelling end
-unfolding word_text
-no_kind key h =
-    ap spelling
-    (last (opt ∷ bank ∷ class ∷ reg ∷ block ∷ value ∷ vgroup ∷ operand ∷ hint ∷ seg ∷ use' ∷ []) end key h)
+use Rattle.job_lines.specs.Rows.{bits_at, value_text, row_fields, tabs, row_text, more_text}
 
 pub value_bits : (t : Bool) (v : ℕ) → t ≡ true → 9 ∷ eight_digits v ≡ 9 ∷ value_text t v
 unfolding value_text
@@ -44,14 +21,14 @@ pub value_number : (t : Bool) (v : ℕ) → t ≡ false → 9 ∷ decimal v ≡ 
 unfolding value_text
 value_number t v e = ap (λ (x : Bool). 9 ∷ value_text x v) (sym e)
 
-pub more_field : (t : Bool) (k : ℕ) → t ≡ true → (9 ∷ decimal k) ++ (10 ∷ []) ≡ more_text t k
+pub more_field : (more : Option ℕ) (k : ℕ) → more ≡ Some k → (9 ∷ decimal k) ++ (10 ∷ []) ≡ more_text more
 unfolding more_text
-more_field t k e =
-    ap (λ (l : List ℕ). 9 ∷ (l ++ (10 ∷ []))) (sym (append-nil (decimal k))) ∙ ap (λ (x : Bool). more_text x k) (sym e)
+more_field more k e =
+    ap (λ (l : List ℕ). 9 ∷ (l ++ (10 ∷ []))) (sym (append-nil (decimal k))) ∙ ap more_text (sym e)
 
-pub more_none : (t : Bool) (k : ℕ) → t ≡ false → 10 ∷ [] ≡ more_text t k
+pub more_none : (more : Option ℕ) → more ≡ None → 10 ∷ [] ≡ more_text more
 unfolding more_text
-more_none t k e = ap (λ (x : Bool). more_text x k) (sym e)
+more_none more e = ap more_text (sym e)
 
 -- one field more
 fields_more : (key j : ℕ) (vs : List ℕ) (v : ℕ)

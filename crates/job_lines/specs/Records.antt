@@ -1,5 +1,5 @@
 -- The line that is written of a row is the line of its record, in either form. Assumes nothing.
-use Rattle.std.specs.Prelude.{◌≡◌, refl, Bool, true, false, List, [], ◌∷◌, ◌++◌, map, ℕ, suc, ◌+◌, length, get_or, replicate}
+use Rattle.std.specs.Prelude.{◌≡◌, refl, Bool, true, false, List, [], ◌∷◌, ◌++◌, map, ℕ, suc, ◌+◌, length, get_or, replicate, Some, None}
 use Rattle.std.proofs.Common.{sym, ap, subst, ◌∙◌, append_assoc, append-nil, arith}
 use Rattle.std.proofs.Math.Option.{Option, none, some, some-injective}
 use Rattle.std.proofs.lemmas.List.{length-replicate}
@@ -27,21 +27,21 @@ Long seg ns = length ns ≡ 4
 Long use' ns = length ns ≡ 2 + kind_fields (get_or ns 0 0)
 Long end ns = length ns ≡ 0
 
--- whether a record has a written field in a form
-abbrev pub has_more : Bool → Word → Bool
-has_more false w = false
-has_more true opt = false
-has_more true bank = false
-has_more true class = false
-has_more true reg = false
-has_more true block = true
-has_more true value = false
-has_more true vgroup = false
-has_more true operand = false
-has_more true hint = false
-has_more true seg = true
-has_more true use' = false
-has_more true end = false
+-- the field k, where a record has a written field in a form
+abbrev pub written : Bool → Word → ℕ → Rattle.std.specs.Prelude.Option ℕ
+written false w k = None
+written true opt k = None
+written true bank k = None
+written true class k = None
+written true reg k = None
+written true block k = Some k
+written true value k = None
+written true vgroup k = None
+written true operand k = None
+written true hint k = None
+written true seg k = Some k
+written true use' k = None
+written true end k = None
 
 -- a record of the first form as the form has it, with the field k
 abbrev pub fields_in : Bool → Word → ℕ → List ℕ → List ℕ
@@ -71,9 +71,9 @@ tabs_tabbed [] gs = refl
 tabs_tabbed (f ∷ fs) gs =
     ap (λ (l : List ℕ). 9 ∷ l) (append_assoc f (tabs fs) (tabbed gs) ∙ ap (λ (l : List ℕ). f ++ l) (tabs_tabbed fs gs))
 
-more_tabbed : (more : Bool) (k : ℕ) → more_text more k ≡ tabbed (more_fields more k)
+more_tabbed : (more : Rattle.std.specs.Prelude.Option ℕ) → more_text more ≡ tabbed (more_fields more)
 unfolding more_text
-more_tabbed more k = tabs_tabbed (more_fields more k) [] ∙ ap tabbed (append-nil (more_fields more k))
+more_tabbed more = tabs_tabbed (more_fields more) [] ∙ ap tabbed (append-nil (more_fields more))
 
 -- the forms of fields, the first of which is field j of a kind
 abbrev is_bits : Form → Bool
@@ -144,7 +144,7 @@ plain : (w : Word) (ns : List ℕ) → Long w ns → row_fields (word_number w) 
 plain w ns h = append-nil (row_fields (word_number w) 0 ns) ∙ first_fields w ns h
 
 form_fields : (second : Bool) (w : Word) (ns : List ℕ) (k : ℕ) → Long w ns
-    → row_fields (word_number w) 0 ns ++ more_fields (has_more second w) k ≡ texts_in second w (fields_in second w k ns)
+    → row_fields (word_number w) 0 ns ++ more_fields (written second w k) ≡ texts_in second w (fields_in second w k ns)
 unfolding first_texts second_texts
 form_fields false w ns k h = plain w ns h
 form_fields true opt ns k h = plain opt ns h
@@ -161,12 +161,12 @@ form_fields true use' ns k h = plain use' ns h
 form_fields true end ns k h = plain end ns h
 
 pub line_record : (second : Bool) (w : Word) (ns : List ℕ) (k : ℕ) → Long w ns
-    → line_text (word_number w) ns (has_more second w) k ≡ record_line second (rec w (fields_in second w k ns))
+    → line_text (word_number w) ns (written second w k) ≡ record_line second (rec w (fields_in second w k ns))
 unfolding line_text row_text record_line
 line_record second w ns k h =
-    ap (λ (l : List ℕ). l ++ (tabs fs ++ more_text (has_more second w) k)) (word_spelling w)
-    ∙ ap (λ (l : List ℕ). spelling w ++ (tabs fs ++ l)) (more_tabbed (has_more second w) k)
-    ∙ ap (λ (l : List ℕ). spelling w ++ l) (tabs_tabbed fs (more_fields (has_more second w) k))
+    ap (λ (l : List ℕ). l ++ (tabs fs ++ more_text (written second w k))) (word_spelling w)
+    ∙ ap (λ (l : List ℕ). spelling w ++ (tabs fs ++ l)) (more_tabbed (written second w k))
+    ∙ ap (λ (l : List ℕ). spelling w ++ l) (tabs_tabbed fs (more_fields (written second w k)))
     ∙ ap (λ (gs : List (List ℕ)). spelling w ++ tabbed gs) (form_fields second w ns k h)
   where
     fs : List (List ℕ)

@@ -1,5 +1,5 @@
 -- The text of a record by the number of its kind and the words of its row. Assumes nothing.
-use Rattle.std.specs.Prelude.{Bool, true, false, cond, List, [], ◌∷◌, ◌++◌, ℕ, ◌+◌, ltb, eqb, get_or}
+use Rattle.std.specs.Prelude.{Bool, true, false, cond, List, [], ◌∷◌, ◌++◌, ℕ, ◌+◌, ltb, eqb, get_or, Option, Some, None}
 use Rattle.definition.specs.Text.{decimal, eight_digits}
 use Rattle.definition.specs.JobSheet.{end, spelling, all_words}
 
@@ -31,13 +31,13 @@ unfolding row_fields
 row_text key vs = tabs (row_fields key 0 vs)
 
 -- one field more, or none, and the line's end
-abbrev pub more_fields : Bool → ℕ → List (List ℕ)
-more_fields true k = decimal k ∷ []
-more_fields false k = []
+abbrev pub more_fields : Option ℕ → List (List ℕ)
+more_fields (Some k) = decimal k ∷ []
+more_fields None = []
 
-unfoldable pub more_text : Bool → ℕ → List ℕ
-more_text more k = tabs (more_fields more k) ++ (10 ∷ [])
+unfoldable pub more_text : Option ℕ → List ℕ
+more_text more = tabs (more_fields more) ++ (10 ∷ [])
 
-unfoldable pub line_text : ℕ → List ℕ → Bool → ℕ → List ℕ
+unfoldable pub line_text : ℕ → List ℕ → Option ℕ → List ℕ
 unfolding word_text row_text more_text
-line_text key vs more k = word_text key ++ (row_text key vs ++ more_text more k)
+line_text key vs more = word_text key ++ (row_text key vs ++ more_text more)

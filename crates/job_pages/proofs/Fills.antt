@@ -1,5 +1,5 @@
 -- A page line by line. Assumes nothing.
-use mathlib.Core.Path.{◌≡◌, refl, sym, ap, subst, ◌∙◌}
+use mathlib.Core.Path.{◌≡◌, sym, ap, subst, ◌∙◌}
 use mathlib.Core.Logic.{◌⊎◌, inl, inr}
 use mathlib.Core.Bool.{Bool, true, false, false≢true}
 use mathlib.Core.List.{List, []}
@@ -10,7 +10,7 @@ use lib.ListN.{length}
 use lib.Seq.{length-take-le}
 use Rattle.words.specs.Words.{words_of}
 use Rattle.job_pages.specs.declared.Cursor.{Cursor}
-use Rattle.job_pages.specs.declared.Put.{Put}
+use Rattle.lines.specs.declared.Page.{Page}
 use Rattle.job_pages.specs.Cursors.{steps_left}
 use Rattle.job_pages.specs.Pages.{Shows, Goes, Stepped, Filled}
 
@@ -18,36 +18,24 @@ use Rattle.job_pages.specs.Pages.{Shows, Goes, Stepped, Filled}
 abbrev Nearer : Cursor → Cursor → ℕ → Type 0
 Nearer c₀ c at = ((c ≡ c₀) × (at ≡ 0)) ⊎ (steps_left c < steps_left c₀)
 
--- the first `at` of the n bytes B and what is left at the cursor c are what was left at c₀
-pub record Filling (second : Bool) (x : List ℕ) (c₀ : Cursor) (n : ℕ) (c : Cursor) (at : ℕ) (B : List ℕ) : Type 0 where
-  pub long : length B ≡ n
-  pub within : at ≤ n
+-- the first `at` bytes of B and what is left at the cursor c are what was left at c₀
+pub record Filling (second : Bool) (x : List ℕ) (c₀ c : Cursor) (at : ℕ) (B : List ℕ) : Type 0 where
+  pub within : at ≤ length B
   pub shows : Shows x c
   pub nearer : Nearer c₀ c at
   pub goes : Goes second (words_of x) c₀ 0 [] c at B
-
-pub start : {second : Bool} {x : List ℕ} {c : Cursor} {n : ℕ} {B : List ℕ} → Shows x c → length B ≡ n
-    → Filling second x c n c 0 B
-start s e = record {
-  long = e;
-  within = omega arith;
-  shows = s;
-  nearer = inl (refl, refl);
-  goes = λ job rs l. record { records = rs; left = l; text = refl };
-}
 
 less : (c₀ c d : Cursor) (at : ℕ) → Nearer c₀ c at → steps_left d < steps_left c → steps_left d < steps_left c₀
 less c₀ c d at (inl e) l = subst (λ (x : Cursor). steps_left d < steps_left x) e.0 l
 less c₀ c d at (inr k) l = omega (arith, k, l)
 
-module _ {second : Bool} {x : List ℕ} {c₀ c : Cursor} {n at : ℕ} {B : List ℕ} (f : Filling second x c₀ n c at B) where
-  pub next : {B' : List ℕ} {r : Put} → Stepped second (words_of x) c at B r B' → at + 256 ≤ n → length B' ≡ length B
-      → Filling second x c₀ n r.cur r.at B'
+module _ {second : Bool} {x : List ℕ} {c₀ c : Cursor} {at : ℕ} {B : List ℕ} (f : Filling second x c₀ c at B) where
+  pub next : {B' : List ℕ} {r : Page Cursor} → Stepped second (words_of x) c at B r B' → at + 256 ≤ length B → length B' ≡ length B
+      → Filling second x c₀ r.cur r.n B'
   next {r = r} s l e =
       let w = s.goes f.shows.job f.shows.records f.shows.left in
       record {
-        long = e ∙ f.long;
-        within = omega (arith, s.most, l);
+        within = omega (arith, s.most, l, e);
         shows = record { long = f.shows.long; job = f.shows.job; records = w.records; left = w.left };
         nearer = inr (less c₀ c r.cur at f.nearer s.fewer);
         goes = λ job rs k.
@@ -59,8 +47,8 @@ module _ {second : Bool} {x : List ℕ} {c₀ c : Cursor} {n at : ℕ} {B : List
   filled : (eqb c₀.key 12 ≡ false → 256 ≤ length B → steps_left c < steps_left c₀)
       → Filled second x c₀ (record { cur = c; n = at }) B
   filled l = record {
-    within = omega (arith, f.long, f.within);
-    counts = sym (length-take-le at B (omega (arith, f.long, f.within)));
+    within = f.within;
+    counts = sym (length-take-le at B f.within);
     shows = f.shows;
     fewer = l;
     paged = λ job rs k.
@@ -75,9 +63,9 @@ module _ {second : Bool} {x : List ℕ} {c₀ c : Cursor} {n at : ℕ} {B : List
       go (inl q) o = absurd (false≢true (sym o ∙ sym (ap (λ (d : Cursor). eqb d.key 12) q.0) ∙ e))
       go (inr k) o = k
 
-  pub at_room : n < at + 256 → Filled second x c₀ (record { cur = c; n = at }) B
+  pub at_room : length B < at + 256 → Filled second x c₀ (record { cur = c; n = at }) B
   at_room h = filled (λ o l. go f.nearer l)
     where
       go : Nearer c₀ c at → 256 ≤ length B → steps_left c < steps_left c₀
-      go (inl q) l = absurd (omega (arith, q.1, f.long, l, h))
+      go (inl q) l = absurd (omega (arith, q.1, l, h))
       go (inr k) l = k

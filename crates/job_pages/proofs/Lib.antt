@@ -1,3 +1,2 @@
-pub mod Ways
 pub mod Asked
 pub mod Fills

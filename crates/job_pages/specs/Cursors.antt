@@ -1,5 +1,5 @@
 -- The cursor in a table of job records: what it stands at, and where it goes. Assumes nothing.
-use Rattle.std.specs.Prelude.{Bool, true, cond, ◌&&◌, ◌||◌, List, [], ℕ, ◌+◌, ◌-◌, ◌*◌, ltb, eqb, get_or}
+use Rattle.std.specs.Prelude.{Bool, true, cond, ◌||◌, List, [], ℕ, ◌+◌, ◌-◌, ◌*◌, ltb, eqb, get_or, Option, Some, None}
 use Rattle.definition.specs.Types.{Job, val}
 use Rattle.definition.specs.RegInfo.{set_of}
 use Rattle.definition.specs.SheetForms.{form_line}
@@ -49,13 +49,11 @@ field_count T key w =
 unfoldable pub first_field : ℕ → ℕ → ℕ
 first_field key w = cond (eqb key 6) (w + 1) w
 
--- whether the second form writes a field behind the records of a kind, and that field
-unfoldable pub has_more_by : Bool → ℕ → Bool
-has_more_by second key = second && (eqb key 4 || eqb key 9)
-
-unfoldable pub implied_by : List ℕ → Job → Cursor → ℕ → ℕ
-implied_by T job c w =
-    cond (eqb c.key 4) c.insts (cond (eqb c.key 9) (set_of job (val (get_or T w 0))).0 0)
+-- the field that the second form has behind the record whose row begins at word w
+unfoldable pub written_by : Bool → List ℕ → Job → Cursor → ℕ → Option ℕ
+written_by second T job c w =
+    cond second
+    (cond (eqb c.key 4) (Some c.insts) (cond (eqb c.key 9) (Some (set_of job (val (get_or T w 0))).0) None)) None
 
 -- the line of the form, before opt in the second form
 unfoldable pub front_text : Bool → ℕ → List ℕ

@@ -1,5 +1,5 @@
 -- The line of a record from its row, and a step of either kind. Assumes nothing.
-use Rattle.std.specs.Prelude.{◌≡◌, Bool, ℕ, ◌+◌, ◌≤◌, ◌<◌, ltb, drop}
+use Rattle.std.specs.Prelude.{◌≡◌, Bool, ℕ, ◌+◌, ◌≤◌, ◌<◌, ltb, drop, Option, Some}
 use Rattle.std.proofs.Math.Path.{refl, sym, ap, subst}
 use Rattle.std.proofs.Common.{◌∙◌, inl, inr}
 use Rattle.std.proofs.Math.Bool.{true, false, cond}
@@ -27,10 +27,10 @@ use Rattle.sheet_job.specs.Segments.{next_first}
 use Rattle.lines.specs.Wrote.{Wrote}
 use Rattle.lines.specs.Laws.{then}
 use Rattle.job_lines.specs.Rows.{line_text}
-use Rattle.job_lines.specs.Records.{has_more, fields_in, line_record}
+use Rattle.job_lines.specs.Records.{written, fields_in, line_record}
 use Rattle.job_pages.specs.declared.Cursor.{Cursor}
-use Rattle.job_pages.specs.Cursors.{shown_row, rows_in, has_row, passed_on, field_count, first_field, has_more_by}
-use Rattle.job_pages.specs.Cursors.{implied_by, front_text, behind_row, steps_left}
+use Rattle.job_pages.specs.Cursors.{shown_row, rows_in, has_row, passed_on, field_count, first_field, written_by}
+use Rattle.job_pages.specs.Cursors.{front_text, behind_row, steps_left}
 use Rattle.job_pages.specs.Left.{insts_in, Going, Over, Left, in_form, text_left}
 use Rattle.job_pages.specs.Pages.{Shows, Went, Stepped}
 use Rattle.job_pages.specs.Rows.{Fields, row_fields, first_word}
@@ -224,8 +224,8 @@ word_cases P p q use' = p use' (omega arith)
 word_cases P p q end = q
 
 set_is : (T : List ℕ) (job : Job) (c : Cursor) (x : ℕ) → c.key ≡ 9
-    → implied_by T job c x ≡ (set_of job (val (get_or T x 0))).0
-unfolding implied_by
+    → written_by true T job c x ≡ Some (set_of job (val (get_or T x 0))).0
+unfolding written_by
 set_is T job c x k = rw k
 
 module _ {T : List ℕ} {job : Job} {c : Cursor} (long : length T ≡ table_words) (ns : List ℕ) (rs : List Record) where
@@ -254,13 +254,15 @@ module _ {T : List ℕ} {job : Job} {c : Cursor} (long : length T ≡ table_word
       none (x ∷ xs) z = absurd (omega (arith, z))
 
   -- the field behind them is the implied one
-  implied_is : (w : Word) (g : Going T job c (rec w ns ∷ rs)) → g.kind ≡ w
-      → implied_by T job c (row_at (word_number w) (shown_row c)) ≡ implied_field w c.insts job ns
-  unfolding implied_by
-  implied_is w g e = go w g e (g.key ∙ ap word_number e)
+  written_is : (second : Bool) (w : Word) (g : Going T job c (rec w ns ∷ rs)) → g.kind ≡ w
+      → written_by second T job c (row_at (word_number w) (shown_row c))
+      ≡ written second w (implied_field w c.insts job ns)
+  unfolding written_by
+  written_is false w g e = refl
+  written_is true w g e = go w g e (g.key ∙ ap word_number e)
     where
       go : (v : Word) (h : Going T job c (rec v ns ∷ rs)) → h.kind ≡ v → c.key ≡ word_number v
-          → implied_by T job c (row_at (word_number v) (shown_row c)) ≡ implied_field v c.insts job ns
+          → written_by true T job c (row_at (word_number v) (shown_row c)) ≡ written true v (implied_field v c.insts job ns)
       go opt h q k = rw k
       go bank h q k = rw k
       go class h q k = rw k
@@ -272,27 +274,10 @@ module _ {T : List ℕ} {job : Job} {c : Cursor} (long : length T ≡ table_word
       go hint h q k = rw k
       go seg h q k =
           set_is T job c (row_at 9 (shown_row c)) k
-          ∙ ap (λ (n : ℕ). (set_of job (val n)).0)
+          ∙ ap (λ (n : ℕ). Some (set_of job (val n)).0)
           (first_is long seg ns rs h q (omega arith) (λ z. omega (arith, z)))
       go use' h q k = rw k
       go end h q k = rw k
-
--- whether a field is written
-more_is : (second : Bool) (w : Word) → has_more_by second (word_number w) ≡ has_more second w
-unfolding has_more_by
-more_is false w = refl
-more_is true opt = refl
-more_is true bank = refl
-more_is true class = refl
-more_is true reg = refl
-more_is true block = refl
-more_is true value = refl
-more_is true vgroup = refl
-more_is true operand = refl
-more_is true hint = refl
-more_is true seg = refl
-more_is true use' = refl
-more_is true end = refl
 
 -- the instructions behind a record, and no form line comes any more
 module _ (T : List ℕ) (c : Cursor) (x : ℕ) where
@@ -355,20 +340,19 @@ module _ (second : Bool) {T : List ℕ} {job : Job} {c : Cursor} (long : length 
       first_is long w ns rs g e (omega (arith, k)) (λ z. omega (arith, z, k))
 
   line_is : line_text (word_number w) (take (field_count T (word_number w) first)
-      (drop (first_field (word_number w) first) T)) (has_more_by second (word_number w)) (implied_by T job c first)
+      (drop (first_field (word_number w) first) T)) (written_by second T job c first)
       ≡ record_line second (rec w (fields_in second w (implied_field w c.insts job ns) ns))
   line_is =
-      ap (λ (vs : List ℕ). line_text (word_number w) vs (has_more_by second (word_number w)) (implied_by T job c first))
+      ap (λ (vs : List ℕ). line_text (word_number w) vs (written_by second T job c first))
       (fields_are long ns rs w g e)
-      ∙ ap (λ (t : Bool). line_text (word_number w) ns t (implied_by T job c first)) (more_is second w)
-      ∙ ap (λ (k : ℕ). line_text (word_number w) ns (has_more second w) k) (implied_is long ns rs w g e)
+      ∙ ap (λ (k : Option ℕ). line_text (word_number w) ns k) (written_is long ns rs second w g e)
       ∙ line_record second w ns (implied_field w c.insts job ns) g.fair.0.long
 
   -- behind it
   text_behind : text_left second job c (rec w ns ∷ rs)
       ≡ (front_text second c.key
       ++ line_text (word_number w) (take (field_count T (word_number w) first) (drop (first_field (word_number w) first) T))
-      (has_more_by second (word_number w)) (implied_by T job c first))
+      (written_by second T job c first))
       ++ text_left second job (behind_row T c first) rs
   unfolding text_left
   text_behind =
@@ -388,7 +372,7 @@ module _ (second : Bool) {T : List ℕ} {job : Job} {c : Cursor} (long : length 
 
       text : List ℕ
       text = line_text (word_number w) (take (field_count T (word_number w) first)
-          (drop (first_field (word_number w) first) T)) (has_more_by second (word_number w)) (implied_by T job c first)
+          (drop (first_field (word_number w) first) T)) (written_by second T job c first)
 
 module _ (x : List ℕ) (c : Cursor) (more : eqb c.key 12 ≡ false) where
   abbrev T : List ℕ
@@ -417,34 +401,32 @@ module _ (x : List ℕ) (c : Cursor) (more : eqb c.key 12 ≡ false) where
         (ready_here all q.first.fields q.rest q.first.word q.going q.kind)
 
     -- THE LAW of a line: w is the row's first word, of n fields from word a on; the text ends at z
-    module _ (second : Bool) (k : ℕ) (B : List ℕ) (w n field front a z : ℕ) (wide : Bool) (B₁ B₂ : List ℕ) (d : Cursor)
+    module _ (second : Bool) (k : ℕ) (B : List ℕ) (w n front a z : ℕ) (more' : Option ℕ) (B₁ B₂ : List ℕ) (d : Cursor)
         (s : Shows x c) (h : has_row T c ≡ true) (ew : w ≡ row_at c.key (shown_row c))
         (en : n ≡ field_count T c.key w)
-        (ef : (job : Job) → job.values ≡ values_at T 1430 (rows_in T 5) → field ≡ implied_by T job c w)
-        (wf : Wrote (7) k B front B₁ (front_text second c.key)) (em : wide ≡ has_more_by second c.key)
+        (ef : (job : Job) → job.values ≡ values_at T 1430 (rows_in T 5) → more' ≡ written_by second T job c w)
+        (wf : Wrote (7) k B front B₁ (front_text second c.key))
         (ea : a ≡ first_field c.key w)
-        (wl : Wrote (248) front B₁ z B₂ (line_text c.key (take n (drop a T)) wide field))
+        (wl : Wrote (248) front B₁ z B₂ (line_text c.key (take n (drop a T)) more'))
         (ed : d ≡ behind_row T c w) where
       module _ {job : Job} {rs : List Record} (q : Here T job c rs) where
         -- by the number of the kind
         abbrev text_at : ℕ → List ℕ
         text_at j =
             line_text j (take (field_count T j (row_at j (shown_row c))) (drop (first_field j (row_at j (shown_row c))) T))
-            (has_more_by second j) (implied_by T job c (row_at j (shown_row c)))
+            (written_by second T job c (row_at j (shown_row c)))
 
         abbrev text_from : ℕ → List ℕ
         text_from v =
             line_text c.key (take (field_count T c.key v) (drop (first_field c.key v) T))
-            (has_more_by second c.key) (implied_by T job c v)
+            (written_by second T job c v)
 
-        text_is : line_text c.key (take n (drop a T)) wide field ≡ text_at (word_number q.first.word)
+        text_is : line_text c.key (take n (drop a T)) more' ≡ text_at (word_number q.first.word)
         text_is =
-            ap (λ (v : ℕ). line_text c.key (take v (drop a T)) wide field) en
-            ∙ ap (λ (v : ℕ). line_text c.key (take (field_count T c.key w) (drop v T)) wide field) ea
-            ∙ ap (λ (t : Bool). line_text c.key (take (field_count T c.key w) (drop (first_field c.key w) T))
-            t field) em
-            ∙ ap (λ (v : ℕ). line_text c.key (take (field_count T c.key w) (drop (first_field c.key w) T))
-            (has_more_by second c.key) v) (ef job q.going.values)
+            ap (λ (v : ℕ). line_text c.key (take v (drop a T)) more') en
+            ∙ ap (λ (v : ℕ). line_text c.key (take (field_count T c.key w) (drop v T)) more') ea
+            ∙ ap (λ (v : Option ℕ). line_text c.key (take (field_count T c.key w) (drop (first_field c.key w) T)) v)
+            (ef job q.going.values)
             ∙ ap text_from ew
             ∙ ap text_at (sym (key_of q))
 
@@ -469,7 +451,7 @@ module _ (x : List ℕ) (c : Cursor) (more : eqb c.key 12 ≡ false) where
               (block_first second all q.first.word q.first.fields q.rest q.going q.kind));
           text =
               ap (λ (u : List ℕ). u ++ text_left second job d q.rest) (then wf wl).is
-              ∙ append_assoc (take k B) (front_text second c.key ++ line_text c.key (take n (drop a T)) wide field)
+              ∙ append_assoc (take k B) (front_text second c.key ++ line_text c.key (take n (drop a T)) more')
               (text_left second job d q.rest)
               ∙ ap (λ (u : List ℕ). take k B ++ ((front_text second c.key ++ u) ++ text_left second job d q.rest))
               text_is
@@ -480,7 +462,7 @@ module _ (x : List ℕ) (c : Cursor) (more : eqb c.key 12 ≡ false) where
               ∙ ap (λ (u : List Record). take k B ++ text_left second job c u) (sym q.is);
         }
 
-      pub line_step : Stepped second T c k B (record { cur = d; at = z }) B₂
+      pub line_step : Stepped second T c k B (record { cur = d; n = z }) B₂
       line_step = record {
         most = omega (arith, wf.most, wl.most);
         fewer = falls (here (going_on s.left) h);
@@ -520,7 +502,7 @@ module _ (x : List ℕ) (c : Cursor) (more : eqb c.key 12 ≡ false) where
 
   -- THE LAW of such a kind
   pub pass_step : (second : Bool) (k : ℕ) (B : List ℕ) (d : Cursor) → Shows x c → has_row T c ≡ false → d ≡ passed_on c
-      → Stepped second T c k B (record { cur = d; at = k }) B
+      → Stepped second T c k B (record { cur = d; n = k }) B
   unfolding text_left passed_on
   pass_step second k B d s h e = record {
     most = omega arith;

@@ -5,8 +5,7 @@ use Rattle.definition.specs.Types.{Job}
 use Rattle.definition.specs.JobSheet.{Record}
 use Rattle.sheet_places.specs.Places.{table_words}
 use Rattle.job_pages.specs.declared.Cursor.{Cursor}
-use Rattle.job_pages.specs.declared.Put.{Put}
-use Rattle.job_pages.specs.declared.Page.{Page}
+use Rattle.lines.specs.declared.Page.{Page}
 use Rattle.job_pages.specs.Cursors.{steps_left}
 use Rattle.job_pages.specs.Left.{Left, text_left}
 
@@ -31,14 +30,14 @@ Goes second T c k B c' n B' =
     (job : Job) (rs : List Record) → Left T job c rs → Went second T job c rs k B c' n B'
 
 -- a line, or none, is written behind the first `at` bytes
-pub record Stepped (second : Bool) (T : List ℕ) (c : Cursor) (at : ℕ) (B : List ℕ) (r : Put) (B' : List ℕ) :
+pub record Stepped (second : Bool) (T : List ℕ) (c : Cursor) (at : ℕ) (B : List ℕ) (r : Page Cursor) (B' : List ℕ) :
     Type 0 where
-  pub most : r.at ≤ at + 256
+  pub most : r.n ≤ at + 256
   pub fewer : steps_left r.cur < steps_left c
-  pub goes : Goes second T c at B r.cur r.at B'
+  pub goes : Goes second T c at B r.cur r.n B'
 
 -- what is left at c is the page's bytes and what is left behind it
-pub record Paged (second : Bool) (T : List ℕ) (job : Job) (c : Cursor) (rs : List Record) (r : Page) (B' : List ℕ) :
+pub record Paged (second : Bool) (T : List ℕ) (job : Job) (c : Cursor) (rs : List Record) (r : Page Cursor) (B' : List ℕ) :
     Type 0 where
   pub records : List Record
   pub left : Left T job r.cur records
@@ -46,7 +45,7 @@ pub record Paged (second : Bool) (T : List ℕ) (job : Job) (c : Cursor) (rs : L
 
 -- a page is written to the first bytes of the buffer, which is B' now: a next page can follow, and where the end was
 -- not written and a line has room, fewer steps are left
-pub record Filled (second : Bool) (x : List ℕ) (c : Cursor) (r : Page) (B' : List ℕ) : Type 0 where
+pub record Filled (second : Bool) (x : List ℕ) (c : Cursor) (r : Page Cursor) (B' : List ℕ) : Type 0 where
   pub within : r.n ≤ length B'
   pub counts : r.n ≡ length (take r.n B')
   pub shows : Shows x r.cur

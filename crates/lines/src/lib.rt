@@ -5,22 +5,21 @@ ghost use Rattle.std.specs.Prelude.{◌≡◌, List, [], ◌∷◌, ◌++◌, �
 ghost use Rattle.definition.specs.Text.{decimal, eight_digits};
 ghost use Rattle.lines.specs.Wrote.{Wrote, fields_text, index_text, index_fields};
 
+// Text in the first n bytes of a buffer, and the cursor behind it.
+#[derive(Clone, Copy)]
+pub struct Page<C> {
+    pub cur: C,
+    pub n: usize,
+}
+
+// The bytes of s.
 pub fn put_bytes(out: &mut [u8], at: usize, s: &[u8]) -> usize
     requires { at + length s.now ≤ length out.old }
     ensures { Wrote (length s.now) at out.old result out.new s.now }
 {
-    let mut i = 0;
-    while i < s.len() {
-        out[at + i] = s[i];
-        i += 1;
-    }
-    at + i
-}
-
-fn wide(x: u32) -> u64
-    ensures { (result ≡ x) × (result < 4294967296) }
-{
-    x as u64
+    let end = at + s.len();
+    out[at..end].copy_from_slice(s);
+    end
 }
 
 // A number.
@@ -29,17 +28,17 @@ pub fn put_number(out: &mut [u8], at: usize, v: u32) -> usize
     ensures { Wrote (20) at out.old result out.new (decimal v) }
 {
     let mut text = [0u8; 20];
-    let k = io::decimal(wide(v), &mut text);
+    let k = io::decimal(u64::from(v), &mut text);
     put_bytes(out, at, &text[..k])
 }
 
-// Eight hexadecimal digits.
+// Eight hexadecimal digits. One function with put_number, over a closure for the writer, would be longer to state.
 pub fn put_bits(out: &mut [u8], at: usize, v: u32) -> usize
     requires { at + 16 ≤ length out.old }
     ensures { Wrote (16) at out.old result out.new (eight_digits v) }
 {
     let mut text = [0u8; 16];
-    let k = io::hex(wide(v), 8, &mut text);
+    let k = io::hex(u64::from(v), 8, &mut text);
     put_bytes(out, at, &text[..k])
 }
 
@@ -74,10 +73,10 @@ pub fn put_index(out: &mut [u8], at: usize, w: u32) -> usize
     requires { at + 21 ≤ length out.old }
     ensures { Wrote (21) at out.old result out.new (9 ∷ index_text w) }
 {
-    if w == 0 {
-        return put_bytes(out, at, b"\t-");
+    match w.checked_sub(1) {
+        None => put_bytes(out, at, b"\t-"),
+        Some(v) => put_field(out, at, v),
     }
-    put_field(out, at, w - 1)
 }
 
 // A tab before each number.
@@ -86,24 +85,20 @@ pub fn put_fields(out: &mut [u8], at: usize, vals: &[u32]) -> usize
     ensures { Wrote (length vals.now * 21) at out.old result out.new (fields_text vals.now) }
 {
     let mut a = at;
-    let mut i = 0;
-    while i < vals.len() {
-        a = put_field(out, a, vals[i]);
-        i += 1;
+    for v in vals {
+        a = put_field(out, a, *v);
     }
     a
 }
 
-// A tab before each index.
+// A tab before each index. A loop for both of them, over a closure, would carry the closure's contract: longer than this.
 pub fn put_indices(out: &mut [u8], at: usize, vals: &[u32]) -> usize
     requires { at + length vals.now * 21 ≤ length out.old }
     ensures { Wrote (length vals.now * 21) at out.old result out.new (index_fields vals.now) }
 {
     let mut a = at;
-    let mut i = 0;
-    while i < vals.len() {
-        a = put_index(out, a, vals[i]);
-        i += 1;
+    for v in vals {
+        a = put_index(out, a, *v);
     }
     a
 }

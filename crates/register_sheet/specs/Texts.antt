@@ -1,6 +1,7 @@
 -- What the functions write one behind the other is the line. Assumes nothing.
 use Rattle.std.specs.Prelude.{◌≡◌, refl, List, [], ◌∷◌, ◌++◌, map, Bool, true, false, cond, ℕ, zero, suc, ◌+◌, ◌*◌, ◌/◌, ◌%◌, ◌≤◌, ◌<◌, length, get_or, take, eqb}
 use Rattle.std.proofs.Common.{sym, ap, ◌∙◌, append_assoc, arith}
+use Rattle.std.specs.Int.{from_bool}
 use borrow.Author.Tests.{eqb-true}
 use Rattle.definition.specs.Lines.{use_numbers, flags_number}
 use Rattle.definition.specs.Text.{bytes, decimal, eight_digits, tabbed}
@@ -35,6 +36,15 @@ unfolding flag_number
 hint_number h = go (eqb h 1)
   where
     go : (t : Bool) → decimal (cond t 1 0) ≡ hint_field t
+    go true = refl
+    go false = refl
+
+-- a flag as a number
+pub flag_is : (h x : ℕ) → x ≡ from_bool (eqb h 1) → x ≡ flag_number h
+unfolding flag_number
+flag_is h x e = e ∙ go (eqb h 1)
+  where
+    go : (t : Bool) → from_bool t ≡ cond t 1 0
     go true = refl
     go false = refl
 

@@ -1,19 +1,10 @@
 // The lines of a register sheet, put into a lent buffer behind its first `at` bytes. Each function answers where the line ends.
+// What stands in a line is taken as the words that the lent tables have of it.
 #![tactic(auto)]
 
 ghost use Rattle.std.specs.Prelude.{◌≡◌, List, [], ◌∷◌, ◌++◌, ℕ, ◌+◌, ◌*◌, ◌≤◌, ◌<◌, length, get_or};
 ghost use Rattle.lines.specs.Wrote.{Wrote};
-ghost use Rattle.register_sheet.specs.Typed.{flag_number, use_length, use_numbers_line, vreg_head, vreg_tail, origin_end, vreg_line, seg_line, use_line, group_line, end_line, refused_line};
-
-// 1, or 0 for what is not 1.
-fn flag(h: u32) -> u32
-    ensures { result ≡ flag_number h }
-{
-    if h == 1 {
-        return 1;
-    }
-    0
-}
+ghost use Rattle.register_sheet.specs.Typed.{use_length, use_numbers_line, vreg_head, vreg_tail, origin_end, vreg_line, seg_line, use_line, group_line, end_line, refused_line};
 
 fn vreg_head(out: &mut [u8], at: usize, n: u32, set: u32, class: u32, weight: u32) -> usize
     requires { at + 90 ≤ length out.old }
@@ -29,7 +20,7 @@ fn vreg_tail(out: &mut [u8], at: usize, group: u32, index: u32, hint: u32) -> us
     requires { at + 90 ≤ length out.old }
     ensures { Wrote (64) at out.old result out.new (vreg_tail group index hint) }
 {
-    let vals = [index, flag(hint)];
+    let vals = [index, u32::from(hint == 1)];
     let a = lines::put_index(out, at, group);
     let b = lines::put_fields(out, a, &vals);
     lines::put_bytes(out, b, b"\n")
@@ -59,9 +50,10 @@ fn put_origin(out: &mut [u8], at: usize, origin: u32) -> usize
     ensures { Wrote (10) at out.old result out.new (origin_end origin) }
 {
     if origin == 1 {
-        return lines::put_bytes(out, at, b"\tconflict\n");
+        lines::put_bytes(out, at, b"\tconflict\n")
+    } else {
+        lines::put_bytes(out, at, b"\town\n")
     }
-    lines::put_bytes(out, at, b"\town\n")
 }
 
 // A piece: the origin is a conflict if it is 1.
@@ -90,8 +82,7 @@ pub fn use_length(kind: u32) -> usize
     requires { kind < 10 }
     ensures { (result ≡ use_length kind) × (result ≤ 6) }
 {
-    let i = kind as usize;
-    LENGTHS[i]
+    LENGTHS[kind as usize]
 }
 
 fn use_line(out: &mut [u8], at: usize, vals: &[u32]) -> usize

@@ -1,30 +1,23 @@
 // A job sheet in memory moved to the other form as `to_form2` and `to_form1` answer it, and home again.
 #![tactic(auto)]
 
-ghost use Rattle.std.specs.Prelude.{◌≡◌, true, ◌≤◌, length};
+ghost use Rattle.std.specs.Prelude.{◌≡◌, true, ◌≤◌, length, IfSome};
 ghost use Rattle.words.specs.Words.{word_count};
 ghost use Rattle.definition.specs.Conversion.{move_to, moved_text};
 ghost use Rattle.work_layout.specs.Regions.{max_work};
 ghost use Rattle.sheet_places.specs.Places.{table_words};
 ghost use Rattle.sheet_home.specs.Moved.{Answered};
 
-// The answer of n bytes, and whether that is all of it; the number of the refusal that it is, 0 for a sheet.
+use definition::SheetRefusal;
+
+// An answer of n bytes: a sheet, or a refusal.
 #[derive(Clone, Copy)]
 pub struct Moved {
     pub n: usize,
-    pub whole: bool,
-    pub number: u32,
+    pub refused: Option<SheetRefusal>,
 }
 
-// A sheet in the form that it has not, or the refusal, and whether it came home; for a refused one whether its own
-// program refuses it too.
-#[derive(Clone, Copy)]
-pub struct Trip {
-    pub there: Moved,
-    pub home: bool,
-}
-
-// The answer of the program that asks for this form, in one page: all of it, where it has room.
+// The answer of the program that asks for this form, in one page; none where it has no room.
 pub fn move_sheet(
     second: bool,
     sheet: &[u8],
@@ -32,28 +25,27 @@ pub fn move_sheet(
     table: &mut [u8],
     written: &mut [u8],
     work: &mut [u8],
-) -> Moved
+) -> Option<Moved>
     requires { (256 ≤ length out.old) × (word_count table.old ≡ table_words) × (word_count written.old ≡ 1536) × (max_work ≤ word_count work.old) }
     ensures { Answered second sheet.now result out.new }
 {
     let first = sheet_form::open(table, written);
     let cur = sheet_form::feed(first, sheet, table, written);
-    let number = move_verdict::verdict_on(second, cur, table, written, work);
-    if number != 0 {
-        let n = register_sheet::put_refused(out, 0, number);
-        return Moved {
+    if let Err(r) = move_verdict::verdict_on(second, cur, table, written, work) {
+        let n = register_sheet::put_refused(out, 0, build_answer::sheet_number_of(r));
+        return Some(Moved {
             n,
-            whole: true,
-            number,
-        };
+            refused: Some(r),
+        });
     }
     let page = job_pages::fill(second, table, job_pages::start(), out);
-    let end = page.cur;
-    Moved {
-        n: page.n,
-        whole: end.key == 12,
-        number,
+    if page.cur.key != 12 {
+        return None;
     }
+    Some(Moved {
+        n: page.n,
+        refused: None,
+    })
 }
 
 // Whether the answer is what the program that asks for this form writes.
@@ -69,12 +61,10 @@ pub fn is_moved(
     requires { (256 ≤ length out.old) × (word_count table.old ≡ table_words) × (word_count written.old ≡ 1536) × (max_work ≤ word_count work.old) }
     ensures { result ≡ true → answer.now ≡ moved_text (move_to second sheet.now) }
 {
-    let m = move_sheet(second, sheet, out, table, written, work);
-    if !m.whole {
-        return false;
+    match move_sheet(second, sheet, out, table, written, work) {
+        Some(m) => answer == &out[..m.n],
+        None => false,
     }
-    let n = m.n;
-    check::same(answer, &out[..n])
 }
 
 // Whether the sheet is of the second form.
@@ -101,16 +91,11 @@ fn gets_back(
     if !is_moved(second, sheet, b"refused\t1\n", back, table, written, work) {
         return false;
     }
-    if !m.whole {
-        return false;
-    }
-    if m.number != 0 {
-        return true;
-    }
-    is_moved(second, moved, sheet, back, table, written, work)
+    m.refused.is_some() || is_moved(second, moved, sheet, back, table, written, work)
 }
 
-// The sheet moved to the other form and, where that is no refusal, back, held to the sheet byte for byte.
+// The sheet moved to the other form and, where that is no refusal, back, held to the sheet byte for byte; a refused
+// one has to be refused by its own program too. What it was moved to, where it came home.
 pub fn comes_home(
     sheet: &[u8],
     there: &mut [u8],
@@ -118,13 +103,12 @@ pub fn comes_home(
     table: &mut [u8],
     written: &mut [u8],
     work: &mut [u8],
-) -> Trip
+) -> Option<Moved>
     requires { (256 ≤ length there.old) × (256 ≤ length back.old) × (word_count table.old ≡ table_words) × (word_count written.old ≡ 1536) × (max_work ≤ word_count work.old) }
-    ensures { result.there.n ≤ length there.new }
+    ensures { IfSome result (λ m. m.n ≤ length there.new) }
 {
     let second = form_of(sheet, table, written);
-    let m = move_sheet(!second, sheet, there, table, written, work);
-    let n = m.n;
-    let home = gets_back(second, m, sheet, &there[..n], back, table, written, work);
-    Trip { there: m, home }
+    let m = move_sheet(!second, sheet, there, table, written, work)?;
+    let home = gets_back(second, m, sheet, &there[..m.n], back, table, written, work);
+    home.then_some(m)
 }

@@ -18,7 +18,7 @@ use Rattle.virt_regs.specs.Encoding.{seg_base, use_base, group_base}
 use Rattle.virt_regs.specs.Reads.{piece_at, first_piece, first_use, piece_in, piece_held}
 use Rattle.register_sheet.specs.Typed.{end_line}
 use Rattle.sheet_output.specs.declared.Cursor.{Cursor}
-use Rattle.sheet_output.specs.declared.Put.{Put}
+use Rattle.lines.specs.declared.Page.{Page}
 use Rattle.sheet_output.specs.Left.{open_lines, lines_left, text_left, rows_left}
 use Rattle.sheet_output.specs.Rows.{register_in, use_text, seg_text, vreg_text, group_text, behind_use, behind_seg, behind_vreg, behind_group, behind_end}
 use Rattle.sheet_output.specs.Pages.{Shows, Goes, Stepped}
@@ -67,21 +67,21 @@ open_next : (st : State) (c c' : Cursor) (l : Line) → c.ended ≡ false → c'
     → open_lines st c.regs c.segs c.uses c.groups ≡ l ∷ open_lines st c'.regs c'.segs c'.uses c'.groups → lines_left st c ≡ l ∷ lines_left st c'
 open_next st c c' l o o' e = open_left st c c' o ∙ e ∙ ap (λ (t : List Line). l ∷ t) (sym (open_left st c' c o'))
 
-module _ (ol : OutLayout) (O : List ℕ) (regs groups : ℕ) (c : Cursor) (at : ℕ) (B : List ℕ) (r : Put) (B' : List ℕ) where
-  stepped : (c' : Cursor) → r.cur ≡ c' → r.at ≤ at + 256 → rows_left ol regs groups c' < rows_left ol regs groups c → Goes ol O regs groups c at B c' r.at B'
+module _ (ol : OutLayout) (O : List ℕ) (regs groups : ℕ) (c : Cursor) (at : ℕ) (B : List ℕ) (r : Page Cursor) (B' : List ℕ) where
+  stepped : (c' : Cursor) → r.cur ≡ c' → r.n ≤ at + 256 → rows_left ol regs groups c' < rows_left ol regs groups c → Goes ol O regs groups c at B c' r.n B'
       → Stepped ol O regs groups c at B r B'
   stepped c' e m f g =
       record {
         most = m;
         fewer = subst (λ (x : Cursor). rows_left ol regs groups x < rows_left ol regs groups c) (sym e) f;
-        goes = subst (λ (x : Cursor). Goes ol O regs groups c at B x r.at B') (sym e) g;
+        goes = subst (λ (x : Cursor). Goes ol O regs groups c at B x r.n B') (sym e) g;
       }
 
   module _ (w : ℕ) (a : Shows ol w O regs groups c) (o : c.ended ≡ false) where
     ends : ◌≡◌ {A = ℕ} (cond c.ended 0 1) 1
     ends = ap (λ (b : Bool). cond {A = ℕ} b 0 1) o
 
-    pub use_step : c.uses < c.uses_end → Wrote 256 at B r.at B' (use_text ol O c.uses) → r.cur ≡ behind_use c → Stepped ol O regs groups c at B r B'
+    pub use_step : c.uses < c.uses_end → Wrote 256 at B r.n B' (use_text ol O c.uses) → r.cur ≡ behind_use c → Stepped ol O regs groups c at B r B'
     use_step l t e =
         stepped (behind_use c) e t.most (omega (arith, ends, (use_asked a l).0))
         (λ st h n m s.
@@ -89,11 +89,11 @@ module _ (ol : OutLayout) (O : List ℕ) (regs groups : ℕ) (c : Cursor) (at : 
         let i : c.uses < uses_in st = omega (arith, k, first_use_le st c.segs) in
         record {
           stands = record { uses = omega arith; uses_end_lem = s.uses_end_lem; segs = s.segs; segs_end_lem = s.segs_end_lem; regs = s.regs; groups = s.groups };
-          text = step_text st c (behind_use c) at r.at B B' _ _ t (use_text_lem ol O st h c.uses i)
+          text = step_text st c (behind_use c) at r.n B B' _ _ t (use_text_lem ol O st h c.uses i)
               (open_next st c (behind_use c) _ o refl (use_next st c.regs c.segs c.uses c.groups k));
         })
 
-    pub seg_step : c.uses_end ≤ c.uses → c.segs < c.segs_end → Wrote 256 at B r.at B' (seg_text ol O c.segs) → r.cur ≡ behind_seg ol O c
+    pub seg_step : c.uses_end ≤ c.uses → c.segs < c.segs_end → Wrote 256 at B r.n B' (seg_text ol O c.segs) → r.cur ≡ behind_seg ol O c
         → Stepped ol O regs groups c at B r B'
     unfolding behind_seg
     seg_step d l t e =
@@ -113,11 +113,11 @@ module _ (ol : OutLayout) (O : List ℕ) (regs groups : ℕ) (c : Cursor) (at : 
             regs = s.regs;
             groups = s.groups;
           };
-          text = step_text st c (behind_seg ol O c) at r.at B B' _ _ t (seg_text_lem ol O st h c.segs i)
+          text = step_text st c (behind_seg ol O c) at r.n B B' _ _ t (seg_text_lem ol O st h c.segs i)
               (open_next st c (behind_seg ol O c) _ o refl (seg_next st c.regs c.segs c.uses c.groups u k));
         })
 
-    pub vreg_step : c.uses_end ≤ c.uses → c.segs_end ≤ c.segs → c.regs < regs → Wrote 256 at B r.at B' (vreg_text O c.regs) → r.cur ≡ behind_vreg O c
+    pub vreg_step : c.uses_end ≤ c.uses → c.segs_end ≤ c.segs → c.regs < regs → Wrote 256 at B r.n B' (vreg_text O c.regs) → r.cur ≡ behind_vreg O c
         → Stepped ol O regs groups c at B r B'
     unfolding behind_vreg
     vreg_step d d₂ l t e =
@@ -137,11 +137,11 @@ module _ (ol : OutLayout) (O : List ℕ) (regs groups : ℕ) (c : Cursor) (at : 
             regs = omega arith;
             groups = s.groups;
           };
-          text = step_text st c (behind_vreg O c) at r.at B B' _ _ t (vreg_text_lem ol O st h c.regs i)
+          text = step_text st c (behind_vreg O c) at r.n B B' _ _ t (vreg_text_lem ol O st h c.regs i)
               (open_next st c (behind_vreg O c) _ o refl (vreg_next st c.regs c.segs c.uses c.groups u v i));
         })
 
-    pub group_step : c.uses_end ≤ c.uses → c.segs_end ≤ c.segs → regs ≤ c.regs → c.groups < groups → Wrote 256 at B r.at B' (group_text ol O c.groups) → r.cur ≡ behind_group c
+    pub group_step : c.uses_end ≤ c.uses → c.segs_end ≤ c.segs → regs ≤ c.regs → c.groups < groups → Wrote 256 at B r.n B' (group_text ol O c.groups) → r.cur ≡ behind_group c
         → Stepped ol O regs groups c at B r B'
     group_step d d₂ d₃ l t e =
         stepped (behind_group c) e t.most (omega (arith, ends, l))
@@ -152,11 +152,11 @@ module _ (ol : OutLayout) (O : List ℕ) (regs groups : ℕ) (c : Cursor) (at : 
         let i : c.groups < length st.groups = omega (arith, m, l) in
         record {
           stands = record { uses = s.uses; uses_end_lem = s.uses_end_lem; segs = s.segs; segs_end_lem = s.segs_end_lem; regs = s.regs; groups = omega arith };
-          text = step_text st c (behind_group c) at r.at B B' _ _ t (group_text_lem ol O st h c.groups i)
+          text = step_text st c (behind_group c) at r.n B B' _ _ t (group_text_lem ol O st h c.groups i)
               (open_next st c (behind_group c) _ o refl (group_next st c.regs c.segs c.uses c.groups u v f i));
         })
 
-    pub end_step : c.uses_end ≤ c.uses → c.segs_end ≤ c.segs → regs ≤ c.regs → groups ≤ c.groups → Wrote 256 at B r.at B' (end_line regs groups) → r.cur ≡ behind_end c
+    pub end_step : c.uses_end ≤ c.uses → c.segs_end ≤ c.segs → regs ≤ c.regs → groups ≤ c.groups → Wrote 256 at B r.n B' (end_line regs groups) → r.cur ≡ behind_end c
         → Stepped ol O regs groups c at B r B'
     unfolding lines_left end_line
     end_step d d₂ d₃ d₄ t e =
@@ -168,7 +168,7 @@ module _ (ol : OutLayout) (O : List ℕ) (regs groups : ℕ) (c : Cursor) (at : 
         let g : c.groups ≡ length st.groups = omega (arith, m, d₄, s.groups) in
         record {
           stands = record { uses = s.uses; uses_end_lem = s.uses_end_lem; segs = s.segs; segs_end_lem = s.segs_end_lem; regs = s.regs; groups = s.groups };
-          text = step_text st c (behind_end c) at r.at B B' _ (end_line_lem (length st.registers) (length st.groups)) t
+          text = step_text st c (behind_end c) at r.n B B' _ (end_line_lem (length st.registers) (length st.groups)) t
               ((λ x. line_bytes (end_line_lem (n x) (m x))))
               (open_left st c c o ∙ end_next st c.regs c.segs c.uses c.groups u v f g);
         })

@@ -4,8 +4,7 @@ use Rattle.definition.specs.Types.{State}
 use Rattle.virt_regs.specs.declared.OutLayout.{OutLayout}
 use Rattle.virt_regs.specs.Encoding.{tables_end, Holds}
 use Rattle.sheet_output.specs.declared.Cursor.{Cursor}
-use Rattle.sheet_output.specs.declared.Put.{Put}
-use Rattle.sheet_output.specs.declared.Page.{Page}
+use Rattle.lines.specs.declared.Page.{Page}
 use Rattle.sheet_output.specs.Left.{text_left, Stands, rows_left}
 
 -- the w words O hold some state with these numbers of registers and groups, and the cursor is one of its sheet
@@ -30,18 +29,18 @@ Goes ol O regs groups c k B c' n B' =
     (st : State) → Holds ol O st → regs ≡ length st.registers → groups ≡ length st.groups → Stands st c → Went st c k B c' n B'
 
 -- a line is written behind the first `at` bytes
-pub record Stepped (ol : OutLayout) (O : List ℕ) (regs groups : ℕ) (c : Cursor) (at : ℕ) (B : List ℕ) (r : Put) (B' : List ℕ) : Type 0 where
-  pub most : r.at ≤ at + 256
+pub record Stepped (ol : OutLayout) (O : List ℕ) (regs groups : ℕ) (c : Cursor) (at : ℕ) (B : List ℕ) (r : Page Cursor) (B' : List ℕ) : Type 0 where
+  pub most : r.n ≤ at + 256
   pub fewer : rows_left ol regs groups r.cur < rows_left ol regs groups c
-  pub goes : Goes ol O regs groups c at B r.cur r.at B'
+  pub goes : Goes ol O regs groups c at B r.cur r.n B'
 
 -- what is left of st's sheet is the page's bytes and what is left behind it
-pub record Paged (st : State) (c : Cursor) (r : Page) (B' : List ℕ) : Type 0 where
+pub record Paged (st : State) (c : Cursor) (r : Page Cursor) (B' : List ℕ) : Type 0 where
   pub stands : Stands st r.cur
   pub text : text_left st c ≡ take r.n B' ++ text_left st r.cur
 
 -- a page is written to the first bytes of the buffer, which is B' now: a next page can follow, and where the end was not printed and a line has room, there are fewer lines left
-pub record Filled (ol : OutLayout) (w : ℕ) (O : List ℕ) (regs groups : ℕ) (c : Cursor) (r : Page) (B' : List ℕ) : Type 0 where
+pub record Filled (ol : OutLayout) (w : ℕ) (O : List ℕ) (regs groups : ℕ) (c : Cursor) (r : Page Cursor) (B' : List ℕ) : Type 0 where
   pub within : r.n ≤ length B'
   pub shows : Shows ol w O regs groups r.cur
   pub fewer : c.ended ≡ false → 256 ≤ length B' → rows_left ol regs groups r.cur < rows_left ol regs groups c

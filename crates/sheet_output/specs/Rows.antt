@@ -1,5 +1,6 @@
 -- The line of each row of the result tables, and the cursor behind it. Assumes nothing.
 use Rattle.std.specs.Prelude.{true, false, List, [], ◌∷◌, ℕ, ◌+◌, ◌*◌, get_or, take}
+use Rattle.rows.specs.Tab.{tab}
 use Rattle.definition.specs.Types.{vset, cls}
 use Rattle.virt_regs.specs.declared.OutLayout.{OutLayout}
 use Rattle.virt_regs.specs.declared.RegisterRow.{RegisterRow}
@@ -8,6 +9,10 @@ use Rattle.virt_regs.specs.Encoding.{seg_base, use_base, group_base}
 use Rattle.virt_regs.specs.Reads.{piece_in}
 use Rattle.register_sheet.specs.Typed.{vreg_line, seg_line, use_line, group_line}
 use Rattle.sheet_output.specs.declared.Cursor.{Cursor}
+
+-- n words from word i on
+unfoldable pub row_in : List ℕ → ℕ → ℕ → List ℕ
+row_in O i n = tab (λ k. get_or O (i + k) 0) 0 n
 
 -- the register whose row begins at word i
 unfoldable pub register_in : List ℕ → ℕ → RegisterRow

@@ -11,7 +11,7 @@ use Rattle.virt_regs.specs.declared.OutLayout.{OutLayout}
 use Rattle.virt_regs.specs.Encoding.{all_pieces, Holds}
 use Rattle.virt_regs.specs.Reads.{first_piece, first_use}
 use Rattle.sheet_output.specs.declared.Cursor.{Cursor}
-use Rattle.sheet_output.specs.declared.Page.{Page}
+use Rattle.lines.specs.declared.Page.{Page}
 use Rattle.sheet_output.specs.Left.{at_start, uses_left, pieces_left, open_lines, lines_left, text_left, Stands, result_of}
 use Rattle.sheet_output.specs.Pages.{Shows, Paged}
 
@@ -46,7 +46,7 @@ start_shows ol x st a b h =
 
 -- ---- page after page: the pages `out` so far and what is left are the sheet
 
-pub page_next : (st : State) (out : List ℕ) (c : Cursor) (r : Page) (B : List ℕ) → out ++ text_left st c ≡ register_sheet (done (result_of st)) → Paged st c r B
+pub page_next : (st : State) (out : List ℕ) (c : Cursor) (r : Page Cursor) (B : List ℕ) → out ++ text_left st c ≡ register_sheet (done (result_of st)) → Paged st c r B
     → (out ++ take r.n B) ++ text_left st r.cur ≡ register_sheet (done (result_of st))
 page_next st out c r B e p = append_assoc out (take r.n B) (text_left st r.cur) ∙ ap (λ (t : List ℕ). out ++ t) (sym p.text) ∙ e
 

@@ -1,7 +1,7 @@
 // A stored answer held to the answer to its sheet, byte for byte.
 #![tactic(auto)]
 
-ghost use Rattle.std.specs.Prelude.{◌≡◌, ◌≤◌, length, take, drop};
+ghost use Rattle.std.specs.Prelude.{◌≡◌, ◌≤◌, length};
 ghost use Rattle.words.specs.Words.{word_count};
 ghost use Rattle.definition.specs.Text.{same};
 ghost use Rattle.definition.specs.SheetForms.{vregs_of};
@@ -14,18 +14,6 @@ ghost use Rattle.sheet_replay.specs.Same.{TellsSheet};
 
 use build_answer::BuildEnd;
 
-// Whether the text follows in the answer behind its first `at` bytes.
-fn same_text(answer: &[u8], at: usize, text: &[u8]) -> bool
-    requires { at ≤ length answer.now }
-    ensures { result ≡ same (take (length text.now) (drop at answer.now)) text.now }
-{
-    let len = text.len();
-    if answer.len() - at < len {
-        return false;
-    }
-    check::same(&answer[at..at + len], text)
-}
-
 // Whether the answer is the register sheet that the end and the tables print.
 fn same_sheet(end: BuildEnd, tables: &[u8], answer: &[u8], buf: &mut [u8]) -> bool
     requires { Prints vregs_tables end tables.now at_start × (256 ≤ length buf.old) }
@@ -33,17 +21,16 @@ fn same_sheet(end: BuildEnd, tables: &[u8], answer: &[u8], buf: &mut [u8]) -> bo
 {
     let ol = vregs_answer::vregs_tables();
     let mut cur = sheet_output::start();
-    let mut at = 0;
+    let mut rest = answer;
     while !cur.ended {
         let page = answer_pages::page(end, tables, ol, cur, buf);
-        let n = page.n;
-        if !same_text(answer, at, &buf[..n]) {
+        let Some(behind) = rest.strip_prefix(&buf[..page.n]) else {
             return false;
-        }
-        at += n;
+        };
+        rest = behind;
         cur = page.cur;
     }
-    at == answer.len()
+    rest.is_empty()
 }
 
 // Whether the answer is what `vregs` prints for the sheet.

@@ -7,6 +7,6 @@ use Rattle.job_lines.proofs.put_record.Goals as goal
 pub returns : goal.returns
 unfolding line_text
 returns c = as_text 248 _
-    (then c.put_word-w.ensures
+    (then (as_text 7 _ c.put_bytes-w.ensures c.word.ensures.short c.word.ensures.is)
     (then c.put_row-end.ensures c.put_tail.ensures))
     (omega arith) refl

@@ -7,20 +7,13 @@ use Rattle.job_lines.proofs.put_row.Goals as goal
 pub loop-j-init : goal.loop-j-init
 loop-j-init c = row_start _ _ _ _ _ _
 
-pub put_value-end-requires : goal.put_value-end-requires
-put_value-end-requires c = let i = c.loop-j.invariant in
-    omega (arith, i.long, i.wrote.most)
-
 pub loop-j-preserved : goal.loop-j-preserved
 loop-j-preserved c = row_next c.loop-j.invariant c.loop-j-test.true
     (omega (arith, c.requires.1, length_words c.args.table.now))
     (search rules)
-    c.is_bits-bits.ensures
+    c.is_bits.ensures
     c.word_at.ensures
     c.put_value-end.ensures
-
-pub shape_of-out : goal.shape_of-out
-shape_of-out c = c.loop-j.invariant.long
 
 pub returns : goal.returns
 returns c = row_done c.loop-j.invariant c.loop-j-test.false

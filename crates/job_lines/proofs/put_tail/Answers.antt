@@ -3,13 +3,8 @@ use Rattle.lines.specs.Laws.{then, as_text}
 use Rattle.job_lines.proofs.Rowing.{more_field, more_none}
 use Rattle.job_lines.proofs.put_tail.Goals as goal
 
-pub returns-then-more : goal.returns-then-more
-returns-then-more c = as_text 22 _
-    (then c.put_field-a.ensures
-    c.put_bytes.ensures)
-    (omega arith)
-    (more_field _ _ c.if-more.true)
+pub returns-in-Some : goal.returns-in-Some
+returns-in-Some c = as_text 22 _ (then c.put_field-a.ensures c.put_bytes.ensures) (omega arith) (more_field _ _ c.in-Some.is)
 
-pub returns : goal.returns
-returns c = as_text 22 _ c.put_bytes-2.ensures (omega arith)
-    (more_none _ _ c.if-more.false)
+pub returns-in-None : goal.returns-in-None
+returns-in-None c = as_text 22 _ c.put_bytes-in-None.ensures (omega arith) (more_none _ c.in-None.is)

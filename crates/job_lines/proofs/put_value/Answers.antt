@@ -7,6 +7,6 @@ pub returns-then-bits : goal.returns-then-bits
 returns-then-bits c = as_text 21 _ c.put_bits_field.ensures (omega arith)
     (value_bits _ _ c.if-bits.true)
 
-pub returns : goal.returns
-returns c = as_text 21 _ c.put_field.ensures (omega arith)
+pub returns-else-bits : goal.returns-else-bits
+returns-else-bits c = as_text 21 _ c.put_field.ensures (omega arith)
     (value_number _ _ c.if-bits.false)

@@ -7,8 +7,8 @@ pub overflow_cast-shown : goal.overflow_cast-shown
 overflow_cast-shown c = let p = c.requires in
     omega (arith, shown_few p.0 p.1 p.2, c.shown.ensures)
 
-pub behind-c-requires : goal.behind-c-requires
-behind-c-requires c = let p = c.requires in
+pub behind-requires : goal.behind-requires
+behind-requires c = let p = c.requires in
     let r = ready_at p.0 p.1 p.2 c.shown.ensures c.row_at-w.ensures in (
       r.key,
       omega (arith, r.rows),
@@ -27,8 +27,8 @@ first_field-a-requires c = let p = c.requires in
     let r = ready_at p.0 p.1 p.2 c.shown.ensures c.row_at-w.ensures in
     omega (arith, r.row)
 
-pub implied-field-requires : goal.implied-field-requires
-implied-field-requires c = let p = c.requires in
+pub written-more-requires : goal.written-more-requires
+written-more-requires c = let p = c.requires in
     let r = ready_at p.0 p.1 p.2 c.shown.ensures c.row_at-w.ensures in
     (p.0.long, r.values, r.seg)
 
@@ -42,8 +42,8 @@ put_record-end-requires c = let p = c.requires in
 
 pub returns : goal.returns
 returns c = let p = c.requires in
-    line_step _ _ p.1 p.0.long _ _ _ _ _ _ _ _ _ _ _ _ _ p.0 p.2
+    line_step _ _ p.1 p.0.long _ _ _ _ _ _ _ _ _ _ _ _ p.0 p.2
     (row_word p.0 p.1 p.2 c.shown.ensures c.row_at-w.ensures)
-    c.fields-n.ensures c.implied-field.ensures c.open-front.ensures
-    c.has_more-more.ensures c.first_field-a.ensures
-    c.put_record-end.ensures c.behind-c.ensures
+    c.fields-n.ensures c.written-more.ensures c.open-front.ensures
+    c.first_field-a.ensures
+    c.put_record-end.ensures c.behind.ensures

@@ -3,8 +3,8 @@ use native.Mathlib.Omega.{arith}
 use mathlib.Core.Path.{refl}
 use Rattle.lines.proofs.put_index.Goals as goal
 
-pub returns-then-w-eq0 : goal.returns-then-w-eq0
-returns-then-w-eq0 c = index_none _ c.if-w-eq0.true c.put_bytes.ensures (omega arith) refl
+pub returns-in-None : goal.returns-in-None
+returns-in-None c = index_none _ (c.in-None.ensures) c.put_bytes.ensures (omega arith) refl
 
-pub returns : goal.returns
-returns c = index_some _ c.if-w-eq0.false c.put_field.ensures
+pub returns-in-Some : goal.returns-in-Some
+returns-in-Some c = index_some _ _ (c.in-Some.ensures) c.put_field.ensures

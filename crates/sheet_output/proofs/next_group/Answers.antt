@@ -1,4 +1,5 @@
-use mathlib.Core.Path.{refl}
+use mathlib.Core.Path.{refl, ◌∙◌}
+use Rattle.sheet_output.proofs.Words.{members_is}
 use native.Mathlib.Omega.{arith}
 use lib.ListN.{take}
 use Rattle.lines.specs.Laws.{as_text}
@@ -8,6 +9,6 @@ use Rattle.sheet_output.proofs.next_group.Goals as goal
 
 pub returns : goal.returns
 unfolding group_text
-returns c = let n = c.word_at-n.ensures in
-    let p = c.group_row-places.ensures in
-    (as_text 256 _ c.put_places-end.ensures (omega arith) (λ x. group_line c.args.cur.groups (take (n x) (p x))), refl)
+returns c = let n = rw c.group_base.ensures at c.word_at-size.ensures in
+    let p = (rw c.group_base.ensures at c.row-places.ensures) ∙ members_is _ _ in
+    (as_text 256 _ c.put_group-n.ensures (omega arith) (λ x. group_line c.args.cur.groups (take (n x) (p x))), refl)

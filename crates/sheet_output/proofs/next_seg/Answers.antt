@@ -8,4 +8,4 @@ use Rattle.sheet_output.proofs.next_seg.Goals as goal
 pub returns : goal.returns
 unfolding seg_text behind_seg
 returns c = let p = c.piece_at-row.ensures in
-    (as_text 256 _ c.put_seg-end.ensures (omega arith) (ap seg_row_text p), ap (λ (q : PieceRow). behind_seg_row q c.args.cur) p)
+    (as_text 256 _ c.put_seg-n.ensures (omega arith) (ap seg_row_text p), ap (λ (q : PieceRow). behind_seg_row q c.args.cur) p)

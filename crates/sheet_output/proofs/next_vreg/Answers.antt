@@ -9,4 +9,4 @@ pub returns : goal.returns
 unfolding vreg_text behind_vreg
 returns c = let a = c.args in
     let p = c.register_row-row.ensures in
-    (as_text 256 _ c.put_vreg-end.ensures (omega arith) (ap (vreg_row_text a.cur.regs) p), ap (λ (q : RegisterRow). behind_vreg_row q a.cur) p)
+    (as_text 256 _ c.put_vreg-n.ensures (omega arith) (ap (vreg_row_text a.cur.regs) p), ap (λ (q : RegisterRow). behind_vreg_row q a.cur) p)

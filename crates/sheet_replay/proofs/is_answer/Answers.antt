@@ -1,20 +1,9 @@
 use Prim.Native.Nat.{ℕ, ◌<◌}
 use native.Mathlib.Omega.{arith}
 use lib.ListN.{get_or}
-use Rattle.sheet_replay.proofs.Comparing.{fed_once, streamed_once, prints_fed, is_vregs}
+use Rattle.sheet_replay.proofs.Comparing.{fed_once, prints_fed, is_vregs}
 use borrow.Author.Rules.{rules}
 use Rattle.sheet_replay.proofs.is_answer.Goals as goal
-
-pub answer_table-end-requires : goal.answer_table-end-requires
-answer_table-end-requires c = let p = c.requires in
-    let b : (i : ℕ) → get_or c.args.sheet.now i 0 < 256 = λ i. omega
-    (arith, c.shared_slice_known-1.given i) in (
-      streamed_once _ _ b (fed_once _ _ _ _ _ p.1 p.2 c.open-first.ensures c.feed-cur.ensures),
-      omega (arith, p.1, c.open-first.auto, c.feed-cur.auto),
-      omega (arith, p.2, c.open-first.auto, c.feed-cur.auto),
-      search rules,
-      search rules,
-    )
 
 pub same_sheet-requires : goal.same_sheet-requires
 same_sheet-requires c = let p = c.requires in
