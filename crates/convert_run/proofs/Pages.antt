@@ -4,21 +4,22 @@ use mathlib.Core.Bool.{Bool, true, false}
 use mathlib.Core.List.{List, [], ◌++◌, append-nil}
 use Prim.Native.Nat.{ℕ, ◌≤◌}
 use lib.ListN.{length, take}
+use Rattle.std.specs.Prelude.{Result, Ok, Err, IsOk, IsErr, is_err}
 use Rattle.words.specs.Words.{words_of}
 use Rattle.definition.specs.Types.{Job}
 use Rattle.definition.specs.JobSheet.{Record}
 use Rattle.lines.specs.Wrote.{Wrote}
 use Rattle.register_sheet.specs.Typed.{refused_line}
 use Rattle.job_pages.specs.declared.Cursor.{Cursor}
-use Rattle.job_pages.specs.declared.Page.{Page}
+use Rattle.lines.specs.declared.Page.{Page}
 use Rattle.job_pages.specs.Cursors.{at_start}
 use Rattle.job_pages.specs.Left.{Left, text_left}
 use Rattle.job_pages.specs.Pages.{Shows, Filled, Paged}
 use Rattle.job_pages.specs.Over.{over_text}
 use Rattle.streams.specs.declared.Stream.{Stream}
-use Rattle.streams.specs.declared.Step.{Step}
+use Rattle.streams.specs.declared.Cut.{Cut}
 use Rattle.streams.specs.Tape.{WroteAll}
-use Rattle.streams.specs.Paper.{OnPaper, Writing, writing_start, writing_next, writing_failed, writing_end}
+use Rattle.streams.specs.Paper.{Writing, writing_start, writing_next, writing_failed, writing_end}
 use Rattle.convert_run.specs.Ran.{Shown, Refused}
 
 -- what is written and what is left are the sheet
@@ -43,9 +44,9 @@ showing_start second x paper s c y e h =
       kept = λ job rs l. record { records = rs; left = l; writing = writing_start paper _ s h };
     })
 
-module _ (second : Bool) (x paper tape : List ℕ) (s cur : Stream) (c : Cursor) (P : List ℕ) (p : Page) (B : List ℕ)
-    (w : Step) (Q : List ℕ) (h : Showing second x paper s cur c P) (f : Filled second x c p B)
-    (a : WroteAll tape P (take p.n B) cur w Q) where
+module _ (second : Bool) (x paper tape : List ℕ) (s cur : Stream) (c : Cursor) (P : List ℕ) (p : Page Cursor) (B : List ℕ)
+    (w : Result Unit Cut) (t : Stream) (Q : List ℕ) (h : Showing second x paper s cur c P) (f : Filled second x c p B)
+    (a : WroteAll tape P (take p.n B) cur w t Q) where
   module _ (job : Job) (rs : List Record) (l : Left (words_of x) job at_start rs) where
     page_of : Paged second (words_of x) job c (h.kept job rs l).records p B
     page_of = f.paged job (h.kept job rs l).records (h.kept job rs l).left
@@ -53,27 +54,26 @@ module _ (second : Bool) (x paper tape : List ℕ) (s cur : Stream) (c : Cursor)
     -- the page, and what is left behind it
     paged : Writing paper (text_left second job at_start rs) s cur
         (take p.n B ++ text_left second job p.cur page_of.records) P
-    paged = subst (λ (t : List ℕ). Writing paper (text_left second job at_start rs) s cur t P) page_of.text
+    paged = subst (λ (l : List ℕ). Writing paper (text_left second job at_start rs) s cur l P) page_of.text
         (h.kept job rs l).writing
 
-  pub showing_next : w.failed ≡ false → Showing second x paper s w.next p.cur Q
+  pub showing_next : IsOk w → Showing second x paper s t p.cur Q
   showing_next e = record {
     shows = f.shows;
     bound = a.bound;
     kept = λ job rs l. record {
       records = (page_of job rs l).records;
       left = (page_of job rs l).left;
-      writing = writing_next paper _ tape s cur (take p.n B) _ P w Q (paged job rs l) a e;
+      writing = writing_next paper _ tape s cur (take p.n B) _ P w t Q (paged job rs l) a e;
     };
   }
 
-  pub showing_failed : w.failed ≡ true
-      → Shown second (words_of x) tape paper s (record { failed = true; next = w.next }) Q
-  showing_failed e = λ job rs l y. writing_failed paper _ tape s cur (take p.n B) _ P w Q (paged job rs l) a e y
+  pub showing_failed : IsErr w → Shown second (words_of x) tape paper s true t Q
+  showing_failed e = λ job rs l y. writing_failed paper _ tape s cur (take p.n B) _ P w t Q (paged job rs l) a e y
 
 pub showing_end : (second : Bool) (x paper tape : List ℕ) (s cur : Stream) (c : Cursor) (P : List ℕ)
     → Showing second x paper s cur c P → c.key ≡ 12
-    → Shown second (words_of x) tape paper s (record { failed = false; next = cur }) P
+    → Shown second (words_of x) tape paper s false cur P
 showing_end second x paper tape s cur c P h e = λ job rs l y.
     let k : Kept second (words_of x) paper s cur c P job rs = h.kept job rs l in
     writing_end paper _ tape s cur P
@@ -82,16 +82,16 @@ showing_end second x paper tape s cur c P h e = λ job rs l y.
 
 -- ---- the refusal's line, as one page
 
-pub refused_line_lem : (n m : ℕ) (paper tape : List ℕ) (s : Stream) (O B : List ℕ) (w : Step) (Q : List ℕ)
-    → s.at ≤ length paper → Wrote 256 0 O m B (refused_line n) → WroteAll tape paper (take m B) s w Q
-    → Refused n tape paper s (record { failed = w.failed; next = w.next }) Q
-refused_line_lem n m paper tape s O B w Q h t a = λ y. go w.failed refl y
+pub refused_line_lem : (n m : ℕ) (paper tape : List ℕ) (s : Stream) (O B : List ℕ) (w : Result Unit Cut) (t : Stream)
+    (Q : List ℕ) → s.at ≤ length paper → Wrote 256 0 O m B (refused_line n)
+    → WroteAll tape paper (take m B) s w t Q → Refused n tape paper s (is_err w) t Q
+refused_line_lem n m paper tape s O B w t Q h y a = go w a
   where
     begun : Writing paper (refused_line n) s s (take m B ++ []) paper
     begun = subst (λ (l : List ℕ). Writing paper (refused_line n) s s l paper)
-        (sym t.is ∙ sym (append-nil (take m B))) (writing_start paper (refused_line n) s h)
+        (sym y.is ∙ sym (append-nil (take m B))) (writing_start paper (refused_line n) s h)
 
-    go : (b : Bool) → w.failed ≡ b → s.taped ≡ true → OnPaper tape paper (refused_line n) s b w.next Q
-    go true e y = writing_failed paper _ tape s s (take m B) [] paper w Q begun a e y
-    go false e y =
-        writing_end paper _ tape s w.next Q (writing_next paper _ tape s s (take m B) [] paper w Q begun a e) y
+    go : (w : Result Unit Cut) → WroteAll tape paper (take m B) s w t Q → Refused n tape paper s (is_err w) t Q
+    go (Err e) a = λ z. writing_failed paper _ tape s s (take m B) [] paper (Err e) t Q begun a refl z
+    go (Ok u) a = λ z.
+        writing_end paper _ tape s t Q (writing_next paper _ tape s s (take m B) [] paper (Ok u) t Q begun a refl) z

@@ -14,7 +14,8 @@ use Rattle.io.specs.Digits.{IsDigitCount}
 use Rattle.lines.specs.Wrote.{Wrote}
 use Rattle.lines.specs.Laws.{then, as_text}
 use Rattle.streams.specs.declared.Stream.{Stream}
-use Rattle.streams.specs.declared.Step.{Step}
+use Rattle.std.specs.Prelude.{Result}
+use Rattle.streams.specs.declared.Cut.{Cut}
 use Rattle.streams.specs.Tape.{WroteAll}
 use Rattle.frames.specs.Report.{differs_line, summary}
 
@@ -63,5 +64,5 @@ module _ (text X : List ℕ) (n : ℕ) (L : List ℕ) (w : Wrote 64 0 X n L text
   pub line_counts : length L ≡ 64 → n ≡ length (take n L)
   line_counts h = sym (length-take-le n L (omega (arith, w.most, h)))
 
-  pub line_written : (tape paper : List ℕ) (s : Stream) (r : Step) (P : List ℕ) → WroteAll tape paper (take n L) s r P → WroteAll tape paper text s r P
-  line_written tape paper s r P a = subst (λ (l : List ℕ). WroteAll tape paper l s r P) w.is a
+  pub line_written : (tape paper : List ℕ) (s : Stream) (r : Result Unit Cut) (t : Stream) (P : List ℕ) → WroteAll tape paper (take n L) s r t P → WroteAll tape paper text s r t P
+  line_written tape paper s r t P a = subst (λ (l : List ℕ). WroteAll tape paper l s r t P) w.is a

@@ -2,46 +2,57 @@
 // A frame is a line of two numbers of eight digits, parted by a tab, then as many bytes of a sheet and of its answer.
 #![tactic(auto)]
 
-ghost use Rattle.std.specs.Prelude.{◌≡◌, false, ◌&&◌, ◌+◌, ◌≤◌, eqb, leb, length, get_or};
+ghost use Rattle.std.specs.Prelude.{◌≡◌, ◌&&◌, ◌+◌, ◌≤◌, eqb, leb, length, get_or, unwrap_or};
 ghost use Rattle.definition.specs.Text.{decimal};
 ghost use Rattle.lines.specs.Wrote.{Wrote};
 ghost use Rattle.streams.specs.Tape.{WroteAll};
 ghost use Rattle.frames.specs.Frames.{spelled};
 ghost use Rattle.frames.specs.Report.{differs_line, summary};
 ghost use Rattle.frames.specs.Read.{HeadRead, FrameRead};
+ghost use Rattle.frames.specs.declared.NoFrame.TheVariants.{Failed};
 
 use std::io::{Read, Write};
-use streams::{Step, Stream};
+use streams::{Cut, Stream};
 
-// A whole frame, and the sizes of its parts. Where it is none: a read failed, or the input ended before it, or what follows is no frame.
-#[derive(Clone, Copy)]
+// A whole frame: the sizes of its parts.
+#[derive(Clone, Copy, Debug, PartialEq, Eq)]
 pub struct Frame {
-    pub whole: bool,
-    pub failed: bool,
-    pub ended: bool,
     pub sheet: usize,
     pub answer: usize,
-    pub next: Stream,
+}
+
+// Why there is none: a read failed, or the input ended before it, or what follows is no frame.
+#[derive(Clone, Copy, Debug, PartialEq, Eq)]
+pub enum NoFrame {
+    Failed,
+    Ended,
+    Other,
+}
+
+impl From<Cut> for NoFrame {
+    ghost from_gives = { λ _ e. e ≡ Failed };
+
+    fn from(_cut: Cut) -> NoFrame {
+        NoFrame::Failed
+    }
 }
 
 // ---- reading
 
-// The number that eight digits from `at` on spell; 100,000,000 where one is none.
-fn number(head: &[u8], at: usize) -> u64
+// The number that eight digits from `at` on spell.
+fn number(head: &[u8], at: usize) -> Option<u64>
     requires { at + 8 ≤ length head.now }
-    ensures { result ≡ spelled head.now at 8 0 }
+    ensures { unwrap_or result 100000000 ≡ spelled head.now at 8 0 }
 {
     let mut v = 0;
-    let mut i = 0;
-    while i < 8 {
+    for i in 0..8 {
         let d = numeral::digit(head[at + i]);
         if 9 < d {
-            return 100000000;
+            return None;
         }
         v = v * 10 + d;
-        i += 1;
     }
-    v
+    Some(v)
 }
 
 // Whether the line is a head, of parts that have room.
@@ -61,81 +72,62 @@ fn is_head(head: &[u8], sheet: u64, answer: u64) -> bool
     answer <= 524288
 }
 
-fn no_frame(failed: bool, ended: bool, next: Stream) -> Frame
-    ensures { result ≡ record { whole = false; failed = failed; ended = ended; sheet = 0; answer = 0; next = next } }
-{
-    Frame {
-        whole: false,
-        failed,
-        ended,
-        sheet: 0,
-        answer: 0,
-        next,
-    }
-}
-
 // The head of the next frame.
-fn read_head<R: Read>(s: Stream, tape: &[usize], given: &[u8], source: &mut R) -> Frame
-    requires { s.at ≤ length given.now }
-    ensures { HeadRead tape.now given.now s result }
+fn read_head<R: Read>(
+    s: &mut Stream,
+    tape: &[usize],
+    given: &[u8],
+    source: &mut R,
+) -> Result<Frame, NoFrame>
+    requires { s.old.at ≤ length given.now }
+    ensures { HeadRead tape.now given.now s.old result s.new }
 {
     let mut head = [0u8; 18];
-    let h = streams::fill(s, tape, given, &mut head, source);
-    let next = h.next;
-    if h.n < 18 {
-        return no_frame(h.failed, h.n == 0, next);
+    let n = streams::fill(s, tape, given, &mut head, source)?;
+    if n == 0 {
+        return Err(NoFrame::Ended);
     }
-    let sheet = number(&head, 0);
-    let answer = number(&head, 9);
+    if n < 18 {
+        return Err(NoFrame::Other);
+    }
+    let Some(sheet) = number(&head, 0) else {
+        return Err(NoFrame::Other);
+    };
+    let Some(answer) = number(&head, 9) else {
+        return Err(NoFrame::Other);
+    };
     if !is_head(&head, sheet, answer) {
-        return no_frame(false, false, next);
+        return Err(NoFrame::Other);
     }
-    Frame {
-        whole: true,
-        failed: false,
-        ended: false,
+    Ok(Frame {
         sheet: sheet as usize,
         answer: answer as usize,
-        next,
-    }
+    })
 }
 
 // The next frame, its parts at the start of the two buffers.
 pub fn read_frame<R: Read>(
-    s: Stream,
+    s: &mut Stream,
     tape: &[usize],
     given: &[u8],
     sheet: &mut [u8],
     answer: &mut [u8],
     source: &mut R,
-) -> Frame
-    requires { (s.at ≤ length given.now) × (262144 ≤ length sheet.old) × (524288 ≤ length answer.old) }
-    ensures { FrameRead tape.now given.now s result sheet.new answer.new }
+) -> Result<Frame, NoFrame>
+    requires { (s.old.at ≤ length given.now) × (262144 ≤ length sheet.old) × (524288 ≤ length answer.old) }
+    ensures { FrameRead tape.now given.now s.old result s.new sheet.new answer.new }
 {
-    let f = read_head(s, tape, given, source);
-    if !f.whole {
-        return f;
-    }
-    let n = f.sheet;
-    let a = streams::fill(f.next, tape, given, &mut sheet[..n], source);
-    let short = a.n < n;
+    let f = read_head(s, tape, given, source)?;
+    let n = streams::fill(s, tape, given, &mut sheet[..f.sheet], source)?;
+    let short = n < f.sheet;
     if short {
-        return no_frame(a.failed, false, a.next);
+        return Err(NoFrame::Other);
     }
-    let m = f.answer;
-    let b = streams::fill(a.next, tape, given, &mut answer[..m], source);
-    if b.n < m {
-        return no_frame(b.failed, false, b.next);
+    let m = streams::fill(s, tape, given, &mut answer[..f.answer], source)?;
+    if m < f.answer {
+        return Err(NoFrame::Other);
     }
-    let next = b.next;
-    Frame {
-        whole: true,
-        failed: false,
-        ended: false,
-        sheet: n,
-        answer: m,
-        next,
-    }
+    Ok(f)
 }
 
 // ---- writing
@@ -182,13 +174,13 @@ fn put_summary(out: &mut [u8], whole: bool, answers: u64, differ: u64) -> usize
 pub fn tell<W: Write>(
     same: bool,
     k: u64,
-    s: Stream,
+    s: &mut Stream,
     tape: &[usize],
     paper: &mut [u8],
     sink: &mut W,
-) -> Step
-    requires { s.at ≤ length paper.old }
-    ensures { WroteAll tape.now paper.old (differs_line same k) s result paper.new }
+) -> Result<(), Cut>
+    requires { s.old.at ≤ length paper.old }
+    ensures { WroteAll tape.now paper.old (differs_line same k) s.old result s.new paper.new }
 {
     let mut line = [0u8; 64];
     let n = put_differs(&mut line, same, k);
@@ -200,13 +192,13 @@ pub fn sum_up<W: Write>(
     whole: bool,
     answers: u64,
     differ: u64,
-    s: Stream,
+    s: &mut Stream,
     tape: &[usize],
     paper: &mut [u8],
     sink: &mut W,
-) -> Step
-    requires { s.at ≤ length paper.old }
-    ensures { WroteAll tape.now paper.old (summary whole answers differ) s result paper.new }
+) -> Result<(), Cut>
+    requires { s.old.at ≤ length paper.old }
+    ensures { WroteAll tape.now paper.old (summary whole answers differ) s.old result s.new paper.new }
 {
     let mut line = [0u8; 64];
     let n = put_summary(&mut line, whole, answers, differ);

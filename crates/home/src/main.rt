@@ -6,6 +6,7 @@ ghost use Rattle.std.specs.Prelude.{◌≡◌, ◌+◌, ◌^◌, ◌≤◌, ◌<
 ghost use Rattle.lines.specs.Wrote.{Wrote};
 ghost use Rattle.home.specs.Tallies.{differs_line, tally_line, broken_line};
 
+use frames::NoFrame;
 use std::io;
 use std::io::{Error, Stdout};
 use streams::{Noted, STDIN};
@@ -18,8 +19,9 @@ enum Way {
     Differs,
 }
 
-// Cut where a line could not be written: then no more are.
-#[derive(Clone, Copy)]
+// Cut where a line could not be written: then no more are. `cut` is a flag and no Result: the numbers count on, and
+// the sink has the reason.
+#[derive(Clone, Copy, Default)]
 struct Tally {
     home: u64,
     refused: u64,
@@ -29,8 +31,7 @@ struct Tally {
 
 // Writes a text; whether it is cut.
 fn say(text: &[u8], sink: &mut Noted<Stdout>) -> bool {
-    let w = streams::write_to(sink, text);
-    w.failed
+    streams::write_to(sink, text).is_err()
 }
 
 fn put_differs(out: &mut [u8], number: u64) -> usize
@@ -42,74 +43,34 @@ fn put_differs(out: &mut [u8], number: u64) -> usize
     lines::put_bytes(out, b, b"\n")
 }
 
-// Says which sheet it is; whether that is cut.
+// Says which sheet it is; whether that is cut. sheet_samples::tell says another line, and `put_differs` promises which:
+// one for both would only hand it on.
 fn tell(number: u64, sink: &mut Noted<Stdout>) -> bool {
     let mut line = [0u8; 64];
     let n = put_differs(&mut line, number);
     say(&line[..n], sink)
 }
 
-fn came_home(t: Tally) -> Tally
-    requires { t.home + t.refused + t.differ + 1 < 2 ^ 64 }
-    ensures { result.home + result.refused + result.differ ≡ t.home + t.refused + t.differ + 1 }
-{
-    Tally {
-        home: t.home + 1,
-        refused: t.refused,
-        differ: t.differ,
-        cut: t.cut,
-    }
-}
-
-fn was_refused(t: Tally) -> Tally
-    requires { t.home + t.refused + t.differ + 1 < 2 ^ 64 }
-    ensures { result.home + result.refused + result.differ ≡ t.home + t.refused + t.differ + 1 }
-{
-    Tally {
-        home: t.home,
-        refused: t.refused + 1,
-        differ: t.differ,
-        cut: t.cut,
-    }
-}
-
-fn differed(t: Tally, sink: &mut Noted<Stdout>) -> Tally
-    requires { t.home + t.refused + t.differ + 1 < 2 ^ 64 }
-    ensures { result.home + result.refused + result.differ ≡ t.home + t.refused + t.differ + 1 }
-{
-    let number = t.home + t.refused + t.differ + 1;
-    let mut cut = t.cut;
-    if !cut {
-        cut = tell(number, sink);
-    }
-    Tally {
-        home: t.home,
-        refused: t.refused,
-        differ: t.differ + 1,
-        cut,
-    }
-}
-
-fn count(t: Tally, w: Way, sink: &mut Noted<Stdout>) -> Tally
-    requires { t.home + t.refused + t.differ + 1 < 2 ^ 64 }
-    ensures { result.home + result.refused + result.differ ≡ t.home + t.refused + t.differ + 1 }
+// One more sheet.
+fn count(t: &mut Tally, w: Way, sink: &mut Noted<Stdout>)
+    requires { t.old.home + t.old.refused + t.old.differ + 1 < 2 ^ 64 }
+    ensures { t.new.home + t.new.refused + t.new.differ ≡ t.old.home + t.old.refused + t.old.differ + 1 }
 {
     match w {
-        Way::Home => came_home(t),
-        Way::Refused => was_refused(t),
-        Way::Differs => differed(t, sink),
+        Way::Home => t.home += 1,
+        Way::Refused => t.refused += 1,
+        Way::Differs => {
+            t.differ += 1;
+            if !t.cut {
+                t.cut = tell(t.home + t.refused + t.differ, sink);
+            }
+        }
     }
 }
 
 // Whether a stored answer is the refusal of a test: 1 to 7 or 10, and not 8 or 9.
 fn by_tests(answer: &[u8]) -> bool {
-    if answer.len() < 10 {
-        return false;
-    }
-    if answer[0] != b'r' {
-        return false;
-    }
-    answer[8] < b'8'
+    10 <= answer.len() && answer[0] == b'r' && answer[8] < b'8'
 }
 
 // What becomes of a stored sheet.
@@ -124,12 +85,10 @@ fn way_of(
 ) -> Way
     requires { 256 ≤ length there.old }
 {
-    let trip = sheet_home::comes_home(sheet, there, back, table, written, work);
-    if !trip.home {
+    let Some(m) = sheet_home::comes_home(sheet, there, back, table, written, work) else {
         return Way::Differs;
-    }
-    let m = trip.there;
-    if m.number == 0 {
+    };
+    if m.refused.is_none() {
         return if by_tests(answer) {
             Way::Differs
         } else {
@@ -213,8 +172,7 @@ fn tell_cut(rt: &HostRuntime, sink: &Noted<Stdout>) -> io::Result<()> {
 fn end(
     rt: &HostRuntime,
     t: Tally,
-    failed: bool,
-    ended: bool,
+    e: NoFrame,
     reason: Option<Error>,
     sink: &mut Noted<Stdout>,
 ) -> io::Result<()>
@@ -223,14 +181,14 @@ fn end(
     if t.cut {
         tell_cut(rt, sink)?;
     }
-    if failed {
+    if e == NoFrame::Failed {
         let what = "home: the stored sheets could not be read, and nothing is tallied";
         return streams::fail(rt, what, reason);
     }
     if t.cut {
         return Ok(());
     }
-    let cut = if ended {
+    let cut = if e == NoFrame::Ended {
         show(t, sink)
     } else {
         show_broken(t, sink)
@@ -241,8 +199,8 @@ fn end(
     Ok(())
 }
 
-// All frames. A proved loop has to end, and nothing says that the input does: so the turns are counted down, from a
-// number that no run uses up. Standard input is a descriptor, so the tape and the bytes that it gives are looked at by
+// All frames. A proved loop has to end, and nothing says that the input does: so there are only so many
+// turns as no run uses up. Standard input is a descriptor, so the tape and the bytes that it gives are looked at by
 // nobody.
 fn run(
     rt: &HostRuntime,
@@ -259,26 +217,19 @@ fn run(
     let tape = [0usize; 1];
     let given = [0u8; 1];
     let mut at = streams::descriptor(STDIN);
-    let mut t = Tally {
-        home: 0,
-        refused: 0,
-        differ: 0,
-        cut: false,
-    };
-    let mut turns = u64::MAX;
-    while 0 < turns {
-        let f = frames::read_frame(at, &tape, &given, sheet, answer, &mut source);
-        at = f.next;
-        if !f.whole {
-            return end(rt, t, f.failed, f.ended, source.reason, &mut sink);
+    let mut t = Tally::default();
+    for _ in 0..u64::MAX {
+        match frames::read_frame(&mut at, &tape, &given, sheet, answer, &mut source) {
+            Ok(f) => {
+                let w = way_at(
+                    sheet, f.sheet, answer, f.answer, there, back, table, written, work,
+                );
+                count(&mut t, w, &mut sink);
+            }
+            Err(e) => return end(rt, t, e, source.reason, &mut sink),
         }
-        let w = way_at(
-            sheet, f.sheet, answer, f.answer, there, back, table, written, work,
-        );
-        t = count(t, w, &mut sink);
-        turns -= 1;
     }
-    end(rt, t, true, false, source.reason, &mut sink)
+    end(rt, t, NoFrame::Failed, source.reason, &mut sink)
 }
 
 fn main(rt: HostRuntime) -> io::Result<()> {

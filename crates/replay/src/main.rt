@@ -7,7 +7,7 @@ ghost use Rattle.work_layout.specs.Regions.{max_work};
 ghost use Rattle.sheet_places.specs.Places.{table_words};
 
 use std::io;
-use streams::{Noted, STDIN, STDOUT};
+use streams::{Broken, Noted, STDIN, STDOUT};
 
 // The streams are descriptors, so the tape, the bytes that it gives and the paper, of one each, are looked at by nobody.
 fn replay_input(
@@ -27,13 +27,13 @@ fn replay_input(
 {
     let mut source = Noted::new(rt.stdin());
     let mut sink = Noted::new(rt.stdout());
-    let input = streams::descriptor(STDIN);
-    let output = streams::descriptor(STDOUT);
+    let mut input = streams::descriptor(STDIN);
+    let mut output = streams::descriptor(STDOUT);
     let r = replay_run::replay(
-        input,
+        &mut input,
         tape,
         given,
-        output,
+        &mut output,
         tape,
         paper,
         sheet,
@@ -46,15 +46,17 @@ fn replay_input(
         &mut source,
         &mut sink,
     );
-    if r.unread {
-        let what = "replay: the stored answers could not be read, and the report is cut";
-        return streams::fail(rt, what, source.reason);
+    match r {
+        Ok(()) => Ok(()),
+        Err(Broken::Input) => {
+            let what = "replay: the stored answers could not be read, and the report is cut";
+            streams::fail(rt, what, source.reason)
+        }
+        Err(Broken::Output) => {
+            let what = "replay: the report could not be written, and is cut";
+            streams::fail(rt, what, sink.reason)
+        }
     }
-    if r.unwritten {
-        let what = "replay: the report could not be written, and is cut";
-        return streams::fail(rt, what, sink.reason);
-    }
-    Ok(())
 }
 
 fn run(

@@ -2,48 +2,56 @@
 use mathlib.Core.Path.{◌≡◌, refl, sym, ap, subst, ◌∙◌}
 use mathlib.Core.Bool.{Bool, true, false, ◌&&◌, cond, false≢true}
 use mathlib.Core.List.{List, [], ◌++◌, append_assoc, append-nil}
-use Prim.Native.Nat.{ℕ, zero, suc, ◌+◌, ◌-◌, ◌≤◌, ◌<◌}
+use Prim.Native.Nat.{ℕ, zero, suc, ◌+◌, ◌≤◌}
 use native.Mathlib.Omega.{arith}
 use lib.Dec.{leb, eqb}
-use lib.ListN.{length, take, drop, get_or, length-drop, take-append-drop, drop_of_length-le, get_or-eq_default}
-use lib.Seq.{take_all, drop-drop}
+use lib.ListN.{length, take, drop, length-drop, take-append-drop, drop_of_length-le, get_or-eq_default}
+use lib.Seq.{drop-drop}
 use borrow.Author.Tests.{leb-true}
+use Rattle.std.specs.Prelude.{Result, Ok, Err, is_ok, is_err}
 use Rattle.definition.specs.Text.{same}
 use Rattle.definition.specs.SheetForms.{vregs_of}
+use Rattle.std.specs.Result.{result_or}
 use Rattle.streams.specs.declared.Stream.{Stream}
-use Rattle.streams.specs.declared.Step.{Step}
-use Rattle.streams.specs.Tape.{AllMarked, WroteAll}
+use Rattle.streams.specs.declared.Cut.{Cut}
+use Rattle.streams.specs.declared.Broken.{Broken}
+use Rattle.streams.specs.declared.Broken.TheVariants.{Input, Output}
+use Rattle.streams.specs.Tape.{AllMarked, WroteAll, written as moved, in_broken, out_broken}
+use Rattle.streams.specs.Ends.{or_broken}
 use Rattle.frames.specs.declared.Frame.{Frame}
-use Rattle.frames.specs.Frames.{is_head, is_frame, frame_size, frame_sheet, frame_answer, agrees, past_frame}
+use Rattle.frames.specs.Frames.{is_head, is_frame, frame_size, frame_answer, agrees, past_frame}
 use Rattle.frames.specs.Report.{differs_line, missed, summary, report_from, report}
-use Rattle.frames.specs.Read.{Missing, Framed, FrameRead}
-use Rattle.replay_run.specs.declared.Found.{Found}
-use Rattle.replay_run.specs.declared.Outcome.{Outcome}
-use Rattle.replay_run.specs.Ran.{Compared, AnswerRead, OnTapes, Ran}
+use Rattle.frames.specs.declared.NoFrame.{NoFrame}
+use Rattle.frames.specs.Read.{Missing, Framed, FrameRead, failed, ended}
+use Rattle.replay_run.specs.Ran.{Compared, AnswerRead, Ran}
 
 never : {A : Type 0} → false ≡ true → A
 never e = absurd (false≢true e)
 
+-- what did not fail
+unbroken : (w : Result Unit Cut) → is_err w ≡ false → is_ok w ≡ true
+unbroken (Ok u) e = refl
+unbroken (Err d) e = never (sym e)
+
 -- ---- one frame
 
-pub found_none : (tape given : List ℕ) (s : Stream) (f : Frame) (S A : List ℕ) → FrameRead tape given s f S A → f.whole ≡ false → AnswerRead tape given s (record { whole = false; failed = f.failed; ended = f.ended; same = false; next = f.next })
-found_none tape given s f S A q e = record { taped = q.taped; bound = q.bound; whole = λ y. never y; missing = λ _. q.missing e }
+pub found_none : (tape given : List ℕ) (s : Stream) (e : NoFrame) (t : Stream) (S A : List ℕ) → FrameRead tape given s (Err e) t S A → AnswerRead tape given s (Err e) t
+found_none tape given s e t S A q = record { taped = q.taped; bound = q.bound; whole = tt; missing = q.missing }
 
-pub found_some : (tape given : List ℕ) (s : Stream) (f : Frame) (S A : List ℕ) (b : Bool) → FrameRead tape given s f S A → f.whole ≡ true → b ≡ same (take f.answer A) (vregs_of (take f.sheet S))
-    → AnswerRead tape given s (record { whole = true; failed = false; ended = false; same = b; next = f.next })
-found_some tape given s f S A b q e i =
+pub found_some : (tape given : List ℕ) (s : Stream) (f : Frame) (t : Stream) (S A : List ℕ) (b : Bool) → FrameRead tape given s (Ok f) t S A → b ≡ same (take f.answer A) (vregs_of (take f.sheet S)) → AnswerRead tape given s (Ok b) t
+found_some tape given s f t S A b q i =
     record {
       taped = q.taped;
       bound = q.bound;
-      whole = λ _ t.
-          let w : Framed (drop s.at given) s f S A = q.whole e t in
+      whole = λ y.
+          let w : Framed (drop s.at given) s f t S A = q.whole y in
           record {
             frame = w.frame;
-            same = i ∙ ap (λ (l : List ℕ). same l (vregs_of (take f.sheet S))) w.answer ∙ ap (λ (l : List ℕ). same (frame_answer (drop s.at given)) (vregs_of l)) w.sheet;
+            is = i ∙ ap (λ (l : List ℕ). same l (vregs_of (take f.sheet S))) w.answer ∙ ap (λ (l : List ℕ). same (frame_answer (drop s.at given)) (vregs_of l)) w.sheet;
             at = w.at;
             onward = w.onward;
           };
-      missing = λ y. never (sym y);
+      missing = tt;
     }
 
 -- ---- the report, frame by frame
@@ -72,24 +80,23 @@ missed_one false = omega arith
 
 -- ---- between two turns
 
-pub record Kept (reads given : List ℕ) (input : Stream) (paper : List ℕ) (output at to : Stream) (answers differ turns : ℕ) (P : List ℕ) : Type 0 where
+pub record Kept (given : List ℕ) (input : Stream) (paper : List ℕ) (output at to : Stream) (answers differ turn : ℕ) (P : List ℕ) : Type 0 where
   pub fuel : ℕ
   pub enough : length (drop at.at given) ≤ fuel
   pub text : take to.at P ++ report_from fuel answers differ (drop at.at given) ≡ take output.at paper ++ report (drop input.at given)
-  pub left : length reads ≤ at.call + turns
+  pub made : turn ≤ at.call
 
-pub record Replaying (reads given : List ℕ) (input : Stream) (paper : List ℕ) (output at to : Stream) (answers differ turns : ℕ) (P : List ℕ) : Type 0 where
+pub record Replaying (given : List ℕ) (input : Stream) (paper : List ℕ) (output at to : Stream) (answers differ turn : ℕ) (P : List ℕ) : Type 0 where
   pub in_taped : at.taped ≡ input.taped
   pub out_taped : to.taped ≡ output.taped
   pub in_bound : at.at ≤ length given
   pub out_bound : to.at ≤ length P
-  pub few : answers + turns ≤ 18446744073709551615
+  pub few : answers ≤ turn
   pub less : differ ≤ answers
-  pub kept : input.taped ≡ true → output.taped ≡ true → Kept reads given input paper output at to answers differ turns P
+  pub kept : input.taped ≡ true → output.taped ≡ true → Kept given input paper output at to answers differ turn P
 
-pub replaying_start : (reads given : List ℕ) (input : Stream) (paper : List ℕ) (output : Stream) → input.at ≤ length given → output.at ≤ length paper → length reads ≤ 18446744073709551615
-    → Replaying reads given input paper output input output 0 0 18446744073709551615 paper
-replaying_start reads given input paper output h g l =
+pub replaying_start : (given : List ℕ) (input : Stream) (paper : List ℕ) (output : Stream) → input.at ≤ length given → output.at ≤ length paper → Replaying given input paper output input output 0 0 0 paper
+replaying_start given input paper output h g =
     record {
       in_taped = refl;
       out_taped = refl;
@@ -97,151 +104,153 @@ replaying_start reads given input paper output h g l =
       out_bound = g;
       few = omega arith;
       less = omega arith;
-      kept = λ _ _. record { fuel = length (drop input.at given); enough = omega arith; text = refl; left = omega (arith, l) };
+      kept = λ _ _. record { fuel = length (drop input.at given); enough = omega arith; text = refl; made = omega arith };
     }
 
 -- what was written of a text, and what is left of it
-written : (tape P text : List ℕ) (to : Stream) (w : Step) (Q R : List ℕ) → AllMarked tape P text to w Q → take w.next.at Q ++ (drop w.n text ++ R) ≡ take to.at P ++ (text ++ R)
-written tape P text to w Q R m =
-    ap (λ (l : List ℕ). l ++ (drop w.n text ++ R)) m.text
-    ∙ append_assoc (take to.at P) (take w.n text) (drop w.n text ++ R)
-    ∙ ap (λ (l : List ℕ). take to.at P ++ l) (sym (append_assoc (take w.n text) (drop w.n text) R) ∙ ap (λ (l : List ℕ). l ++ R) (take-append-drop w.n text))
+written : (tape P text : List ℕ) (to : Stream) (w : Result Unit Cut) (t : Stream) (Q R : List ℕ) → AllMarked tape P text to w t Q → take t.at Q ++ (drop (moved text w) text ++ R) ≡ take to.at P ++ (text ++ R)
+written tape P text to w t Q R m =
+    let n : ℕ = moved text w in
+    ap (λ (l : List ℕ). l ++ (drop n text ++ R)) m.text
+    ∙ append_assoc (take to.at P) (take n text) (drop n text ++ R)
+    ∙ ap (λ (l : List ℕ). take to.at P ++ l) (sym (append_assoc (take n text) (drop n text) R) ∙ ap (λ (l : List ℕ). l ++ R) (take-append-drop n text))
 
 nothing_left : (text : List ℕ) (n : ℕ) → n ≡ length text → drop n text ≡ []
 nothing_left text n e = let h : length text ≤ n = omega (arith, e) in drop_of_length-le text h
 
-module _ (reads given : List ℕ) (input : Stream) (writes paper : List ℕ) (output at to : Stream) (answers differ turns : ℕ) (P : List ℕ) (h : Replaying reads given input paper output at to answers differ turns P) where
+module _ (reads given : List ℕ) (input : Stream) (writes paper : List ℕ) (output at to : Stream) (answers differ turn : ℕ) (P : List ℕ) (h : Replaying given input paper output at to answers differ turn P) where
   -- no turn is left
-  pub replaying_out : (r : Outcome) → turns ≤ 0 → r ≡ record { unread = true; unwritten = false; input = at; output = to } → Ran reads given input writes paper output r P
-  replaying_out r z e =
-      subst (λ (x : Outcome). Ran reads given input writes paper output x P) (sym e)
-      (record {
+  pub replaying_out : length reads ≤ turn → Ran reads given input at writes paper output (Err Input) to P
+  replaying_out z =
+      record {
         on_tapes = λ ti tw.
-            let k : Kept reads given input paper output at to answers differ turns P = h.kept ti tw in
+            let k : Kept given input paper output at to answers differ turn P = h.kept ti tw in
             record {
               rest = report_from k.fuel answers differ (drop at.at given);
               is = k.text;
               whole = λ y _. never (sym y);
-              unread = λ _. get_or-eq_default reads 0 (omega (arith, k.left, z));
+              unread = λ _. get_or-eq_default reads 0 (omega (arith, k.made, z));
               unwritten = λ y. never y;
             };
-      })
+      }
 
-  module _ (f : Found) (q : AnswerRead reads given at f) where
-    module _ (nw : f.whole ≡ false) where
-      missing : input.taped ≡ true → Missing reads (drop at.at given) f.failed f.ended f.next
-      missing t = q.missing nw (h.in_taped ∙ t)
+  module _ (e : NoFrame) (next : Stream) (q : AnswerRead reads given at (Err e) next) where
+    missing : input.taped ≡ true → Missing reads (drop at.at given) e next
+    missing t = q.missing (h.in_taped ∙ t)
 
-      -- a read failed
-      pub replaying_unread : (r : Outcome) → f.failed ≡ true → r ≡ record { unread = true; unwritten = false; input = f.next; output = to } → Ran reads given input writes paper output r P
-      replaying_unread r z e =
-          subst (λ (x : Outcome). Ran reads given input writes paper output x P) (sym e)
-          (record {
-            on_tapes = λ ti tw.
-                let k : Kept reads given input paper output at to answers differ turns P = h.kept ti tw in
-                record {
-                  rest = report_from k.fuel answers differ (drop at.at given);
-                  is = k.text;
-                  whole = λ y _. never (sym y);
-                  unread = λ _. (missing ti).stopped z;
-                  unwritten = λ y. never y;
-                };
-          })
-
-      abbrev last : List ℕ
-      last = summary f.ended answers differ
-
-      -- no frame is left: the last line
-      pub replaying_end : (w : Step) (Q : List ℕ) (r : Outcome) → f.failed ≡ false → WroteAll writes P (summary f.ended answers differ) to w Q → r ≡ record { unread = false; unwritten = w.failed; input = f.next; output = w.next }
-          → Ran reads given input writes paper output r Q
-      replaying_end w Q r z a e =
-          subst (λ (x : Outcome). Ran reads given input writes paper output x Q) (sym e)
-          (record {
-            on_tapes = λ ti tw.
-                let k : Kept reads given input paper output at to answers differ turns P = h.kept ti tw in
-                let m : AllMarked writes P last to w Q = a.marked (h.out_taped ∙ tw) in
-                record {
-                  rest = drop w.n last;
-                  is =
-                      ap (λ (l : List ℕ). take w.next.at Q ++ l) (sym (append-nil (drop w.n last))) ∙ written writes P last to w Q [] m
-                      ∙ ap (λ (l : List ℕ). take to.at P ++ l) (append-nil last ∙ ap (λ (b : Bool). summary b answers differ) ((missing ti).empty z) ∙ sym (report_stop k.fuel answers differ (drop at.at given) ((missing ti).none z)))
-                      ∙ k.text;
-                  whole = λ _ y. nothing_left last w.n (a.whole y);
-                  unread = λ y. never y;
-                  unwritten = λ y. m.stopped y;
-                };
-          })
-
-    module _ (wh : f.whole ≡ true) (w : Step) (Q : List ℕ) (a : WroteAll writes P (differs_line f.same (answers + 1)) to w Q) where
-      compared : input.taped ≡ true → Compared (drop at.at given) at f
-      compared t = q.whole wh (h.in_taped ∙ t)
-
-      -- what is left to report, its line first
-      record Onward (k : Kept reads given input paper output at to answers differ turns P) : Type 0 where
-        fuel : ℕ
-        enough : length (drop f.next.at given) ≤ fuel
-        is : report_from k.fuel answers differ (drop at.at given) ≡ differs_line f.same (answers + 1) ++ report_from fuel (answers + 1) (differ + missed f.same) (drop f.next.at given)
-
-      onward : (t : input.taped ≡ true) (k : Kept reads given input paper output at to answers differ turns P) → Onward k
-      onward t k = go k.fuel refl
-        where
-          go : (n : ℕ) → k.fuel ≡ n → Onward k
-          go zero e = absurd (omega (arith, e, k.enough, frame_fits (drop at.at given) (compared t).frame))
-          go (suc n) e =
-              let p : drop f.next.at given ≡ past_frame (drop at.at given) = ap (λ (j : ℕ). drop j given) (compared t).at ∙ sym (drop-drop (frame_size (drop at.at given)) at.at given) in
+    -- a read failed
+    pub replaying_unread : failed e ≡ true → Ran reads given input next writes paper output (Err Input) to P
+    replaying_unread z =
+        record {
+          on_tapes = λ ti tw.
+              let k : Kept given input paper output at to answers differ turn P = h.kept ti tw in
               record {
-                fuel = n;
-                enough = omega (arith, e, k.enough, length-drop f.next.at given, length-drop at.at given, (compared t).at, frame_fits (drop at.at given) (compared t).frame);
-                is =
-                    ap (λ (j : ℕ). report_from j answers differ (drop at.at given)) e
-                    ∙ report_next n answers differ (drop at.at given) (compared t).frame
-                    ∙ ap (λ (b : Bool). differs_line b (answers + 1) ++ report_from n (answers + 1) (differ + missed b) (past_frame (drop at.at given))) (sym (compared t).same)
-                    ∙ ap (λ (l : List ℕ). differs_line f.same (answers + 1) ++ report_from n (answers + 1) (differ + missed f.same) l) (sym p);
-              }
+                rest = report_from k.fuel answers differ (drop at.at given);
+                is = k.text;
+                whole = λ y _. never (sym y);
+                unread = λ _. (missing ti).stopped z;
+                unwritten = λ y. never y;
+              };
+        }
 
-      abbrev line : List ℕ
-      line = differs_line f.same (answers + 1)
+    -- no frame is left: the last line
+    module _ (b : Bool) (eb : b ≡ ended e) (z : failed e ≡ false) (w : Result Unit Cut) (t : Stream) (Q : List ℕ) (a : WroteAll writes P (summary b answers differ) to w t Q) where
+      abbrev last : List ℕ
+      last = summary b answers differ
 
-      -- a write failed
-      pub replaying_unwritten : (r : Outcome) → w.failed ≡ true → r ≡ record { unread = false; unwritten = true; input = f.next; output = w.next } → Ran reads given input writes paper output r Q
-      replaying_unwritten r z e =
-          subst (λ (x : Outcome). Ran reads given input writes paper output x Q) (sym e)
-          (record {
-            on_tapes = λ ti tw.
-                let k : Kept reads given input paper output at to answers differ turns P = h.kept ti tw in
-                let o : Onward k = onward ti k in
-                let m : AllMarked writes P line to w Q = a.marked (h.out_taped ∙ tw) in
-                let R : List ℕ = report_from o.fuel (answers + 1) (differ + missed f.same) (drop f.next.at given) in
-                record {
-                  rest = drop w.n line ++ R;
-                  is = written writes P line to w Q R m ∙ ap (λ (l : List ℕ). take to.at P ++ l) (sym o.is) ∙ k.text;
-                  whole = λ _ y. never (sym y);
-                  unread = λ y. never y;
-                  unwritten = λ _. m.stopped z;
-                };
-          })
+      marked : output.taped ≡ true → AllMarked writes P last to w t Q
+      marked tw = a.marked (h.out_taped ∙ tw)
 
-      pub replaying_next : (x : ℕ) → x ≡ missed f.same → 0 < turns → w.failed ≡ false → Replaying reads given input paper output f.next w.next (answers + 1) (differ + x) (turns - 1) Q
-      replaying_next x i p z =
-          subst (λ (y : ℕ). Replaying reads given input paper output f.next w.next (answers + 1) (differ + y) (turns - 1) Q) (sym i)
-          (record {
-            in_taped = q.taped ∙ h.in_taped;
-            out_taped = a.taped ∙ h.out_taped;
-            in_bound = q.bound;
-            out_bound = a.bound;
-            few = omega (arith, h.few, p);
-            less = omega (arith, h.less, missed_one f.same);
-            kept = λ ti tw.
-                let k : Kept reads given input paper output at to answers differ turns P = h.kept ti tw in
-                let o : Onward k = onward ti k in
-                let m : AllMarked writes P line to w Q = a.marked (h.out_taped ∙ tw) in
-                let R : List ℕ = report_from o.fuel (answers + 1) (differ + missed f.same) (drop f.next.at given) in
-                record {
-                  fuel = o.fuel;
-                  enough = o.enough;
-                  text =
-                      ap (λ (l : List ℕ). take w.next.at Q ++ (l ++ R)) (sym (nothing_left line w.n (a.whole z)))
-                      ∙ written writes P line to w Q R m ∙ ap (λ (l : List ℕ). take to.at P ++ l) (sym o.is) ∙ k.text;
-                  left = omega (arith, k.left, p, (compared ti).onward);
-                };
-          })
+      all_but : input.taped ≡ true → output.taped ≡ true → take t.at Q ++ drop (moved last w) last ≡ take output.at paper ++ report (drop input.at given)
+      all_but ti tw =
+          let k : Kept given input paper output at to answers differ turn P = h.kept ti tw in
+          ap (λ (l : List ℕ). take t.at Q ++ l) (sym (append-nil (drop (moved last w) last))) ∙ written writes P last to w t Q [] (marked tw)
+          ∙ ap (λ (l : List ℕ). take to.at P ++ l) (append-nil last ∙ ap (λ (c : Bool). summary c answers differ) (eb ∙ (missing ti).empty z) ∙ sym (report_stop k.fuel answers differ (drop at.at given) ((missing ti).none z)))
+          ∙ k.text
+
+      pub replaying_end : (r : Result Unit Broken) → r ≡ result_or w (Err Output) → Ran reads given input next writes paper output r t Q
+      replaying_end r i =
+          let ei : in_broken r ≡ false = (or_broken w r i).0 in
+          let eo : is_err w ≡ out_broken r = sym (or_broken w r i).1 in
+          record {
+            on_tapes = λ ti tw. record {
+              rest = drop (moved last w) last;
+              is = all_but ti tw;
+              whole = λ _ y. nothing_left last (moved last w) (a.whole (unbroken w (eo ∙ y)));
+              unread = λ y. never (sym ei ∙ y);
+              unwritten = λ y. (marked tw).stopped (eo ∙ y);
+            };
+          }
+
+  module _ (b : Bool) (next : Stream) (q : AnswerRead reads given at (Ok b) next) (w : Result Unit Cut) (t : Stream) (Q : List ℕ) (a : WroteAll writes P (differs_line b (answers + 1)) to w t Q) where
+    compared : input.taped ≡ true → Compared (drop at.at given) at b next
+    compared y = q.whole (h.in_taped ∙ y)
+
+    -- what is left to report, its line first
+    record Onward (k : Kept given input paper output at to answers differ turn P) : Type 0 where
+      fuel : ℕ
+      enough : length (drop next.at given) ≤ fuel
+      is : report_from k.fuel answers differ (drop at.at given) ≡ differs_line b (answers + 1) ++ report_from fuel (answers + 1) (differ + missed b) (drop next.at given)
+
+    onward : (y : input.taped ≡ true) (k : Kept given input paper output at to answers differ turn P) → Onward k
+    onward y k = go k.fuel refl
+      where
+        go : (n : ℕ) → k.fuel ≡ n → Onward k
+        go zero e = absurd (omega (arith, e, k.enough, frame_fits (drop at.at given) (compared y).frame))
+        go (suc n) e =
+            let p : drop next.at given ≡ past_frame (drop at.at given) = ap (λ (j : ℕ). drop j given) (compared y).at ∙ sym (drop-drop (frame_size (drop at.at given)) at.at given) in
+            record {
+              fuel = n;
+              enough = omega (arith, e, k.enough, length-drop next.at given, length-drop at.at given, (compared y).at, frame_fits (drop at.at given) (compared y).frame);
+              is =
+                  ap (λ (j : ℕ). report_from j answers differ (drop at.at given)) e
+                  ∙ report_next n answers differ (drop at.at given) (compared y).frame
+                  ∙ ap (λ (c : Bool). differs_line c (answers + 1) ++ report_from n (answers + 1) (differ + missed c) (past_frame (drop at.at given))) (sym (compared y).is)
+                  ∙ ap (λ (l : List ℕ). differs_line b (answers + 1) ++ report_from n (answers + 1) (differ + missed b) l) (sym p);
+            }
+
+    abbrev line : List ℕ
+    line = differs_line b (answers + 1)
+
+    -- a write failed
+    pub replaying_unwritten : is_err w ≡ true → Ran reads given input next writes paper output (Err Output) t Q
+    replaying_unwritten z =
+        record {
+          on_tapes = λ ti tw.
+              let k : Kept given input paper output at to answers differ turn P = h.kept ti tw in
+              let o : Onward k = onward ti k in
+              let m : AllMarked writes P line to w t Q = a.marked (h.out_taped ∙ tw) in
+              let R : List ℕ = report_from o.fuel (answers + 1) (differ + missed b) (drop next.at given) in
+              record {
+                rest = drop (moved line w) line ++ R;
+                is = written writes P line to w t Q R m ∙ ap (λ (l : List ℕ). take to.at P ++ l) (sym o.is) ∙ k.text;
+                whole = λ _ y. never (sym y);
+                unread = λ y. never y;
+                unwritten = λ _. m.stopped z;
+              };
+        }
+
+    pub replaying_next : (x : ℕ) → x ≡ missed b → is_err w ≡ false → Replaying given input paper output next t (answers + 1) (differ + x) (turn + 1) Q
+    replaying_next x i z =
+        subst (λ (y : ℕ). Replaying given input paper output next t (answers + 1) (differ + y) (turn + 1) Q) (sym i)
+        (record {
+          in_taped = q.taped ∙ h.in_taped;
+          out_taped = a.taped ∙ h.out_taped;
+          in_bound = q.bound;
+          out_bound = a.bound;
+          few = omega (arith, h.few);
+          less = omega (arith, h.less, missed_one b);
+          kept = λ ti tw.
+              let k : Kept given input paper output at to answers differ turn P = h.kept ti tw in
+              let o : Onward k = onward ti k in
+              let m : AllMarked writes P line to w t Q = a.marked (h.out_taped ∙ tw) in
+              let R : List ℕ = report_from o.fuel (answers + 1) (differ + missed b) (drop next.at given) in
+              record {
+                fuel = o.fuel;
+                enough = o.enough;
+                text =
+                    ap (λ (l : List ℕ). take t.at Q ++ (l ++ R)) (sym (nothing_left line (moved line w) (a.whole (unbroken w z))))
+                    ∙ written writes P line to w t Q R m ∙ ap (λ (l : List ℕ). take to.at P ++ l) (sym o.is) ∙ k.text;
+                made = omega (arith, k.made, (compared ti).onward);
+              };
+        })

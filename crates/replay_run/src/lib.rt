@@ -8,31 +8,13 @@ ghost use Rattle.sheet_places.specs.Places.{table_words};
 ghost use Rattle.frames.specs.Report.{missed as Report·missed};
 ghost use Rattle.replay_run.specs.Ran.{AnswerRead, Ran};
 
+use frames::NoFrame;
 use std::io::{Read, Write};
-use streams::Stream;
+use streams::{Broken, Stream};
 
-// A whole frame, and whether its answer is the one given anew. Where it is none: a read failed, or the input ended before it, or what follows is no frame.
-#[derive(Clone, Copy)]
-pub struct Found {
-    pub whole: bool,
-    pub failed: bool,
-    pub ended: bool,
-    pub same: bool,
-    pub next: Stream,
-}
-
-// Whether a read failed, and then the report is cut; whether a write failed; and where input and output stand.
-#[derive(Clone, Copy)]
-pub struct Outcome {
-    pub unread: bool,
-    pub unwritten: bool,
-    pub input: Stream,
-    pub output: Stream,
-}
-
-// The next frame, compared.
+// The next frame, compared: whether its answer is the one given anew.
 fn next_answer<R: Read>(
-    s: Stream,
+    s: &mut Stream,
     tape: &[usize],
     given: &[u8],
     sheet: &mut [u8],
@@ -43,56 +25,29 @@ fn next_answer<R: Read>(
     out: &mut [u8],
     work: &mut [u8],
     source: &mut R,
-) -> Found
-    requires { (s.at ≤ length given.now) × (262144 ≤ length sheet.old) × (524288 ≤ length answer.old) × (256 ≤ length buf.old) × (word_count table.old ≡ table_words) × (word_count written.old ≡ 1536) × (length out.old ≡ 460800) × (max_work ≤ word_count work.old) }
-    ensures { AnswerRead tape.now given.now s result }
+) -> Result<bool, NoFrame>
+    requires { (s.old.at ≤ length given.now) × (262144 ≤ length sheet.old) × (524288 ≤ length answer.old) × (256 ≤ length buf.old) × (word_count table.old ≡ table_words) × (word_count written.old ≡ 1536) × (length out.old ≡ 460800) × (max_work ≤ word_count work.old) }
+    ensures { AnswerRead tape.now given.now s.old result s.new }
 {
-    let f = frames::read_frame(s, tape, given, sheet, answer, source);
-    let next = f.next;
-    if !f.whole {
-        return Found {
-            whole: false,
-            failed: f.failed,
-            ended: f.ended,
-            same: false,
-            next,
-        };
-    }
+    let f = frames::read_frame(s, tape, given, sheet, answer, source)?;
     let n = f.sheet;
     let m = f.answer;
     let same = sheet_replay::is_answer(&sheet[..n], &answer[..m], buf, table, written, out, work);
-    Found {
-        whole: true,
-        failed: false,
-        ended: false,
-        same,
-        next,
-    }
+    Ok(same)
 }
 
 fn missed(same: bool) -> u64
     ensures { result ≡ Report·missed same }
 {
-    if same { 0 } else { 1 }
+    u64::from(!same)
 }
 
-fn ends(unread: bool, unwritten: bool, input: Stream, output: Stream) -> Outcome
-    ensures { result ≡ record { unread = unread; unwritten = unwritten; input = input; output = output } }
-{
-    Outcome {
-        unread,
-        unwritten,
-        input,
-        output,
-    }
-}
-
-// On tapes: the report on the bytes that were given, on the paper; or its first bytes, where a read or a write failed. A proved loop has to end, and nothing says that the input does: so the turns are counted down, from a number that no run uses up.
+// On tapes: the report on the bytes that were given, on the paper; or its first bytes, where a read or a write failed. A proved loop has to end, and nothing says that the input does: so there are only so many turns as no run uses up.
 pub fn replay<R: Read, W: Write>(
-    input: Stream,
+    input: &mut Stream,
     reads: &[usize],
     given: &[u8],
-    output: Stream,
+    output: &mut Stream,
     writes: &[usize],
     paper: &mut [u8],
     sheet: &mut [u8],
@@ -104,35 +59,34 @@ pub fn replay<R: Read, W: Write>(
     work: &mut [u8],
     source: &mut R,
     sink: &mut W,
-) -> Outcome
-    requires { (input.at ≤ length given.now) × (output.at ≤ length paper.old) × (262144 ≤ length sheet.old) × (524288 ≤ length answer.old) × (256 ≤ length buf.old) × (word_count table.old ≡ table_words) × (word_count written.old ≡ 1536) × (length out.old ≡ 460800) × (max_work ≤ word_count work.old) }
-    ensures { Ran reads.now given.now input writes.now paper.old output result paper.new }
+) -> Result<(), Broken>
+    requires { (input.old.at ≤ length given.now) × (output.old.at ≤ length paper.old) × (262144 ≤ length sheet.old) × (524288 ≤ length answer.old) × (256 ≤ length buf.old) × (word_count table.old ≡ table_words) × (word_count written.old ≡ 1536) × (length out.old ≡ 460800) × (max_work ≤ word_count work.old) }
+    ensures { Ran reads.now given.now input.old input.new writes.now paper.old output.old result output.new paper.new }
 {
-    let mut at = input;
-    let mut to = output;
     let mut answers = 0;
     let mut differ = 0;
-    let mut turns = u64::MAX;
-    while 0 < turns {
-        let f = next_answer(
-            at, reads, given, sheet, answer, buf, table, written, out, work, source,
-        );
-        at = f.next;
-        if !f.whole {
-            if f.failed {
-                return ends(true, false, at, to);
+    for _ in 0..u64::MAX {
+        match next_answer(
+            input, reads, given, sheet, answer, buf, table, written, out, work, source,
+        ) {
+            Ok(same) => {
+                answers += 1;
+                differ += missed(same);
+                let cut = frames::tell(same, answers, output, writes, paper, sink).is_err();
+                if cut {
+                    return Err(Broken::Output);
+                }
             }
-            let w = frames::sum_up(f.ended, answers, differ, to, writes, paper, sink);
-            return ends(false, w.failed, at, w.next);
+            Err(NoFrame::Failed) => return Err(Broken::Input),
+            Err(NoFrame::Ended) => {
+                let w = frames::sum_up(true, answers, differ, output, writes, paper, sink);
+                return w.or(Err(Broken::Output));
+            }
+            Err(NoFrame::Other) => {
+                let w = frames::sum_up(false, answers, differ, output, writes, paper, sink);
+                return w.or(Err(Broken::Output));
+            }
         }
-        answers += 1;
-        differ += missed(f.same);
-        let w = frames::tell(f.same, answers, to, writes, paper, sink);
-        to = w.next;
-        if w.failed {
-            return ends(false, true, at, to);
-        }
-        turns -= 1;
     }
-    ends(true, false, at, to)
+    Err(Broken::Input)
 }

@@ -1,4 +1,2 @@
 -- The laws that belong to no one function.
-pub mod Never
-pub mod Alone
 pub mod Puts

@@ -1,135 +1,107 @@
 // The samples of a document: blocks between lines that begin with three back quotes.
-ghost use Rattle.std.specs.Prelude.{◌≡◌, true, ◌+◌, ◌≤◌, ◌<◌, length};
-ghost use Rattle.sheet_samples.specs.Bounds.{Within, Inside};
+ghost use Rattle.std.specs.Prelude.{◌≤◌, ◌<◌, length};
 
-// A block: its lines, and where the document goes on.
+// A block: its lines, and the document behind it.
 #[derive(Clone, Copy)]
-pub struct Block {
-    pub from: usize,
-    pub to: usize,
-    pub next: usize,
+struct Block<'a> {
+    lines: &'a [u8],
+    rest: &'a [u8],
 }
 
-// A sheet and its answer (paired), a block of one of the two marks that has no partner (alone), or another block.
+// A sheet and its answer, a block of one of the two marks that has no partner, or another block.
 #[derive(Clone, Copy)]
-pub struct Sample {
-    pub paired: bool,
-    pub alone: bool,
-    pub job: Block,
-    pub answer: Block,
-    pub next: usize,
+pub enum Sample<'a> {
+    Paired { sheet: &'a [u8], answer: &'a [u8] },
+    Alone,
+    Other,
 }
 
-// Where the next line begins, or the document ends.
-fn next_line(doc: &[u8], at: usize) -> usize
-    requires { at ≤ length doc.now }
-    ensures { (at ≤ result) × (result ≤ length doc.now) × (at < length doc.now → at < result) }
+// How many bytes the first line has.
+fn line(doc: &[u8]) -> usize
+    ensures within { result ≤ length doc.now }
+    ensures some { 0 < length doc.now → 0 < result }
 {
-    let mut i = at;
-    while i < doc.len() {
-        if doc[i] == b'\n' {
-            return i + 1;
-        }
-        i += 1;
+    match doc.iter().position(|b| *b == b'\n') {
+        Some(k) => k + 1,
+        None => doc.len(),
     }
-    i
 }
 
-// Whether these bytes stand at this place.
-pub fn stands(doc: &[u8], at: usize, bytes: &[u8]) -> bool
-    requires { at ≤ length doc.now }
-    ensures { result ≡ true → at + length bytes.now ≤ length doc.now }
+// How many bytes lie before the first line that begins with three back quotes.
+fn before_fence(doc: &[u8]) -> usize
+    ensures { result ≤ length doc.now }
 {
-    if doc.len() - at < bytes.len() {
-        return false;
+    let mut at = 0;
+    // From line to line, and where a line ends is known behind it: no index counts here.
+    while at < doc.len() && !doc[at..].starts_with(b"```") {
+        at += line(&doc[at..]);
     }
-    let mut i = 0;
-    while i < bytes.len() {
-        if doc[at + i] != bytes[i] {
-            return false;
-        }
-        i += 1;
+    at
+}
+
+// The document from that line on.
+pub fn from_fence(doc: &[u8]) -> &[u8]
+    ensures { length result.now ≤ length doc.now }
+{
+    let at = before_fence(doc);
+    &doc[at..]
+}
+
+// The block that begins with the document's first line.
+fn first_block(doc: &[u8]) -> Block<'_>
+    requires { 0 < length doc.now }
+    ensures { length result.rest.now < length doc.now }
+{
+    let n = line(doc);
+    let inner = &doc[n..];
+    let m = before_fence(inner);
+    let fence = &inner[m..];
+    let k = line(fence);
+    Block {
+        lines: &inner[..m],
+        rest: &fence[k..],
     }
-    true
 }
 
-// The next line from this one on that begins with three back quotes, or the document's end.
-pub fn next_fence(doc: &[u8], at: usize) -> usize
-    requires { at ≤ length doc.now }
-    ensures { (at ≤ result) × (result ≤ length doc.now) }
+// The same of a job block: its lines are the sheet, but for the last line feed where the first line says so.
+fn job_block(doc: &[u8]) -> Block<'_>
+    requires { 0 < length doc.now }
+    ensures { length result.rest.now < length doc.now }
 {
-    let mut i = at;
-    while i < doc.len() {
-        if stands(doc, i, b"```") {
-            return i;
-        }
-        i = next_line(doc, i);
-    }
-    i
-}
-
-// The block whose first line begins here.
-fn block_at(doc: &[u8], at: usize) -> Block
-    requires { at < length doc.now }
-    ensures { Within result (length doc.now) × (at < result.next) }
-{
-    let from = next_line(doc, at);
-    let to = next_fence(doc, from);
-    let next = next_line(doc, to);
-    Block { from, to, next }
-}
-
-// The sheet of a job block that begins here: its lines, but for the last line feed where the first line says so.
-fn sheet_of(doc: &[u8], at: usize) -> Block
-    requires { at < length doc.now }
-    ensures { Within result (length doc.now) × (at < result.next) }
-{
-    let b = block_at(doc, at);
-    if stands(doc, at, b"```job no-last-line-feed\n") {
-        if b.from < b.to {
+    let b = first_block(doc);
+    if doc.starts_with(b"```job no-last-line-feed\n") {
+        if let [lines @ .., _] = b.lines {
             return Block {
-                from: b.from,
-                to: b.to - 1,
-                next: b.next,
+                lines,
+                rest: b.rest,
             };
         }
     }
     b
 }
 
-// A block, with no partner.
-fn single(b: Block, alone: bool) -> Sample
-    ensures { (result.next ≡ b.next) × (result.job ≡ b) × (result.answer ≡ b) }
+// What begins with the document's first line, which is one of three back quotes, and the document behind it.
+pub fn first_sample(doc: &[u8]) -> (Sample<'_>, &[u8])
+    requires { 0 < length doc.now }
+    ensures { length result.1.now < length doc.now }
 {
-    Sample {
-        paired: false,
-        alone,
-        job: b,
-        answer: b,
-        next: b.next,
+    let b = job_block(doc);
+    if !doc.starts_with(b"```job") {
+        let s = if doc.starts_with(b"```registers") {
+            Sample::Alone
+        } else {
+            Sample::Other
+        };
+        return (s, b.rest);
     }
-}
-
-// What begins at this line of three back quotes.
-pub fn sample_at(doc: &[u8], at: usize) -> Sample
-    requires { at < length doc.now }
-    ensures { Inside result (length doc.now) × (at < result.next) }
-{
-    let b = sheet_of(doc, at);
-    if !stands(doc, at, b"```job") {
-        return single(b, stands(doc, at, b"```registers"));
+    let fence = from_fence(b.rest);
+    if !fence.starts_with(b"```registers\n") {
+        return (Sample::Alone, b.rest);
     }
-    let next = b.next;
-    let f = next_fence(doc, next);
-    if !stands(doc, f, b"```registers\n") {
-        return single(b, true);
-    }
-    let a = block_at(doc, f);
-    Sample {
-        paired: true,
-        alone: false,
-        job: b,
-        answer: a,
-        next: a.next,
-    }
+    let a = first_block(fence);
+    let s = Sample::Paired {
+        sheet: b.lines,
+        answer: a.lines,
+    };
+    (s, a.rest)
 }

@@ -4,9 +4,8 @@
 
 mod document;
 
-ghost use Rattle.std.specs.Prelude.{◌≡◌, ◌+◌, ◌^◌, ◌≤◌, ◌<◌, length};
+ghost use Rattle.std.specs.Prelude.{◌+◌, ◌^◌, ◌≤◌, ◌<◌, length};
 ghost use Rattle.lines.specs.Wrote.{Wrote};
-ghost use Rattle.sheet_samples.specs.Bounds.{Inside};
 ghost use Rattle.sheet_samples.specs.Tallies.{differs_line, tally_line};
 
 use document::Sample;
@@ -15,19 +14,19 @@ use std::io;
 use std::io::Stdout;
 use streams::Noted;
 
-// Cut where a line could not be written: then no more are.
-#[derive(Clone, Copy)]
+// Cut where a line could not be written: then no more are. `cut` is a flag and no Result: the numbers count on, and
+// the sink has the reason.
+#[derive(Clone, Copy, Default)]
 struct Tally {
-    agree: usize,
-    differ: usize,
-    alone: usize,
+    agree: u64,
+    differ: u64,
+    alone: u64,
     cut: bool,
 }
 
 // Writes a text; whether it is cut.
 fn say(text: &[u8], sink: &mut Noted<Stdout>) -> bool {
-    let w = streams::write_to(sink, text);
-    w.failed
+    streams::write_to(sink, text).is_err()
 }
 
 fn put_differs(out: &mut [u8], number: u64) -> usize
@@ -39,108 +38,42 @@ fn put_differs(out: &mut [u8], number: u64) -> usize
     lines::put_bytes(out, b, b" differs\n")
 }
 
-// Says which sample it is; whether that is cut.
+// Says which sample it is; whether that is cut. home::tell says another line, and `put_differs` promises which: one for
+// both would only hand it on.
 fn tell(number: u64, sink: &mut Noted<Stdout>) -> bool {
     let mut line = [0u8; 64];
     let n = put_differs(&mut line, number);
     say(&line[..n], sink)
 }
 
-fn agreed(t: Tally) -> Tally
-    requires { t.agree + t.differ + t.alone < 2 ^ 63 }
-    ensures { result.agree + result.differ + result.alone ≡ t.agree + t.differ + t.alone + 1 }
-{
-    Tally {
-        agree: t.agree + 1,
-        differ: t.differ,
-        alone: t.alone,
-        cut: t.cut,
-    }
-}
-
-fn differed(t: Tally, sink: &mut Noted<Stdout>) -> Tally
-    requires { t.agree + t.differ + t.alone < 2 ^ 63 }
-    ensures { result.agree + result.differ + result.alone ≡ t.agree + t.differ + t.alone + 1 }
-{
-    let number = t.agree + t.differ + 1;
-    let mut cut = t.cut;
-    if !cut {
-        cut = tell(number as u64, sink);
-    }
-    Tally {
-        agree: t.agree,
-        differ: t.differ + 1,
-        alone: t.alone,
-        cut,
-    }
-}
-
-fn left_alone(t: Tally) -> Tally
-    requires { t.agree + t.differ + t.alone < 2 ^ 63 }
-    ensures { result.agree + result.differ + result.alone ≡ t.agree + t.differ + t.alone + 1 }
-{
-    Tally {
-        agree: t.agree,
-        differ: t.differ,
-        alone: t.alone + 1,
-        cut: t.cut,
-    }
-}
-
-// Whether the answer of a sample is what its sheet is answered.
-fn agrees(
-    doc: &[u8],
-    s: Sample,
-    buf: &mut [u8; 4096],
-    table: &mut [u8; 174680],
-    written: &mut [u8; 6144],
-    out: &mut [u8; 460800],
-    work: &mut [u8; 110600],
-) -> bool
-    requires { Inside s (length doc.now) }
-{
-    let job = s.job;
-    let from = job.from;
-    let to = job.to;
-    let answer = s.answer;
-    let start = answer.from;
-    let end = answer.to;
-    sheet_replay::is_answer(
-        &doc[from..to],
-        &doc[start..end],
-        buf,
-        table,
-        written,
-        out,
-        work,
-    )
-}
-
 // One more block.
 fn count(
-    doc: &[u8],
-    s: Sample,
-    t: Tally,
+    s: Sample<'_>,
+    t: &mut Tally,
     buf: &mut [u8; 4096],
     table: &mut [u8; 174680],
     written: &mut [u8; 6144],
     out: &mut [u8; 460800],
     work: &mut [u8; 110600],
     sink: &mut Noted<Stdout>,
-) -> Tally
-    requires { Inside s (length doc.now) × (t.agree + t.differ + t.alone < 2 ^ 63) }
-    ensures { result.agree + result.differ + result.alone ≤ t.agree + t.differ + t.alone + 1 }
+)
+    requires { t.old.agree + t.old.differ + t.old.alone < 2 ^ 63 }
+    ensures { t.new.agree + t.new.differ + t.new.alone ≤ t.old.agree + t.old.differ + t.old.alone + 1 }
 {
-    if s.paired {
-        if agrees(doc, s, buf, table, written, out, work) {
-            return agreed(t);
+    match s {
+        Sample::Paired { sheet, answer } => {
+            if sheet_replay::is_answer(sheet, answer, buf, table, written, out, work) {
+                t.agree += 1;
+            } else {
+                t.differ += 1;
+                if !t.cut {
+                    t.cut = tell(t.agree + t.differ, sink);
+                }
+            }
         }
-        return differed(t, sink);
+        Sample::Alone => t.alone += 1,
+        Sample::Other => {}
     }
-    if s.alone {
-        return left_alone(t);
-    }
-    t
 }
 
 // All blocks of the document.
@@ -155,17 +88,13 @@ fn count_all(
 ) -> Tally
     requires { length doc.now < 2 ^ 62 }
 {
-    let mut t = Tally {
-        agree: 0,
-        differ: 0,
-        alone: 0,
-        cut: false,
-    };
-    let mut at = document::next_fence(doc, 0);
-    while at < doc.len() {
-        let s = document::sample_at(doc, at);
-        t = count(doc, s, t, buf, table, written, out, work, sink);
-        at = document::next_fence(doc, s.next);
+    let mut t = Tally::default();
+    let mut rest = document::from_fence(doc);
+    // From block to block, and where a block ends is known behind it: no index counts here.
+    while !rest.is_empty() {
+        let (s, behind) = document::first_sample(rest);
+        count(s, &mut t, buf, table, written, out, work, sink);
+        rest = document::from_fence(behind);
     }
     t
 }
@@ -188,7 +117,7 @@ fn show(t: Tally, sink: &mut Noted<Stdout>) -> bool {
         return true;
     }
     let mut line = [0u8; 128];
-    let n = put_tally(&mut line, t.agree as u64, t.differ as u64, t.alone as u64);
+    let n = put_tally(&mut line, t.agree, t.differ, t.alone);
     say(&line[..n], sink)
 }
 
@@ -226,12 +155,10 @@ fn main(rt: HostRuntime) -> io::Result<()> {
         }
     };
     let mut text = [0u8; 131072];
-    let r = streams::fill_from(&mut source, &mut text);
-    if r.failed {
+    let Ok(n) = streams::fill_from(&mut source, &mut text) else {
         let what = "sheet_samples: SHEETS.md could not be read, and nothing is tallied";
         return streams::fail(&rt, what, source.reason);
-    }
-    let n = r.n;
+    };
     if n == 131072 {
         return eprintln!(rt; "sheet_samples: SHEETS.md is too long, and nothing is tallied");
     }

@@ -1,15 +1,16 @@
 -- A buffer that is filled from its start on. Assumes nothing.
 use mathlib.Core.Path.{◌≡◌, refl, sym, ap, subst, ◌∙◌}
-use mathlib.Core.Bool.{Bool, true, false}
+use mathlib.Core.Bool.{true, false}
 use mathlib.Core.List.{List, ◌++◌}
-use Prim.Native.Nat.{ℕ, ◌+◌, ◌-◌, ◌≤◌}
+use Prim.Native.Nat.{ℕ, ◌+◌, ◌-◌, ◌≤◌, ◌<◌}
 use native.Mathlib.Omega.{arith}
 use lib.ListN.{length, take, drop, length-drop, length-append}
 use lib.Seq.{length-take-le, take-add, take-append-add, take-append-le, drop-drop}
+use Rattle.std.specs.Prelude.{Result, Ok, Err, is_err}
 use Rattle.streams.specs.declared.Stream.{Stream}
-use Rattle.streams.specs.declared.Step.{Step}
-use Rattle.streams.specs.Tape.{Played, Read, Filled}
-use Rattle.streams.proofs.Steps.{not_both}
+use Rattle.streams.specs.declared.Cut.{Cut}
+use Rattle.streams.specs.Tape.{Played, Read, Filled, got}
+use Rattle.streams.proofs.Steps.{never}
 
 -- X with its elements from `done` on lent, and back as Y
 abbrev pub back : ℕ → ℕ → List ℕ → List ℕ → List ℕ
@@ -47,78 +48,105 @@ pub record Filling (given : List ℕ) (s cur : Stream) (done : ℕ) (B : List �
 pub filling_start : (given : List ℕ) (s : Stream) (B : List ℕ) → s.at ≤ length given → Filling given s s 0 B
 filling_start given s B h = record { within = omega arith; taped = refl; fd = refl; bound = h; kept = λ _. record { at = omega arith; bytes = refl; call = omega arith; onward = λ e. absurd (omega (arith, e)) } }
 
-module _ (tape given : List ℕ) (s cur : Stream) (done k : ℕ) (X : List ℕ) (r : Step) (Y : List ℕ) (h : Filling given s cur done X) (e : k ≡ length X - done) (l : length Y ≡ k) (q : Read tape given cur r Y) where
-  played : s.taped ≡ true → Played tape given cur r Y
-  played t = q.once.played (h.taped ∙ t)
+module _ (tape given : List ℕ) (s cur : Stream) (done k : ℕ) (X : List ℕ) (t : Stream) (Y : List ℕ) (h : Filling given s cur done X) (e : k ≡ length X - done) (l : length Y ≡ k) where
+  module _ (r : Result ℕ Cut) (q : Read tape given cur r t Y) where
+    played : s.taped ≡ true → Played tape given cur (got r) (is_err r) t Y
+    played y = q.played (h.taped ∙ y)
 
-  filled_within : done + r.n ≤ length (back done k X Y)
-  filled_within = omega (arith, h.within, q.once.within, length_back done k X Y h.within e l)
+    filled_within : done + got r ≤ length (back done k X Y)
+    filled_within = omega (arith, h.within, q.within, length_back done k X Y h.within e l)
 
-  filled_bytes : (t : s.taped ≡ true) → take (done + r.n) (back done k X Y) ≡ take (done + r.n) (drop s.at given)
-  filled_bytes t =
-      let z : Kept-filled given s cur done X = h.kept t in
-      let D : List ℕ = drop s.at given in
-      take_back done k r.n X Y h.within q.once.within
-      ∙ ap (λ (x : List ℕ). x ++ take r.n Y) z.bytes
-      ∙ ap (λ (x : List ℕ). take done D ++ x) ((played t).bytes ∙ ap (λ (m : ℕ). take r.n (drop m given)) z.at ∙ ap (take r.n) (sym (drop-drop done s.at given)))
-      ∙ sym (take-add done r.n D)
+    filled_bytes : (y : s.taped ≡ true) → take (done + got r) (back done k X Y) ≡ take (done + got r) (drop s.at given)
+    filled_bytes y =
+        let z : Kept-filled given s cur done X = h.kept y in
+        let D : List ℕ = drop s.at given in
+        let n : ℕ = got r in
+        take_back done k n X Y h.within q.within
+        ∙ ap (λ (x : List ℕ). x ++ take n Y) z.bytes
+        ∙ ap (λ (x : List ℕ). take done D ++ x) ((played y).bytes ∙ ap (λ (m : ℕ). take n (drop m given)) z.at ∙ ap (take n) (sym (drop-drop done s.at given)))
+        ∙ sym (take-add done n D)
 
-  moved : 1 ≤ r.n → (b : Bool) → r.failed ≡ b → r.failed ≡ false
-  moved p false f = f
-  moved p true f = absurd (omega (arith, p, q.once.nothing f))
+    -- nothing more was read: bytes and place are as they were
+    stands : got r ≡ 0 → (y : s.taped ≡ true) → (t.at ≡ s.at + done) × (take done (back done k X Y) ≡ take done (drop s.at given))
+    stands e0 y =
+        let i : done + got r ≡ done = omega (arith, e0) in
+        (omega (arith, (played y).at, (h.kept y).at, e0), subst (λ (j : ℕ). take j (back done k X Y) ≡ take j (drop s.at given)) i (filled_bytes y))
 
-  pub filling_next : 1 ≤ r.n → Filling given s r.next (done + r.n) (back done k X Y)
-  filling_next p =
+  pub filling_next : (n : ℕ) → (n ≡ 0 → ⊥) → Read tape given cur (Ok n) t Y → Filling given s t (done + n) (back done k X Y)
+  filling_next n p q =
       record {
-        within = filled_within;
-        taped = q.once.taped ∙ h.taped;
-        fd = q.once.fd ∙ h.fd;
-        bound = q.once.bound;
-        kept = λ t.
-            let z : Kept-filled given s cur done X = h.kept t in
-            let o : cur.call + 1 ≤ r.next.call = (played t).onward (moved p r.failed refl) in
-            record { at = omega (arith, (played t).at, z.at); bytes = filled_bytes t; call = omega (arith, o, z.call); onward = λ _. omega (arith, o, z.call) };
+        within = filled_within (Ok n) q;
+        taped = q.taped ∙ h.taped;
+        fd = q.fd ∙ h.fd;
+        bound = q.bound;
+        kept = λ y.
+            let z : Kept-filled given s cur done X = h.kept y in
+            let w : Played tape given cur n false t Y = played (Ok n) q y in
+            let o : cur.call + 1 ≤ t.call = w.onward refl in
+            record { at = omega (arith, w.at, z.at); bytes = filled_bytes (Ok n) q y; call = omega (arith, o, z.call); onward = λ _. omega (arith, o, z.call) };
       }
 
-  -- a call that read nothing: the end, or a failure
-  pub filling_end : r.n ≡ 0 → 1 ≤ length Y → Filled tape given s (record { n = done; again = false; failed = r.failed; next = r.next }) (back done k X Y)
-  filling_end e0 m =
-      let i : done + r.n ≡ done = omega (arith, e0) in
+  -- the input ended
+  pub filling_end : done < length X → Read tape given cur (Ok 0) t Y → Filled tape given s (Ok done) t (back done k X Y)
+  filling_end m q =
+      let b : length (back done k X Y) ≡ length X = length_back done k X Y h.within e l in
       record {
-        within = omega (arith, filled_within, i);
-        short = λ _. omega (arith, m, e, l, h.within, length_back done k X Y h.within e l);
-        counts = sym (length-take-le done (back done k X Y) (omega (arith, filled_within, i)));
-        taped = q.once.taped ∙ h.taped;
-        fd = q.once.fd ∙ h.fd;
-        bound = q.once.bound;
-        played = λ t.
-            let z : Kept-filled given s cur done X = h.kept t in
+        within = omega (arith, h.within, b);
+        short = λ f. never f;
+        counts = sym (length-take-le done (back done k X Y) (omega (arith, h.within, b)));
+        taped = q.taped ∙ h.taped;
+        fd = q.fd ∙ h.fd;
+        bound = q.bound;
+        played = λ y.
+            let z : Kept-filled given s cur done X = h.kept y in
+            let w : Played tape given cur 0 false t Y = played (Ok 0) q y in
             record {
-              at = omega (arith, (played t).at, z.at, e0);
-              bytes = subst (λ (j : ℕ). take j (back done k X Y) ≡ take j (drop s.at given)) i (filled_bytes t);
-              end = λ f _. omega (arith, (played t).at, e0, (played t).end f q.settled e0 m);
-              stopped = λ f. (played t).stopped f;
-              call = λ f. omega (arith, z.call, (played t).onward f);
-              onward = λ _ f. omega (arith, z.call, (played t).onward f);
+              at = (stands (Ok 0) q refl y).0;
+              bytes = (stands (Ok 0) q refl y).1;
+              end = λ _ _. omega (arith, w.at, q.end (h.taped ∙ y) refl (omega (arith, l, e, m)));
+              stopped = λ f. never f;
+              call = λ _. omega (arith, z.call, w.onward refl);
+              onward = λ _ _. omega (arith, z.call, w.onward refl);
             };
       }
 
+  -- a call failed
+  pub filling_failed : (d : Cut) → done < length X → Read tape given cur (Err d) t Y → Filled tape given s (Err (record { after = done })) t (back done k X Y)
+  filling_failed d m q =
+      let b : length (back done k X Y) ≡ length X = length_back done k X Y h.within e l in
+      record {
+        within = omega (arith, h.within, b);
+        short = λ _. omega (arith, m, b);
+        counts = sym (length-take-le done (back done k X Y) (omega (arith, h.within, b)));
+        taped = q.taped ∙ h.taped;
+        fd = q.fd ∙ h.fd;
+        bound = q.bound;
+        played = λ y. record {
+          at = (stands (Err d) q (q.nothing refl) y).0;
+          bytes = (stands (Err d) q (q.nothing refl) y).1;
+          end = λ f _. never f;
+          stopped = λ _. (played (Err d) q y).stopped refl;
+          call = λ f. never f;
+          onward = λ _ f. never f;
+        };
+      }
+
 -- the buffer is full
-pub filling_full : (tape given : List ℕ) (s cur : Stream) (done : ℕ) (B : List ℕ) → Filling given s cur done B → length B ≤ done → Filled tape given s (record { n = done; again = false; failed = false; next = cur }) B
+pub filling_full : (tape given : List ℕ) (s cur : Stream) (done : ℕ) (B : List ℕ) → Filling given s cur done B → length B ≤ done → Filled tape given s (Ok done) cur B
 filling_full tape given s cur done B h z =
     record {
       within = h.within;
-      short = λ e. not_both false e refl;
+      short = λ e. never e;
       counts = sym (length-take-le done B h.within);
       taped = h.taped;
       fd = h.fd;
       bound = h.bound;
-      played = λ t. record {
-        at = (h.kept t).at;
-        bytes = (h.kept t).bytes;
+      played = λ y. record {
+        at = (h.kept y).at;
+        bytes = (h.kept y).bytes;
         end = λ _ p. absurd (omega (arith, p, z));
-        stopped = λ e. not_both false e refl;
-        call = λ _. (h.kept t).call;
-        onward = λ p _. (h.kept t).onward (omega (arith, p, z));
+        stopped = λ e. never e;
+        call = λ _. (h.kept y).call;
+        onward = λ p _. (h.kept y).onward (omega (arith, p, z));
       };
     }

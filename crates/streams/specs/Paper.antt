@@ -1,10 +1,10 @@
 -- A text written page by page: what stands on the paper, and what is still to come. Assumes nothing.
-use Rattle.std.specs.Prelude.{◌≡◌, refl, Bool, true, false, List, [], ◌++◌, ℕ, ◌≤◌, ◌<◌, length, take, drop, get_or}
+use Rattle.std.specs.Prelude.{◌≡◌, refl, Bool, true, false, List, [], ◌++◌, ℕ, ◌≤◌, ◌<◌, length, take, drop, get_or, Result, IsOk, IsErr}
 use Rattle.std.proofs.Common.{sym, ap, ◌∙◌, append_assoc, arith, take-append-drop, take_all}
 use Rattle.std.proofs.lemmas.Bool.{false≢true}
 use Rattle.streams.specs.declared.Stream.{Stream}
-use Rattle.streams.specs.declared.Step.{Step}
-use Rattle.streams.specs.Tape.{AllMarked, WroteAll}
+use Rattle.streams.specs.declared.Cut.{Cut}
+use Rattle.streams.specs.Tape.{AllMarked, WroteAll, written}
 
 -- the text, behind what stood on the paper: all of it; or its first bytes, and then the tape fails there or the paper
 -- is full
@@ -26,34 +26,34 @@ pub writing_start : (paper text : List ℕ) (s : Stream) → s.at ≤ length pap
 writing_start paper text s h = record { taped = refl; bound = h; text_left = λ y. refl }
 
 -- a page is handed to the stream, and L is left behind it
-module _ (paper text tape : List ℕ) (s cur : Stream) (page L P : List ℕ) (w : Step) (Q : List ℕ)
-    (h : Writing paper text s cur (page ++ L) P) (a : WroteAll tape P page cur w Q) where
-  marked : s.taped ≡ true → AllMarked tape P page cur w Q
+module _ (paper text tape : List ℕ) (s cur : Stream) (page L P : List ℕ) (w : Result Unit Cut) (t : Stream)
+    (Q : List ℕ) (h : Writing paper text s cur (page ++ L) P) (a : WroteAll tape P page cur w t Q) where
+  marked : s.taped ≡ true → AllMarked tape P page cur w t Q
   marked y = a.marked (h.taped ∙ y)
 
   -- behind the first bytes of the page that were written
-  parted : s.taped ≡ true → take w.next.at Q ++ (drop w.n page ++ L) ≡ take s.at paper ++ text
+  parted : s.taped ≡ true → take t.at Q ++ (drop (written page w) page ++ L) ≡ take s.at paper ++ text
   parted y =
-      ap (λ (l : List ℕ). l ++ (drop w.n page ++ L)) (marked y).text
-      ∙ append_assoc (take cur.at P) (take w.n page) (drop w.n page ++ L)
-      ∙ ap (λ (l : List ℕ). take cur.at P ++ l) (sym (append_assoc (take w.n page) (drop w.n page) L))
-      ∙ ap (λ (l : List ℕ). take cur.at P ++ (l ++ L)) (take-append-drop w.n page)
+      ap (λ (l : List ℕ). l ++ (drop (written page w) page ++ L)) (marked y).text
+      ∙ append_assoc (take cur.at P) (take (written page w) page) (drop (written page w) page ++ L)
+      ∙ ap (λ (l : List ℕ). take cur.at P ++ l) (sym (append_assoc (take (written page w) page) (drop (written page w) page) L))
+      ∙ ap (λ (l : List ℕ). take cur.at P ++ (l ++ L)) (take-append-drop (written page w) page)
       ∙ h.text_left y
 
-  pub writing_next : w.failed ≡ false → Writing paper text s w.next L Q
+  pub writing_next : IsOk w → Writing paper text s t L Q
   writing_next f = record {
     taped = a.taped ∙ h.taped;
     bound = a.bound;
     text_left = λ y.
         ap (λ (l : List ℕ). l ++ L) ((marked y).text
-        ∙ ap (λ (l : List ℕ). take cur.at P ++ l) (take_all w.n page (omega (arith, a.whole f))))
+        ∙ ap (λ (l : List ℕ). take cur.at P ++ l) (take_all (written page w) page (omega (arith, a.whole f))))
         ∙ append_assoc (take cur.at P) page L
         ∙ h.text_left y;
   }
 
-  pub writing_failed : w.failed ≡ true → s.taped ≡ true → OnPaper tape paper text s true w.next Q
+  pub writing_failed : IsErr w → s.taped ≡ true → OnPaper tape paper text s true t Q
   writing_failed f y = record {
-    rest = drop w.n page ++ L;
+    rest = drop (written page w) page ++ L;
     is = parted y;
     whole = λ e. absurd (false≢true (sym e));
     stopped = λ _. (marked y).stopped f;

@@ -1,4 +1,4 @@
-// Why the last call failed. A `Step` has no room for the reason, so it is kept beside the reader or the writer.
+// Why the last call failed. A `Stop` or a `Cut` has no room for the reason: it is kept beside the reader or the writer.
 ghost use Rattle.std.specs.Prelude.{◌≡◌, IfErr, OnOk, Some, None};
 ghost use Rattle.std.specs.Io.{ReadsAtMost, WritesAtMost};
 ghost use Rattle.std.specs.Io.KnownBytes.{Keeps, ReadConsumes, WriteAppends};

@@ -12,6 +12,3 @@ convert-requires g c = let p = c.requires in (
   p.2,
   p.3,
 )
-
-pub returns : goal.returns
-returns g c = λ u. (c.convert.ensures.nothing u).2

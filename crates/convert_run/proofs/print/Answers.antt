@@ -3,6 +3,7 @@ use native.Mathlib.Omega.{arith}
 use Rattle.convert_run.proofs.Pages.{showing_start, showing_next, showing_failed, showing_end}
 use borrow.Author.Tests.{ne_eqb}
 use borrow.Author.Rules.{rules}
+use Rattle.std.proofs.lemmas.Result.{err_from_is_err_and}
 use Rattle.convert_run.proofs.print.Goals as goal
 
 pub loop-cur-init : goal.loop-cur-init
@@ -18,11 +19,12 @@ slice_bounds-write_all-end g c = c.fill-page.ensures.within
 pub slice_bounds-write_all-end-in-loop-cur : goal.slice_bounds-write_all-end-in-loop-cur
 slice_bounds-write_all-end-in-loop-cur g c = c.fill-page.ensures.counts
 
-pub write_all-w-requires : goal.write_all-w-requires
-write_all-w-requires g c = c.loop-cur.invariant.2.bound
+pub write_all-requires : goal.write_all-requires
+write_all-requires g c = c.loop-cur.invariant.2.bound
 
-pub returns-then-w : goal.returns-then-w
-returns-then-w g c = showing_failed _ _ _ _ _ _ _ _ _ _ _ _ c.loop-cur.invariant.2 c.fill-page.ensures c.write_all-w.ensures c.if-w.true
+pub returns-in_err-write_all : goal.returns-in_err-write_all
+returns-in_err-write_all g c = let p = err_from_is_err_and c.from_residual.result c.from_residual.ensures.1 in
+    rw p.1 (showing_failed _ _ _ _ _ _ _ _ _ _ _ _ _ c.loop-cur.invariant.2 c.fill-page.ensures c.in_err-write_all.ensures refl)
 
 pub loop-cur-smaller : goal.loop-cur-smaller
 loop-cur-smaller g c = let h = c.requires.1 in
@@ -33,8 +35,7 @@ pub loop-cur-preserved : goal.loop-cur-preserved
 loop-cur-preserved g c = (
   search rules,
   search rules,
-  showing_next _ _ _ _ _ _ _ _ _ _ _ _ c.loop-cur.invariant.2 c.fill-page.ensures c.write_all-w.ensures
-      c.if-w.false,
+  showing_next _ _ _ _ _ _ _ _ _ _ _ _ _ c.loop-cur.invariant.2 c.fill-page.ensures c.in_ok-write_all.ensures refl,
 )
 
 pub returns : goal.returns

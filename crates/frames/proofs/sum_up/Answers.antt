@@ -6,4 +6,4 @@ pub slice_bounds-write_all-end : goal.slice_bounds-write_all-end
 slice_bounds-write_all-end g c = line_counts _ _ _ _ c.put_summary-n.ensures (search rules)
 
 pub returns : goal.returns
-returns g c = line_written _ _ _ _ c.put_summary-n.ensures _ _ _ _ _ c.write_all.ensures
+returns g c = line_written _ _ _ _ c.put_summary-n.ensures _ _ _ _ _ _ c.write_all.ensures

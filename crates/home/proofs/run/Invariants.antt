@@ -1,8 +1,5 @@
-use Prim.Native.Nat.{◌+◌, ◌^◌, ◌≤◌, ◌<◌}
+use Prim.Native.Nat.{◌+◌, ◌≤◌}
 use Rattle.home.proofs.run.Given as goal
 
-abbrev pub invariant-loop-turns : goal.invariant-loop-turns
-invariant-loop-turns l = (l.at.at ≤ 1) × (l.t.home + l.t.refused + l.t.differ + l.turns < 2 ^ 64)
-
-abbrev pub decreases-loop-turns : goal.decreases-loop-turns
-decreases-loop-turns l = l.turns
+abbrev pub invariant-loop : goal.invariant-loop
+invariant-loop l = (l.at.at ≤ 1) × (l.t.home + l.t.refused + l.t.differ ≤ l.counter)

@@ -3,6 +3,7 @@ use Rattle.vregs_run.proofs.Starts.{begun}
 use Rattle.vregs_run.proofs.Pages.{showing_start, showing_next, showing_failed, showing_end}
 use borrow.Author.Tests.{not-true, not-false}
 use borrow.Author.Rules.{rules}
+use Rattle.std.proofs.lemmas.Result.{err_from_is_err_and}
 use Rattle.vregs_run.proofs.print.Goals as goal
 
 pub loop-cur-init : goal.loop-cur-init
@@ -20,17 +21,18 @@ slice_bounds-write_all-end g c = c.page-page.ensures.within
 pub slice_bounds-write_all-end-in-loop-cur : goal.slice_bounds-write_all-end-in-loop-cur
 slice_bounds-write_all-end-in-loop-cur g c = c.page-page.ensures.counts
 
-pub write_all-w-requires : goal.write_all-w-requires
-write_all-w-requires g c = c.loop-cur.invariant.2.bound
+pub write_all-requires : goal.write_all-requires
+write_all-requires g c = c.loop-cur.invariant.2.bound
 
-pub returns-then-w : goal.returns-then-w
-returns-then-w g c = showing_failed _ _ _ _ _ _ _ _ _ _ _ _ _ c.loop-cur.invariant.2 c.page-page.ensures c.write_all-w.ensures c.if-w.true
+pub returns-in_err-write_all : goal.returns-in_err-write_all
+returns-in_err-write_all g c = let p = err_from_is_err_and c.from_residual.result c.from_residual.ensures.1 in
+    rw p.1 (showing_failed _ _ _ _ _ _ _ _ _ _ _ _ _ _ c.loop-cur.invariant.2 c.page-page.ensures c.in_err-write_all.ensures refl)
 
 pub loop-cur-smaller : goal.loop-cur-smaller
 loop-cur-smaller g c = c.page-page.ensures.fewer (not-true _ c.loop-cur-test.true)
 
 pub loop-cur-preserved : goal.loop-cur-preserved
-loop-cur-preserved g c = (search rules, search rules, showing_next _ _ _ _ _ _ _ _ _ _ _ _ _ c.loop-cur.invariant.2 c.page-page.ensures c.write_all-w.ensures c.if-w.false)
+loop-cur-preserved g c = (search rules, search rules, showing_next _ _ _ _ _ _ _ _ _ _ _ _ _ _ c.loop-cur.invariant.2 c.page-page.ensures c.in_ok-write_all.ensures refl)
 
 pub returns : goal.returns
 returns g c = showing_end _ _ _ _ _ _ _ _ _ c.loop-cur.invariant.2 (not-false _ c.loop-cur-test.false)
