@@ -1,5 +1,9 @@
-// The types that code and definition share: indices, uses, the records of a job, refusals and stops.
+// The types that code and definition share: indices, uses, the records of a job, refusals with their numbers, and stops.
 #![tactic(auto)]
+
+ghost use Rattle.std.specs.Prelude.{◌≡◌};
+ghost use Rattle.definition.specs.Types.{number_of};
+ghost use Rattle.definition.specs.SheetForms.{sheet_number_of};
 
 // One tuple struct for each kind of index, as the Rust's entity types.
 
@@ -208,9 +212,40 @@ pub enum Refusal {
     Full,
 }
 
+impl Refusal {
+    // The number of a refusal.
+    pub fn number(self) -> u32
+        ensures { result ≡ number_of self }
+    {
+        match self {
+            Refusal::NotARecord => 1,
+            Refusal::OverALimit => 2,
+            Refusal::BadBook => 3,
+            Refusal::BadFunction => 4,
+            Refusal::BadHint => 5,
+            Refusal::BadSegment => 6,
+            Refusal::BadUse => 7,
+            Refusal::Stopped(_) => 8,
+            Refusal::Full => 9,
+        }
+    }
+}
+
 // The refusals of a job sheet: those of its job, and 10.
 #[derive(Clone, Copy, PartialEq, Eq)]
 pub enum SheetRefusal {
     By(Refusal),
     WrittenDiffers,
+}
+
+impl SheetRefusal {
+    // The number of a job sheet's refusal.
+    pub fn number(self) -> u32
+        ensures { result ≡ sheet_number_of self }
+    {
+        match self {
+            SheetRefusal::By(f) => f.number(),
+            SheetRefusal::WrittenDiffers => 10,
+        }
+    }
 }

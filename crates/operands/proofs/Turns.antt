@@ -1,34 +1,17 @@
 -- The loop that builds the index, over the bytes of the work slice. Assumes nothing.
-use mathlib.Core.Path.{◌≡◌, refl, sym, ap, ◌∙◌}
-use mathlib.Core.List.{List, ◌++◌}
-use Prim.Native.Nat.{ℕ, ◌+◌, ◌-◌, ◌*◌, ◌/◌, ◌≤◌, ◌<◌}
+use mathlib.Core.Path.{◌≡◌, refl, ap, ◌∙◌}
+use mathlib.Core.List.{List}
+use Prim.Native.Nat.{ℕ, ◌+◌, ◌*◌, ◌≤◌, ◌<◌}
 use native.Mathlib.Omega.{arith}
-use lib.ListN.{length, get_or, take, drop, replicate, length-replicate, length-drop}
-use lib.Seq.{length-take-le}
+use lib.ListN.{length, get_or, replicate}
 use Rattle.rows.specs.Parts.{splice}
 use Rattle.words.specs.Words.{word_count, words_of}
-use Rattle.words.specs.Laws.{length_words, words_replicate, words_put_back}
+use Rattle.words.specs.Laws.{length_words}
 use Rattle.operands.specs.declared.Chains.{Chains}
 use Rattle.operands.specs.Rows.{op_at}
 use Rattle.operands.specs.Chains.{chains_of, operands_of, linked, Under, Chained}
 use Rattle.operands.proofs.Rows.{long, inst_word}
 use Rattle.operands.proofs.Store.{chains_none, chains_next, chains_over, chains_hold}
-
--- words a up to a + n were lent and came back as zeros
-pub cleared : (s p : List ℕ) (a n : ℕ) → a + n ≤ word_count s → p ≡ replicate (length (take ((a + n) * 4 - a * 4) (drop (a * 4) s))) 0
-    → words_of (take (a * 4) s ++ (p ++ drop ((a + n) * 4 - a * 4) (drop (a * 4) s))) ≡ splice (words_of s) a (replicate n 0)
-unfolding splice
-cleared s p a n h e =
-    let l : length (take ((a + n) * 4 - a * 4) (drop (a * 4) s)) ≡ n * 4 = length-take-le ((a + n) * 4 - a * 4) (drop (a * 4) s) (simp length-drop (omega arith)) ∙ four in
-    let z : p ≡ replicate (n * 4) 0 = e ∙ ap (λ (k : ℕ). replicate k 0) l in
-    let lp : length p ≡ (a + n) * 4 - a * 4 = ap length z ∙ length-replicate (n * 4) 0 ∙ sym four in
-    let k : n * 4 / 4 ≡ n = omega arith in
-    words_put_back a (a + n) s p (omega arith) (omega arith) lp
-    ∙ ap (λ (r : List ℕ). take a (words_of s) ++ (r ++ drop (a + n) (words_of s))) (ap words_of z ∙ words_replicate (n * 4) ∙ ap (λ (j : ℕ). replicate j 0) k)
-    ∙ ap (λ (j : ℕ). take a (words_of s) ++ (replicate n 0 ++ drop (a + j) (words_of s))) (sym (length-replicate {A = ℕ} n 0))
-  where
-    four : (a + n) * 4 - a * 4 ≡ n * 4
-    four = omega arith
 
 -- the first k operands are in
 pub record Linking (t w₀ : List ℕ) (c : Chains) (k : ℕ) (w : List ℕ) : Type 0 where

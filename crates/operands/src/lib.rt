@@ -2,8 +2,7 @@
 // An operand row has four words: instruction, slot, value group, class.
 #![tactic(auto)]
 
-ghost use Rattle.std.specs.Prelude.{◌≡◌, ℕ, ◌+◌, ◌*◌, ◌≤◌, ◌<◌, replicate};
-ghost use Rattle.rows.specs.Parts.{splice};
+ghost use Rattle.std.specs.Prelude.{◌≡◌, ℕ, ◌+◌, ◌*◌, ◌≤◌, ◌<◌};
 ghost use Rattle.words.specs.Words.{word_count, words_of};
 ghost use Rattle.definition.specs.Entry.{apart, same_place};
 ghost use Rattle.operands.specs.Rows.{operand_row, last_place, taken_before};
@@ -35,16 +34,6 @@ pub fn operand_at(t: &[u8], i: usize) -> Operand
     }
 }
 
-// Zeros in n words from word `at` on.
-fn clear_words(work: &mut [u8], at: usize, n: usize)
-    requires { at + n ≤ word_count work.old }
-    ensures { words_of work.new ≡ splice (words_of work.old) at (replicate n 0) }
-{
-    let start = at * 4;
-    let end = (at + n) * 4;
-    spans::clear(&mut work[start..end]);
-}
-
 // Makes operand k, at instruction i, the last of its instruction.
 fn link(work: &mut [u8], c: Chains, k: usize, i: usize)
     requires { (k < c.count) × (i < c.insts) × (c.heads + c.insts ≤ c.nexts) × (c.nexts + c.count ≤ word_count work.old) × (c.count < 4294967295) }
@@ -62,7 +51,7 @@ pub fn put_chains(t: &[u8], work: &mut [u8], c: Chains)
     ensures work_after { words_of work.new ≡ chains_of (words_of work.old) c (operands_of (words_of t.now) c) c.count }
     ensures chained { Chained (words_of work.new) c (operands_of (words_of t.now) c) }
 {
-    clear_words(work, c.heads, c.insts);
+    spans::clear_words(work, c.heads, c.insts);
     for k in 0..c.count {
         let i = words::word_at(t, c.at + k * 4) as usize;
         link(work, c, k, i);

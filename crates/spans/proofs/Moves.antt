@@ -1,6 +1,7 @@
 -- Bytes cleared, copied and moved, by words. Assumes nothing.
 use Rattle.std.specs.Prelude.{◌≡◌, List, ◌++◌, ℕ, ◌+◌, ◌-◌, ◌*◌, ◌≤◌, length, take, drop, replicate}
-use Rattle.std.proofs.Common.{ap, ◌∙◌, arith, append_assoc, length-drop, length-take-le, drop-drop, take-add}
+use Rattle.std.proofs.Common.{ap, ◌∙◌, arith, append_assoc, length-drop, length-take-le, drop-drop, take-add, sym}
+use Rattle.std.proofs.lemmas.List.{length-replicate}
 use Rattle.std.proofs.Math.Seq.{slice}
 use Rattle.std.proofs.lemmas.Slice.{between_is}
 use Rattle.std.specs.List.{copy_within}
@@ -8,7 +9,7 @@ use borrow.Rule.Slice.PartMut.{put_mid}
 use Rattle.rows.specs.Parts.{splice}
 use Rattle.rows.specs.Moves.{Gap, gap_fill}
 use Rattle.words.specs.Words.{word_count, words_of}
-use Rattle.words.specs.Laws.{length_words, words_append, words_drop, words_part, words_put_back}
+use Rattle.words.specs.Laws.{length_words, words_append, words_drop, words_part, words_put_back, words_replicate}
 
 -- n words of s put over those of d
 pub copied : (d p s : List ℕ) (at from n : ℕ) → at + n ≤ word_count d → from + n ≤ word_count s
@@ -22,6 +23,17 @@ copied d p s at from n hd hs e =
     let lp : length p ≡ (at + n) * 4 - at * 4 =
     ap length e ∙ length-take-le ((from + n) * 4 - from * 4) (drop (from * 4) s) (simp length-drop (omega arith)) ∙ omega arith in
     words_put_back at (at + n) d p (omega arith) (omega arith) lp ∙ rw (w, length-take-le n (drop from (words_of s)) ls)
+
+-- words a up to a + n were lent and came back as zeros
+pub cleared : (s p : List ℕ) (a n : ℕ) → a + n ≤ word_count s → p ≡ replicate (length (take ((a + n) * 4 - a * 4) (drop (a * 4) s))) 0
+    → words_of (put_mid (a * 4) ((a + n) * 4 - a * 4) s p) ≡ splice (words_of s) a (replicate n 0)
+unfolding splice
+cleared s p a n h e =
+    let d : (a + n) * 4 - a * 4 ≡ n * 4 = omega arith in
+    let z : p ≡ replicate (n * 4) 0 = rw (e, d, length-take-le (n * 4) (drop (a * 4) s) (simp length-drop (omega arith))) in
+    let lp : length p ≡ (a + n) * 4 - a * 4 = ap length z ∙ length-replicate (n * 4) 0 ∙ sym d in
+    let w : words_of p ≡ replicate n 0 = ap words_of z ∙ words_replicate (n * 4) ∙ ap (λ (k : ℕ). replicate k 0) (omega arith) in
+    words_put_back a (a + n) s p (omega arith) (omega arith) lp ∙ rw (w, length-replicate {A = ℕ} n 0)
 
 -- what stood from `at` up to end moved n words up
 pub opened : (t t' : List ℕ) (at end n : ℕ) → at ≤ end → end + n ≤ word_count t → t' ≡ copy_within t (at * 4) (end * 4) ((at + n) * 4)

@@ -23,6 +23,14 @@ pub fn clear_first(s: &mut [u8], n: usize)
     clear(&mut s[..n * 4]);
 }
 
+// Zeros in n words from word `at` on.
+pub fn clear_words(s: &mut [u8], at: usize, n: usize)
+    requires { at + n ≤ word_count s.old }
+    ensures { words_of s.new ≡ splice (words_of s.old) at (replicate n 0) }
+{
+    clear(&mut s[at * 4..(at + n) * 4]);
+}
+
 // Copies n words of src, from word `from` on, to dst from word `at` on.
 pub fn copy_words(dst: &mut [u8], at: usize, src: &[u8], from: usize, n: usize)
     requires { (at + n ≤ word_count dst.old) × (from + n ≤ word_count src.now) }

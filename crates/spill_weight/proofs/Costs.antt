@@ -27,11 +27,11 @@ pub zero_small : T (small zero_f)
 unfolding small
 zero_small = tt
 
-one_small : T (small one_f)
+pub one_small : T (small one_f)
 unfolding small
 one_small = tt
 
-half_small : T (small half_f)
+pub half_small : T (small half_f)
 unfolding small
 half_small = tt
 
@@ -52,9 +52,6 @@ base_small (GroupClassDef s c i) x m h = h
 base_small (BlockparamIn p) x m h = zero_small
 base_small BlockparamOut x m h = zero_small
 
-pub is_fixed : (m b : Bool) → m ≡ b → (fixed_cost b ≡ fixed_cost m) × T (small (fixed_cost b))
-is_fixed m b e = (ap fixed_cost (sym e), fixed_small b)
-
 -- ---- the cost by its scale
 pub scaled_plain : (o : Options) (r : Remat) (x : Float) → SmallScales o → T (small x) → T (plain (scaled o r x))
 unfolding scaled
@@ -62,9 +59,6 @@ scaled_plain o Never x s h = small_plain x h
 scaled_plain o CheaperThanMove x s h = product_plain x o.cheaper_than_move h s.move_small
 scaled_plain o CheaperThanLoad x s h = product_plain x o.cheaper_than_load h s.load_small
 scaled_plain o Indirect x s h = product_plain x o.indirect h s.indirect_small
-
-pub is_scaled : (o : Options) (k j : Remat) (x : Float) → SmallScales o → T (small x) → k ≡ j → (scaled o j x ≡ scaled o k x) × T (plain (scaled o j x))
-is_scaled o k j x s h e = (ap (λ (i : Remat). scaled o i x) (sym e), scaled_plain o j x s h)
 
 -- ---- one use more
 abbrev zero32 : Float
@@ -89,19 +83,15 @@ pub add_cost_nonneg : (t c w : Float) → T (nonneg t) → T (plain c) → T (pl
 unfolding add_cost
 add_cost_nonneg t c w p q r = cond_nonneg (is_zero_f c) t (add binary32 t (mul binary32 c w)) p (add_nonneg binary32 t (mul binary32 c w) p (mul_nonneg binary32 c w q r))
 
-is_added : (t c w r : Float) → T (nonneg t) → T (plain c) → T (plain w) → r ≡ add_cost t c w → (r ≡ add_cost t c w) × T (nonneg r)
-is_added t c w r p q h e = (e, subst (λ (y : Float). T (nonneg y)) (sym e) (add_cost_nonneg t c w p q h))
-
 add_test : (t c w : Float) (b : Bool) → is_zero_f c ≡ b → cond b t (add binary32 t (mul binary32 c w)) ≡ add_cost t c w
 unfolding add_cost
 add_test t c w b e = ap (λ (z : Bool). cond z t (add binary32 t (mul binary32 c w))) (sym e)
 
-pub add_skipped : (t c w : Float) → T (nonneg t) → T (plain c) → T (plain w) → eq c zero32 ≡ true → (t ≡ add_cost t c w) × T (nonneg t)
-add_skipped t c w p q h e = is_added t c w t p q h (add_test t c w true (sym (zero_test c q) ∙ e))
+pub add_skipped : (t c w : Float) → T (plain c) → eq c zero32 ≡ true → t ≡ add_cost t c w
+add_skipped t c w q e = add_test t c w true (sym (zero_test c q) ∙ e)
 
-pub add_added : (t c w : Float) → T (nonneg t) → T (plain c) → T (plain w) → eq c zero32 ≡ false
-    → (add binary32 t (mul binary32 c w) ≡ add_cost t c w) × T (nonneg (add binary32 t (mul binary32 c w)))
-add_added t c w p q h e = is_added t c w (add binary32 t (mul binary32 c w)) p q h (add_test t c w false (sym (zero_test c q) ∙ e))
+pub add_added : (t c w : Float) → T (plain c) → eq c zero32 ≡ false → add binary32 t (mul binary32 c w) ≡ add_cost t c w
+add_added t c w q e = add_test t c w false (sym (zero_test c q) ∙ e)
 
 -- ---- the weight
 pub normalized_plain : (t : Float) (n k : ℕ) → T (nonneg t) → 0 < n + k → n + k ≤ 16777216 → T (plain (normalized t n k))
@@ -129,9 +119,9 @@ unfolding weight_from
 is_infinite t n k s e q = (q.0 ∙ inf_bits ∙ ap (λ (b : Bool). cond b (inf false) (normalized t n k)) (sym e), q.1)
 
 pub is_finite : (t : Float) (n k : ℕ) (s : Bool) {r : Float} → leb n 1 && not s ≡ false
-    → (r ≡ normalized t n k) × T (plain r) → (r ≡ weight_from t n k s) × T (nonneg r)
+    → r ≡ normalized t n k → T (plain r) → (r ≡ weight_from t n k s) × T (nonneg r)
 unfolding weight_from
-is_finite t n k s {r} e q = (q.0 ∙ ap (λ (b : Bool). cond b (inf false) (normalized t n k)) (sym e), plain_nonneg r q.1)
+is_finite t n k s {r} e q p = (q ∙ ap (λ (b : Bool). cond b (inf false) (normalized t n k)) (sym e), plain_nonneg r p)
 
 max_weight : Weight max_f
 unfolding fits

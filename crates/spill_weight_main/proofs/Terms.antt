@@ -9,14 +9,9 @@ use lib.Ieee.{Float, binary32, of_bits, to_bits, add, mul, div, lt, of_int}
 use Rattle.definition.specs.Entry.{plain}
 use Rattle.definition.specs.Weights.{add_cost, min_f, normalized}
 use Rattle.definition.specs.RegInfo.{zero_f}
-use Rattle.floats.specs.Nonneg.{nonneg}
 use Rattle.floats.proofs.Bits.{bits_plain}
 use Rattle.spill_weight.specs.Costs.{weight_from}
 use Rattle.spill_weight_main.specs.Terms.{add_term, bits_from, cost_at, freq_at, sum_terms}
-
-pub zero_bits : of_bits binary32 0 ≡ zero_f
-unfolding of_bits
-zero_bits = refl
 
 -- ---- the calls
 pub read_plain : (b : ℕ) (x : Float) → b < 0x7f80_0000 → x ≡ of_bits binary32 b → T (plain x)
@@ -34,24 +29,22 @@ weighed t n k s p q e = e ∙ ap (to_bits binary32) (q ∙ ap (λ (y : Float). w
 pub record Summing (n : ℕ) (t : Float) (i : ℕ) : Type 0 where
   pub within : i ≤ n
   pub is : t ≡ sum_terms i
-  pub sound : T (nonneg t)
 
-pub start : (n : ℕ) → Summing n (of_bits binary32 0) 0
-unfolding sum_terms of_bits
-start n = record { within = omega arith; is = refl; sound = tt }
+pub start : (n : ℕ) {z : Float} → z ≡ zero_f → Summing n z 0
+unfolding sum_terms
+start n e = record { within = omega arith; is = e }
 
-pub next : {n : ℕ} {t r : Float} {i c : ℕ} → Summing n t i → i < n → c ≡ cost_at i → (r ≡ add_term t c (freq_at i)) × T (nonneg r) → Summing n r (i + 1)
+pub next : {n : ℕ} {t r : Float} {i c : ℕ} → Summing n t i → i < n → c ≡ cost_at i → r ≡ add_term t c (freq_at i) → Summing n r (i + 1)
 unfolding sum_terms
 next {n} {t} {r} {i} {c} s h d e = record {
   within = omega arith;
-  is = e.0 ∙ ap (λ (x : ℕ). add_term t x (freq_at i)) d ∙ ap (λ (x : Float). add_term x (cost_at i) (freq_at i)) s.is ∙ rw add-one refl;
-  sound = e.1;
+  is = e ∙ ap (λ (x : ℕ). add_term t x (freq_at i)) d ∙ ap (λ (x : Float). add_term x (cost_at i) (freq_at i)) s.is ∙ rw add-one refl;
 }
 
-pub done : {n : ℕ} {t : Float} {i : ℕ} → Summing n t i → n ≤ i → (t ≡ sum_terms n) × T (nonneg t)
+pub done : {n : ℕ} {t : Float} {i : ℕ} → Summing n t i → n ≤ i → t ≡ sum_terms n
 done {n} {t} {i} s h =
     let e : i ≡ n = omega arith in
-    (s.is ∙ ap sum_terms e, s.sound)
+    s.is ∙ ap sum_terms e
 
 -- the weight of the hundred over 37 instructions and k = 5
 pub hundred_bits : bits_from (sum_terms 100) 37 5 false ≡ 0x3f14_12d1

@@ -1,19 +1,25 @@
 // Weights of single uses and of a hundred, their costs and patterns, each held to bits that were computed elsewhere.
 #![tactic(auto)]
 
-ghost use Rattle.std.specs.Prelude.{◌≡◌, ◌≤◌, ◌<◌, T};
+ghost use Rattle.std.specs.Prelude.{◌≡◌, ◌≤◌, ◌<◌};
 ghost use Rattle.definition.specs.RegInfo.{zero_f};
-ghost use Rattle.floats.specs.Nonneg.{nonneg};
 ghost use Rattle.spill_weight_main.specs.Terms.{add_term, cost_at, sum_terms, bits_from};
 
 use definition::{Options, Remat, UseKind};
+use spill_weight::{Cost, MAX, Plain, Sum, add_use, base_cost};
 
 // One use more, by the bits of its cost and its block's frequency.
-fn add_term(sum: f32, cost: u32, freq: u32) -> f32
-    requires { T (nonneg sum) × (cost < 0x7f80_0000) × (freq < 0x7f80_0000) }
-    ensures { (result ≡ add_term sum cost freq) × T (nonneg result) }
+fn add_term(sum: Sum, cost: u32, freq: u32) -> Sum
+    requires { (cost < 0x7f80_0000) × (freq < 0x7f80_0000) }
+    ensures { result.value ≡ add_term sum.value cost freq }
 {
-    spill_weight::add_cost(sum, floats::float_of(cost), floats::float_of(freq))
+    let cost = Plain {
+        value: floats::float_of(cost),
+    };
+    let freq = Plain {
+        value: floats::float_of(freq),
+    };
+    spill_weight::add_cost(sum, cost, freq)
 }
 
 // The bits of the weight of one use.
@@ -21,7 +27,7 @@ fn one_term(cost: u32, freq: u32, insts: u32, spillslots: bool) -> u32
     requires { (cost < 0x7f80_0000) × (freq < 0x7f80_0000) × (1 ≤ insts) × (insts ≤ 4096) }
     ensures { result ≡ bits_from (add_term zero_f cost freq) insts 0 spillslots }
 {
-    let sum = add_term(0.0, cost, freq);
+    let sum = add_term(Sum::zero(), cost, freq);
     floats::bits_of(spill_weight::weight(sum, insts, 0, spillslots))
 }
 
@@ -38,11 +44,11 @@ fn cost_at(i: u32) -> u32
 }
 
 // The sum over the first n of them, in order; the frequencies fall.
-fn sum_terms(n: u32) -> f32
+fn sum_terms(n: u32) -> Sum
     requires { n ≤ 100 }
-    ensures { (result ≡ sum_terms n) × T (nonneg result) }
+    ensures { result.value ≡ sum_terms n }
 {
-    let mut sum: f32 = 0.0;
+    let mut sum = Sum::zero();
     for i in 0..n {
         sum = add_term(sum, cost_at(i), 0x40c00000 - i * 580031);
     }
@@ -78,22 +84,21 @@ fn scales() {
         cheaper_than_load: 0.25,
         indirect: 1.0,
     };
-    let scaled = spill_weight::add_use(0.1, options, Remat::CheaperThanMove, 3.1415927, 7.0);
-    check::expect(floats::bits_of(scaled) == 0x401324b2);
-    let tiny = floats::float_of(0x00000001);
-    let skipped = spill_weight::add_use(
-        0.1,
-        options,
-        Remat::CheaperThanLoad,
-        tiny,
-        spill_weight::MAX,
-    );
-    check::expect(floats::bits_of(skipped) == 0x3dcccccd);
-    let conflict = spill_weight::base_cost(UseKind::ConstraintConflict, 0.0, false);
-    check::expect(
-        floats::bits_of(spill_weight::add_use(0.0, options, Remat::Indirect, conflict, 1.0))
-            == 0x3f000000,
-    );
+    let tenth = Sum { value: 0.1 };
+    let cost = Cost { value: 3.1415927 };
+    let seven = Plain { value: 7.0 };
+    let scaled = add_use(tenth, options, Remat::CheaperThanMove, cost, seven);
+    check::expect(floats::bits_of(scaled.value) == 0x401324b2);
+    let least = floats::float_of(0x00000001);
+    let tiny = Cost { value: least };
+    let most = Plain { value: MAX };
+    let skipped = add_use(tenth, options, Remat::CheaperThanLoad, tiny, most);
+    check::expect(floats::bits_of(skipped.value) == 0x3dcccccd);
+    let free = Cost { value: 0.0 };
+    let conflict = base_cost(UseKind::ConstraintConflict, free, false);
+    let one = Plain { value: 1.0 };
+    let used = add_use(Sum::zero(), options, Remat::Indirect, conflict, one);
+    check::expect(floats::bits_of(used.value) == 0x3f000000);
 }
 
 // A hundred uses: another order, a sum in f64 or fused products give other bits.

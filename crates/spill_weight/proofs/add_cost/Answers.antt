@@ -1,12 +1,16 @@
+use lib.Ieee.{binary32}
+use Rattle.floats.proofs.Nonneg.{add_nonneg, mul_nonneg}
 use Rattle.spill_weight.proofs.Costs.{add_skipped, add_added}
 use Rattle.spill_weight.proofs.add_cost.Goals as goal
 
 -- `spill_weight::add_cost` meets its contract. Assumes nothing.
 
 pub returns-then-cost : goal.returns-then-cost
-returns-then-cost c = let a = c.args in
-    add_skipped a.sum a.cost a.freq c.requires.0 c.requires.1 c.requires.2 c.if-cost.true
+returns-then-cost c = add_skipped _ _ _ c.args.cost.plain c.if-cost.true
 
-pub returns-else-cost : goal.returns-else-cost
-returns-else-cost c = let a = c.args in
-    add_added a.sum a.cost a.freq c.requires.0 c.requires.1 c.requires.2 c.if-cost.false
+pub returns : goal.returns
+returns c = add_added _ _ _ c.args.cost.plain c.if-cost.false
+
+pub invariant_of-result : goal.invariant_of-result
+invariant_of-result c = let a = c.args in
+    record { nonneg = add_nonneg binary32 _ _ a.sum.nonneg (mul_nonneg binary32 _ _ a.cost.plain a.freq.plain) }

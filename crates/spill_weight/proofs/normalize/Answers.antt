@@ -6,5 +6,9 @@ use Rattle.spill_weight.proofs.normalize.Goals as goal
 pub int_to_float-n : goal.int_to_float-n
 int_to_float-n c = count_exact _ (omega arith)
 
+pub invariant_of-result : goal.invariant_of-result
+invariant_of-result c = let a = c.args in
+    record { plain = (is_normalized a.sum.value a.insts a.k _ _ a.sum.nonneg (omega arith) (omega arith) max_bits c.lesser-value.ensures).1 }
+
 pub returns : goal.returns
-returns c = is_normalized c.args.sum c.args.insts c.args.k _ _ c.requires.0 (omega arith) (omega arith) max_bits c.lesser.ensures
+returns c = let a = c.args in (is_normalized a.sum.value a.insts a.k _ _ a.sum.nonneg (omega arith) (omega arith) max_bits c.lesser-value.ensures).0

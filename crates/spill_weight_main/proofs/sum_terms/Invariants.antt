@@ -4,4 +4,4 @@ use Rattle.spill_weight_main.proofs.sum_terms.Given as goal
 -- `spill_weight_main::sum_terms` meets its contract. Assumes nothing.
 
 abbrev pub invariant-loop-i : goal.invariant-loop-i
-invariant-loop-i l = Summing l.n l.sum l.i
+invariant-loop-i l = Summing l.n l.sum.value l.i
