@@ -101,24 +101,6 @@ find_first W at n i h =
       below = λ bs s l u. omega (arith, u, start_last bs, ap (λ (k : ℕ). start_of bs k) l);
     }
 
-pub find_up : {W : List ℕ} {at n i low high : ℕ} (m x : ℕ) → Between W at n i low high → low < m → m < high → x ≡ get_or W (at + m * 2) 0 → x ≤ i → Between W at n i m high
-find_up {W} {at} {n} {i} {low} {high} m x b g h e l =
-    record {
-      apart = h;
-      within = b.within;
-      above = λ bs s k u. omega (arith, e, l, s.first m (omega (arith, b.within)));
-      below = b.below;
-    }
-
-pub find_down : {W : List ℕ} {at n i low high : ℕ} (m x : ℕ) → Between W at n i low high → low < m → m < high → x ≡ get_or W (at + m * 2) 0 → i < x → Between W at n i low m
-find_down {W} {at} {n} {i} {low} {high} m x b g h e l =
-    record {
-      apart = g;
-      within = omega (arith, b.within);
-      above = b.above;
-      below = λ bs s k u. omega (arith, e, l, s.first m (omega (arith, b.within)));
-    }
-
 pub find_last : {W : List ℕ} {at n i low high : ℕ} → Between W at n i low high → high - low ≤ 1
     → (bs : List BlockData) → Starts W at bs → length bs ≡ n → i < insts_of bs → low ≡ block_of bs i
 find_last {W} {at} {n} {i} {low} {high} b h bs s l u =

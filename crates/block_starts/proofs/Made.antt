@@ -16,6 +16,8 @@ use Rattle.rows.specs.RowsAt.{length_rows_at, get_or_rows_at}
 use Rattle.floats.proofs.Bits.{plain_test}
 use Rattle.function.specs.Blocks.{block_row, blocks_at, block_at, no_block, start_of, start_rows, start_words, Starts}
 use Rattle.function.specs.BlockLaws.{block_filled, block_plain, each_passes}
+use Rattle.block_starts.specs.declared.table.BlockStarts.{BlockStarts}
+use Rattle.block_starts.specs.Table.{words_in, Encodes}
 use Rattle.block_starts.proofs.Loops.{length_start_rows}
 
 -- ---- a word of the table
@@ -97,3 +99,15 @@ module _ (T₀ W : List ℕ) (at from n : ℕ) (room : at + n * 2 + 2 ≤ length
               omega (arith, read_bits j l);
           filled = λ j h. block_filled (block_at (blocks_at W from n) j) (row_ok j (omega (arith, long)));
         }
+
+-- the table t, made from the rows of W over the words T₀
+pub table_made : (t : BlockStarts) (T₀ W : List ℕ) (from : ℕ) → words_in t ≡ splice T₀ t.at (start_words W from t.n)
+    → t.at + t.n * 2 + 2 ≤ length T₀ → ((i : ℕ) → get_or W i 0 < 4294967296) → every block_ok (blocks_at W from t.n) ≡ true
+    → Encodes t (blocks_at W from t.n)
+table_made t T₀ W from e room small ok =
+    record {
+      starts =
+          subst (λ (T : List ℕ). Starts T t.at (blocks_at W from t.n)) (sym e)
+          (starts_made T₀ W t.at from t.n room small ok);
+      long = length_rows_at block_row W from 2 t.n;
+    }

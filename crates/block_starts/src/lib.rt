@@ -2,14 +2,18 @@
 // row with the number of instructions. The block of an instruction is found in it by binary search.
 #![tactic(auto)]
 
-ghost use Rattle.std.specs.Prelude.{◌≡◌, List, [], ◌∷◌, ◌+◌, ◌*◌, ◌≤◌, ◌<◌, length, get_or};
+ghost use Rattle.std.specs.Prelude.{◌≡◌, List, [], ◌∷◌, ◌+◌, ◌*◌, ◌≤◌, ◌<◌, get_or};
 ghost use Rattle.definition.specs.declared.BlockData.{BlockData};
 ghost use Rattle.definition.specs.Entry.{insts_of};
 ghost use Rattle.rows.specs.Parts.{splice};
 ghost use Rattle.words.specs.Words.{word_count, words_of};
-ghost use Rattle.function.specs.Blocks.{blocks_at, start_words, Starts, block_of};
+ghost use Rattle.function.specs.Blocks.{blocks_at, start_words, block_of};
+ghost use Rattle.block_starts.specs.Table.{words_in, Encodes};
+
+mod table;
 
 use definition::{Block, Inst};
+pub use table::BlockStarts;
 
 // Row b.
 fn put_start(starts: &mut [u8], at: usize, b: Block, first: u32, bits: u32)
@@ -21,7 +25,8 @@ fn put_start(starts: &mut [u8], at: usize, b: Block, first: u32, bits: u32)
     words::put_word(starts, i + 1, bits);
 }
 
-// The table of the n blocks whose rows stand from word `from` on, put at word `at`.
+// The table of the n blocks whose rows stand from word `from` on, put at word `at`. The words are no table before that,
+// and the caller goes on with them: so it takes and leaves them, and who reads the table makes the struct.
 pub fn put_starts(rows: &[u8], from: usize, n: u32, starts: &mut [u8], at: usize)
     requires { (from + n * 2 ≤ word_count rows.now) × (at + n * 2 + 2 ≤ word_count starts.old) × (insts_of (blocks_at (words_of rows.now) from n) < 4294967296) }
     ensures { words_of starts.new ≡ splice (words_of starts.old) at (start_words (words_of rows.now) from n) }
@@ -41,24 +46,25 @@ pub fn put_starts(rows: &[u8], from: usize, n: u32, starts: &mut [u8], at: usize
 }
 
 // The first instruction of block b; of the row behind the last block, the number of instructions.
-pub fn start_at(starts: &[u8], at: usize, b: Block) -> Inst
-    requires { at + b.0 * 2 + 2 ≤ word_count starts.now }
-    ensures { result.0 ≡ get_or (words_of starts.now) (at + b.0 * 2) 0 }
+pub fn start_at(t: &BlockStarts, b: Block) -> Inst
+    requires { b.0 ≤ t.now.n }
+    ensures { result.0 ≡ get_or (words_in t.now) (t.now.at + b.0 * 2) 0 }
 {
-    Inst(words::word_at(starts, at + b.0 as usize * 2))
+    Inst(words::word_at(t.words, t.at + b.0 as usize * 2))
 }
 
-// The block that holds an instruction, of n blocks.
-pub fn block_of(starts: &[u8], at: usize, n: u32, inst: Inst) -> Block
-    requires { (0 < n) × (at + n * 2 + 2 ≤ word_count starts.now) }
-    ensures { (result.0 < n) × ((bs : List BlockData) → Starts (words_of starts.now) at bs → length bs ≡ n → inst.0 < insts_of bs → result.0 ≡ block_of bs inst.0) }
+// The block that holds an instruction.
+pub fn block_of(t: &BlockStarts, inst: Inst) -> Block
+    requires { 0 < t.now.n }
+    ensures { (result.0 < t.now.n)
+        × ((bs : List BlockData) → Encodes t.now bs → inst.0 < insts_of bs → result.0 ≡ block_of bs inst.0) }
 {
     // `partition_point` needs a slice of rows, and the table is words in a lent byte slice.
     let mut low: u32 = 0;
-    let mut high = n;
+    let mut high = t.n;
     while 1 < high - low {
         let middle = low + (high - low) / 2;
-        if start_at(starts, at, Block(middle)) <= inst {
+        if start_at(t, Block(middle)) <= inst {
             low = middle;
         } else {
             high = middle;

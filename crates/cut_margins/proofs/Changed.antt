@@ -22,7 +22,7 @@ use Rattle.function.specs.Blocks.{start_of, block_of, block_at}
 use Rattle.function.specs.BlockLaws.{start_last, block_filled, block_passes}
 use Rattle.cut_margins.specs.Margins.{changed, at_own, at_other}
 use Rattle.cut_margins.specs.Promised.{Fair}
-use Rattle.cut_margins.proofs.Place.{place_of}
+use Rattle.split_placement.proofs.Chosen.{place_of}
 
 -- ---- what stays
 

@@ -1,16 +1,19 @@
--- Who is chosen among the numbers a to b, by the definition's walk and by those of `split_placement`: `chosen_of_lem`,
--- `chosen_first`, `chosen_last`. Assumes nothing.
+-- Who is chosen among the numbers a to b, by the definition's walk and by that of `split_placement`: `chosen_of_lem`,
+-- `chosen_is`. Assumes nothing.
 use Prim.Native.Nat.{ℕ, zero, suc, ◌+◌, ◌-◌, ◌≤◌, ◌<◌}
 use native.Mathlib.Omega.{arith}
 use mathlib.Core.Path.{◌≡◌, refl, sym, ap, subst}
+use mathlib.Core.Logic.{◌⊎◌, inl, inr}
 use mathlib.Core.Bool.{Bool, true, false, cond}
 use lib.Dec.{leb, ltb, eqb}
-use borrow.Author.Tests.{eqb-true, eqb-false, ltb-true, ltb-false, leb-true, leb-false, lt-ltb}
+use borrow.Author.Tests.{eqb-true, eqb-false, ltb-true, ltb-false, leb-true, leb-false, lt-ltb, le-ltb}
+use Rattle.std.proofs.lemmas.Bool.{cases_lt}
 use Rattle.definition.specs.declared.Side.{Side}
 use Rattle.definition.specs.declared.Side.TheVariants.{Early, Late}
 use Rattle.definition.specs.CutMoves.{tie, chosen_of}
-use Rattle.split_placement.specs.Places.{first_least, last_least, least}
-use Rattle.split_placement.proofs.Walks.{FirstOf, LastOf, first_of_lem, last_of}
+use Rattle.split_placement.specs.Places.{least}
+use Rattle.split_placement.proofs.Wins.{Before, not_itself}
+use Rattle.split_placement.proofs.Walks.{Under, LeastOf, least_of}
 use Rattle.cut_margins.specs.Margins.{Chosen, tie_other, chosen_once}
 
 -- ---- the step that one lacks against another
@@ -95,24 +98,6 @@ chosen_of_lem side f a b h =
     (chosen_from side f a a a (b - a)
     (record { low = omega arith; high = omega arith; first = λ i l u n. absurd (n (omega arith)) }))
 
--- ---- and so do the walks of `split_placement`
-
-pub first_chosen : {f : ℕ → ℕ} {a b c : ℕ} → FirstOf f a b c → Chosen Early f a b c
-first_chosen {f} {a} {b} {c} w =
-    record { low = w.low; high = w.high; first = λ i l h n. go i l h (ltb i c) refl }
-  where
-    go : (i : ℕ) → a ≤ i → i ≤ b → (t : Bool) → ltb i c ≡ t → f c < f i + cond t 0 1
-    go i l h true e = omega (arith, w.first i l (ltb-true i c e))
-    go i l h false e = omega (arith, w.least i l h)
-
-pub last_chosen : {f : ℕ → ℕ} {a b c : ℕ} → LastOf f a b c → Chosen Late f a b c
-last_chosen {f} {a} {b} {c} w =
-    record { low = w.low; high = w.high; first = λ i l h n. go i l h (ltb c i) refl }
-  where
-    go : (i : ℕ) → a ≤ i → i ≤ b → (t : Bool) → ltb c i ≡ t → f c < f i + cond t 0 1
-    go i l h true e = omega (arith, w.last i (ltb-true c i e) h)
-    go i l h false e = omega (arith, w.least i l h)
-
 -- none has less than the one chosen
 pub chosen_least : (side : Side) (f : ℕ → ℕ) (a b c : ℕ) → Chosen side f a b c → (i : ℕ) → a ≤ i → i ≤ b → f c ≤ f i
 chosen_least side f a b c p i l h = go (eqb i c) refl
@@ -121,37 +106,44 @@ chosen_least side f a b c p i l h = go (eqb i c) refl
     go true e = omega (arith, ap f (eqb-true i c e))
     go false e = omega (arith, p.first i l h (eqb-false i c e), tie_most side i c)
 
-pub chosen_is_first : {f : ℕ → ℕ} {a b c : ℕ} → Chosen Early f a b c → FirstOf f a b c
-chosen_is_first {f} {a} {b} {c} p =
+-- ---- and so does the walk of `split_placement`
+
+tie_before : (side : Side) (i c : ℕ) → Before side i c → tie side i c ≡ 0
+tie_before Early i c h = rw (lt-ltb i c h)
+tie_before Late i c h = rw (lt-ltb c i h)
+
+-- one that lacks no step is ahead
+tie_cases : (side : Side) (i c : ℕ) → Before side i c ⊎ (tie side i c ≡ 1)
+tie_cases Early i c = elim (cases_lt i c) [ inl h ↦ inl h | inr h ↦ inr (rw (le-ltb i c h)) ]
+tie_cases Late i c = elim (cases_lt c i) [ inl h ↦ inl h | inr h ↦ inr (rw (le-ltb c i h)) ]
+
+pub least_chosen : {side : Side} {f : ℕ → ℕ} {a b c : ℕ} → LeastOf side f a b c → Chosen side f a b c
+least_chosen {side} {f} {a} {b} {c} w =
+    record { low = w.low; high = w.high; first = λ i l h n. go i (w.wins i l h) (tie_cases side i c) }
+  where
+    go : (i : ℕ) → Under f side c i → Before side i c ⊎ (tie side i c ≡ 1) → f c < f i + tie side i c
+    go i u (inl g) = omega (arith, u.ahead g)
+    go i u (inr e) = omega (arith, u.least, e)
+
+pub chosen_wins : {side : Side} {f : ℕ → ℕ} {a b c : ℕ} → Chosen side f a b c → LeastOf side f a b c
+chosen_wins {side} {f} {a} {b} {c} p =
     record {
       low = p.low;
       high = p.high;
-      least = chosen_least Early f a b c p;
-      first = λ i l h.
-          let t : tie Early i c ≡ 0 = rw (lt-ltb i c h) in
-          omega (arith, p.first i l (omega (arith, p.high)) (omega arith));
+      wins = λ i l h.
+          record {
+            least = chosen_least side f a b c p i l h;
+            ahead = λ g.
+                omega (
+                  arith,
+                  p.first i l h (λ e. not_itself side c (subst (λ (k : ℕ). Before side k c) e g)),
+                  tie_before side i c g,
+                );
+          };
     }
-
-pub chosen_is_last : {f : ℕ → ℕ} {a b c : ℕ} → Chosen Late f a b c → LastOf f a b c
-chosen_is_last {f} {a} {b} {c} p =
-    record {
-      low = p.low;
-      high = p.high;
-      least = chosen_least Late f a b c p;
-      last = λ i h u.
-          let t : tie Late i c ≡ 0 = rw (lt-ltb c i h) in
-          omega (arith, p.first i (omega (arith, p.low)) u (omega arith));
-    }
-
-pub chosen_first : (f : ℕ → ℕ) (a b : ℕ) → a ≤ b → first_least f a a (b - a) ≡ chosen_of Early f a a (b - a)
-chosen_first f a b h = chosen_once Early f a b _ _ (first_chosen (first_of_lem f a b h)) (chosen_of_lem Early f a b h)
-
-pub chosen_last : (f : ℕ → ℕ) (a b : ℕ) → a ≤ b → last_least f a a (b - a) ≡ chosen_of Late f a a (b - a)
-chosen_last f a b h = chosen_once Late f a b _ _ (last_chosen (last_of f a b h)) (chosen_of_lem Late f a b h)
 
 pub chosen_is : (side : Side) (f : ℕ → ℕ) (a b : ℕ) → a ≤ b → least side f a a (b - a) ≡ chosen_of side f a a (b - a)
-chosen_is Early f a b h = chosen_first f a b h
-chosen_is Late f a b h = chosen_last f a b h
+chosen_is side f a b h = chosen_once side f a b _ _ (least_chosen (least_of side f a b h)) (chosen_of_lem side f a b h)
 
 -- what is chosen turns on f at a to b alone
 pub chosen_ext : (side : Side) (f g : ℕ → ℕ) (a b c : ℕ) → ((i : ℕ) → a ≤ i → i ≤ b → f i ≡ g i) → Chosen side f a b c

@@ -2,7 +2,7 @@
 use Prim.Native.Nat.{ℕ, suc, ◌+◌, ◌-◌, ◌≤◌, ◌<◌}
 use native.Mathlib.Omega.{arith}
 use native.Mathlib.Numerals.{add-one}
-use mathlib.Core.Path.{◌≡◌, refl, sym, ap, ◌∙◌}
+use mathlib.Core.Path.{◌≡◌, sym, ap, ◌∙◌}
 use mathlib.Core.Bool.{◌&&◌, not, cond}
 use lib.Dec.{eqb, ltb}
 use Rattle.definition.specs.declared.Side.{Side}
@@ -12,9 +12,6 @@ module _ (side : Side) (f : ℕ → ℕ) (c : ℕ) where
   -- the blocks before i are seen, and e is the edge so far
   pub record EdgeSoFar (lo end e i : ℕ) : Type 0 where
     pub is : edge_of side f c infinity lo (end - lo) ≡ edge_of side f c e i (end - i)
-
-  pub edge_start : (lo end : ℕ) → EdgeSoFar lo end infinity lo
-  edge_start lo end = record { is = refl }
 
   pub edge_next : {lo end e i : ℕ} (x : ℕ) → EdgeSoFar lo end e i → i < end
       → x ≡ cond (not (eqb i c) && ltb (f i + tie side i c) e) (f i + tie side i c) e → EdgeSoFar lo end x (i + 1)

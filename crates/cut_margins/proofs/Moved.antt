@@ -21,7 +21,8 @@ use Rattle.cut_margins.specs.Promised.{Fair}
 use Rattle.cut_margins.proofs.Choice.{chosen_of_lem, chosen_ext}
 use Rattle.cut_margins.proofs.Edge.{Rival, EdgeOf, edge_of_lem}
 use Rattle.cut_margins.proofs.Table.{open_blocks}
-use Rattle.cut_margins.proofs.Place.{Pick, place_of, place_is, place_once}
+use Rattle.split_placement.proofs.Chosen.{place_of}
+use Rattle.cut_margins.proofs.Place.{Pick, place_is, place_once}
 use Rattle.cut_margins.proofs.Changed.{first_kept, last_kept, place_kept, pattern_changed, fair_changed}
 
 module _ (bs : List BlockData) (after before : Inst) (side : Side) (p : Fair bs after before) where

@@ -18,10 +18,12 @@ use Rattle.definition.specs.Entry.{insts_of, every, block_ok}
 use Rattle.definition.specs.CutMoves.{infinity, pattern_of, first_open, last_open, tie, chosen_of, edge_of, move_of}
 use Rattle.definition.specs.CutMoves.{up_of, down_of, moves_from, steps_of, sorted, moves_among, cut_moves}
 use Rattle.floats.proofs.Bits.{bits_back}
-use Rattle.function.specs.Blocks.{block_at, Starts}
+use Rattle.function.specs.Blocks.{block_at}
+use Rattle.block_starts.specs.declared.table.BlockStarts.{BlockStarts}
+use Rattle.block_starts.specs.Table.{Encodes}
+use Rattle.split_placement.specs.Places.{bits_in}
 use Rattle.cut_margins.specs.Margins.{Chosen, chosen_once}
 use Rattle.cut_margins.specs.Promised.{Fair}
-use Rattle.cut_margins.specs.Table.{bits}
 use Rattle.cut_margins.proofs.Choice.{chosen_of_lem, chosen_ext}
 use Rattle.cut_margins.proofs.Table.{open_blocks}
 use Rattle.cut_margins.proofs.Listed.{step}
@@ -36,18 +38,18 @@ pattern_at [] j h = absurd (omega arith)
 pattern_at (b ∷ bs) zero h = refl
 pattern_at (b ∷ bs) (suc j) h = pattern_at bs j (omega arith)
 
-module _ (T : List ℕ) (bs : List BlockData) (s : Starts T 0 bs) where
-  pub pattern_bits : (j : ℕ) → j < length bs → pattern_of bs j ≡ bits T j
+module _ (t : BlockStarts) (bs : List BlockData) (s : Encodes t bs) where
+  pub pattern_bits : (j : ℕ) → j < length bs → pattern_of bs j ≡ bits_in t j
   pattern_bits j h =
-      pattern_at bs j h ∙ ap (to_bits binary32) (sym (s.bits j h))
-      ∙ bits_back (bits T j) (omega (arith, s.finite j h))
+      pattern_at bs j h ∙ ap (to_bits binary32) (sym (s.starts.bits j h))
+      ∙ bits_back (bits_in t j) (omega (arith, s.starts.finite j h))
 
   pub fair : (a b : ℕ) → every block_ok bs ≡ true → a < b → b < insts_of bs → Fair bs (inst a) (inst b)
   fair a b ok h l =
       record {
         blocks_ok = ok;
-        f32s = λ j g. ap (of_bits binary32) (pattern_bits j g) ∙ s.bits j g;
-        finite = λ j g. omega (arith, pattern_bits j g, s.finite j g);
+        f32s = λ j g. ap (of_bits binary32) (pattern_bits j g) ∙ s.starts.bits j g;
+        finite = λ j g. omega (arith, pattern_bits j g, s.starts.finite j g);
         order = h;
         within = l;
       }
@@ -87,56 +89,55 @@ module _ (side : Side) (f g : ℕ → ℕ) (c : ℕ) where
 
 -- ---- the moves by the table
 
--- T is the table of starts of the n blocks, which are accepted with the ends a and b; of them lo to hi are open
-pub record Open (T : List ℕ) (bs : List BlockData) (n a b : ℕ) (side : Side) (lo hi : ℕ) : Type 0 where
-  pub table : Starts T 0 bs
-  pub count : length bs ≡ n
+-- t is the table of the blocks, which are accepted with the ends a and b; of them lo to hi are open
+pub record Open (t : BlockStarts) (bs : List BlockData) (a b : ℕ) (side : Side) (lo hi : ℕ) : Type 0 where
+  pub table : Encodes t bs
   pub ok : every block_ok bs ≡ true
   pub order : a < b
   pub within : b < insts_of bs
   pub low : lo ≡ first_open side bs a
   pub high : hi ≡ last_open side bs b
 
-module _ {T : List ℕ} {bs : List BlockData} {n a b : ℕ} {side : Side} {lo hi : ℕ} (o : Open T bs n a b side lo hi) where
-  open_at : (lo ≤ hi) × (hi < n)
+module _ {t : BlockStarts} {bs : List BlockData} {a b : ℕ} {side : Side} {lo hi : ℕ} (o : Open t bs a b side lo hi) where
+  open_at : (lo ≤ hi) × (hi < t.n)
   open_at =
-      let p = open_blocks bs (inst a) (inst b) (fair T bs o.table a b o.ok o.order o.within) side in
-      (omega (arith, p.0, o.low, o.high), omega (arith, p.1, o.high, o.count))
+      let p = open_blocks bs (inst a) (inst b) (fair t bs o.table a b o.ok o.order o.within) side in
+      (omega (arith, p.0, o.low, o.high), omega (arith, p.1, o.high, o.table.long))
 
   pub open_order : lo ≤ hi
   open_order = open_at.0
 
-  pub open_there : hi < n
+  pub open_there : hi < t.n
   open_there = open_at.1
 
-  pub open_finite : (i : ℕ) → i ≤ hi → bits T i < infinity
-  open_finite i u = omega (arith, o.table.finite i (omega (arith, open_there, o.count)))
+  pub open_finite : (i : ℕ) → i ≤ hi → bits_in t i < infinity
+  open_finite i u = omega (arith, o.table.starts.finite i (omega (arith, open_there, o.table.long)))
 
-  same : (i : ℕ) → i ≤ hi → bits T i ≡ pattern_of bs i
-  same i u = sym (pattern_bits T bs o.table i (omega (arith, open_there, o.count)))
+  same : (i : ℕ) → i ≤ hi → bits_in t i ≡ pattern_of bs i
+  same i u = sym (pattern_bits t bs o.table i (omega (arith, open_there, o.table.long)))
 
-  module _ {c : ℕ} (ec : c ≡ chosen_of side (bits T) lo lo (hi - lo)) where
-    pub table_chosen : Chosen side (bits T) lo hi c
+  module _ {c : ℕ} (ec : c ≡ chosen_of side (bits_in t) lo lo (hi - lo)) where
+    pub table_chosen : Chosen side (bits_in t) lo hi c
     table_chosen =
-        subst (λ (k : ℕ). Chosen side (bits T) lo hi k) (sym ec) (chosen_of_lem side (bits T) lo hi open_order)
+        subst (λ (k : ℕ). Chosen side (bits_in t) lo hi k) (sym ec) (chosen_of_lem side (bits_in t) lo hi open_order)
 
     same_chosen : c ≡ chosen_of side (pattern_of bs) lo lo (hi - lo)
     same_chosen =
         chosen_once side (pattern_of bs) lo hi _ _
-        (chosen_ext side (bits T) (pattern_of bs) lo hi c (λ i g u. same i u) table_chosen)
+        (chosen_ext side (bits_in t) (pattern_of bs) lo hi c (λ i g u. same i u) table_chosen)
         (chosen_of_lem side (pattern_of bs) lo hi open_order)
 
-    same_among : moves_among side (bits T) lo hi c ≡ moves_among side (pattern_of bs) lo hi c
+    same_among : moves_among side (bits_in t) lo hi c ≡ moves_among side (pattern_of bs) lo hi c
     unfolding moves_among
     same_among =
         let k = suc hi - lo in
-        let e : edge_of side (bits T) c infinity lo k ≡ edge_of side (pattern_of bs) c infinity lo k =
-        edge_ext side (bits T) (pattern_of bs) c infinity lo k (λ j g u. same j (omega arith)) in
+        let e : edge_of side (bits_in t) c infinity lo k ≡ edge_of side (pattern_of bs) c infinity lo k =
+        edge_ext side (bits_in t) (pattern_of bs) c infinity lo k (λ j g u. same j (omega arith)) in
         ap (sorted steps_of)
-        (ap (λ (x : ℕ). moves_from side (bits T) c x lo k) e
-        ∙ moves_ext side (bits T) (pattern_of bs) c _ lo k (same c table_chosen.high) (λ j g u. same j (omega arith)))
+        (ap (λ (x : ℕ). moves_from side (bits_in t) c x lo k) e
+        ∙ moves_ext side (bits_in t) (pattern_of bs) c _ lo k (same c table_chosen.high) (λ j g u. same j (omega arith)))
 
-    pub moves_by_table : moves_among side (bits T) lo hi c ≡ cut_moves bs (inst a) (inst b) side
+    pub moves_by_table : moves_among side (bits_in t) lo hi c ≡ cut_moves bs (inst a) (inst b) side
     unfolding cut_moves
     moves_by_table =
         let among : ℕ → ℕ → List CutMove = λ l h. moves_among side (pattern_of bs) l h

@@ -11,9 +11,10 @@ ghost use Rattle.rows.specs.Parts.{splice, pad};
 ghost use Rattle.words.specs.Words.{word_count, words_of};
 ghost use Rattle.function.specs.Blocks.{blocks_at};
 ghost use Rattle.cut_margins.specs.Margins.{Chosen};
-ghost use Rattle.cut_margins.specs.Table.{bits};
+ghost use Rattle.split_placement.specs.Places.{bits_in};
 ghost use Rattle.cut_moves.specs.Answer.{move_words, move_row, moves_admission, moves_end, list_left};
 
+use block_starts::BlockStarts;
 use definition::{Block, Inst, Refusal, Side, Way};
 
 // Number 0 and how many blocks could move the cut; or the refusal's number, and 0.
@@ -65,25 +66,25 @@ fn put_move(list: &mut [u8], k: u32, i: Block, c: Block, steps: u32) -> u32
 // its edge.
 fn put_moves(
     list: &mut [u8],
-    starts: &[u8],
+    t: &BlockStarts,
     from: Block,
     to: Block,
     side: Side,
     c: Block,
     e: u32,
 ) -> u32
-    requires { (to.0 < 512) × (to.0 * 2 + 2 ≤ word_count starts.now) × ((to.0 + 1) * 3 ≤ word_count list.old)
-        × ((i : ℕ) → i ≤ to.0 → bits (words_of starts.now) i < infinity)
-        × Chosen side (bits (words_of starts.now)) from.0 to.0 c.0
-        × (bits (words_of starts.now) c.0 < e) × (words_of list.old ≡ replicate (word_count list.old) 0) }
+    requires { (to.0 < 512) × (to.0 ≤ t.now.n) × ((to.0 + 1) * 3 ≤ word_count list.old)
+        × ((i : ℕ) → i ≤ to.0 → bits_in t.now i < infinity)
+        × Chosen side (bits_in t.now) from.0 to.0 c.0
+        × (bits_in t.now c.0 < e) × (words_of list.old ≡ replicate (word_count list.old) 0) }
     ensures { (result
-        ≡ length (moves_from side (bits (words_of starts.now)) c.0 e from.0 (suc to.0 - from.0)))
+        ≡ length (moves_from side (bits_in t.now) c.0 e from.0 (suc to.0 - from.0)))
         × (words_of list.new ≡ pad (word_count list.old) (move_words
-        (moves_from side (bits (words_of starts.now)) c.0 e from.0 (suc to.0 - from.0)))) }
+        (moves_from side (bits_in t.now) c.0 e from.0 (suc to.0 - from.0)))) }
 {
     let mut k: u32 = 0;
     for i in from.0..to.0 + 1 {
-        let steps = cut_margins::steps(starts, side, c, e, Block(i));
+        let steps = cut_margins::steps(t, side, c, e, Block(i));
         k = put_move(list, k, Block(i), c, steps);
     }
     k
@@ -112,11 +113,16 @@ fn put_sorted(
         (cut_moves (blocks_at (words_of blocks.now) 0 n) (inst after) (inst before) side))) }
 {
     block_starts::put_starts(blocks, 0, n, work, 0);
-    let from = split_placement::judging(work, 0, n, Inst(after + 1), side);
-    let to = split_placement::judging(work, 0, n, Inst(before), side);
-    let c = cut_margins::chosen(work, from, to, side);
-    let e = cut_margins::edge_of(work, from, to, side, c);
-    let count = put_moves(list, work, from, to, side, c, e);
+    let t = BlockStarts {
+        words: work,
+        at: 0,
+        n,
+    };
+    let from = split_placement::judging(&t, Inst(after + 1), side);
+    let to = split_placement::judging(&t, Inst(before), side);
+    let c = cut_margins::chosen(&t, from, to, side);
+    let e = cut_margins::edge_of(&t, from, to, side, c);
+    let count = put_moves(list, &t, from, to, side, c, e);
     merge_sort::sort(list, work, 0, count as usize);
     count
 }
@@ -140,7 +146,7 @@ pub fn find_cut_moves(
     spans::clear(list);
     match admitted(blocks, after, before, side, list.len() / 12) {
         Err(refusal) => MovesEnd {
-            number: find_cut::number_of(refusal),
+            number: refusal.number(),
             count: 0,
         },
         Ok(side) => {

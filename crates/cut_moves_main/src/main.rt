@@ -51,6 +51,7 @@ fn show(
     put_answer(out, a, end.number, end.count, list)
 }
 
+// Room behind `at` is a clause of each case, and no type: each call leaves less of it.
 // 01's F: blocks of four, four and eight instructions, of frequencies 3, 2 and 2.
 fn case_f(out: &mut [u8], at: usize, list: &mut [u8; 39], work: &mut [u8; 4104]) -> usize
     requires { at + 528 ≤ length out.old }

@@ -1,39 +1,25 @@
 -- The answer and the work space, one law for each way out. Assumes nothing.
-use Prim.Native.Nat.{ℕ, ◌+◌, ◌*◌, ◌/◌, ◌%◌, ◌≤◌, ◌<◌}
+use Prim.Native.Nat.{ℕ, ◌/◌, ◌%◌, ◌<◌}
 use native.Mathlib.Omega.{arith}
-use mathlib.Core.Path.{◌≡◌, refl, sym, ap, ◌∙◌, subst}
+use mathlib.Core.Path.{◌≡◌, refl, sym, ap, ◌∙◌}
 use Rattle.std.specs.Prelude.{Result, Ok, Err, Some, None}
 use mathlib.Core.Bool.{Bool, true, false, cond, ◌&&◌}
 use mathlib.Core.Option.{Option, none, some}
 use mathlib.Core.List.{List}
 use lib.Dec.{leb, ltb, eqb}
-use lib.ListN.{length, get_or}
+use lib.ListN.{length}
 use borrow.Author.Tests.{eqb-true, ltb-true, lt-ltb, le-ltb, eq-eqb, ne_eqb}
-use Rattle.definition.specs.declared.BlockData.{BlockData}
 use Rattle.definition.specs.declared.Side.{Side}
 use Rattle.definition.specs.declared.Refusal.{Refusal}
 use Rattle.definition.specs.declared.Refusal.TheVariants.{NotARecord, OverALimit, BadBook, BadFunction, BadHint, BadSegment, BadUse, Stopped, Full}
 use Rattle.definition.specs.Types.{done, refused, inst, number_of}
-use Rattle.definition.specs.Entry.{insts_of, every, block_ok, cut_to, find_cut, side_of}
+use Rattle.definition.specs.Entry.{cut_to, find_cut, side_of}
 use Rattle.rows.specs.Parts.{splice}
-use Rattle.rows.specs.RowsAt.{length_rows_at}
 use Rattle.words.specs.Words.{words_of}
 use Rattle.function.specs.Bools.{and_l, and_r, both, not_l, not_r}
-use Rattle.function.specs.Blocks.{block_row, blocks_at, start_words, Starts}
-use Rattle.block_starts.proofs.Made.{starts_made}
+use Rattle.function.specs.Blocks.{start_words}
 use Rattle.find_cut.specs.declared.Cut.{Cut}
 use Rattle.find_cut.specs.Answer.{blocks_in, side_named, readable, cut_out, cut_of, cut_answer, work_left, unless, cut_refusal, admission}
-
--- ---- the cut by the table of starts
-
-module _ (W T T' : List ℕ) (n a b r : ℕ) (e : T' ≡ splice T 0 (start_words W 0 n)) (room : n * 2 + 2 ≤ length T) (small : (i : ℕ) → get_or W i 0 < 4294967296)
-    (ok : every block_ok (blocks_at W 0 n) ≡ true) (h : b < insts_of (blocks_at W 0 n)) where
-  table : Starts T' 0 (blocks_at W 0 n)
-  table = subst (λ (t : List ℕ). Starts t 0 (blocks_at W 0 n)) (sym e) (starts_made T W 0 0 n (omega arith) small ok)
-
-  pub by_table : (side : Side) → ((bs : List BlockData) → Starts T' 0 bs → length bs ≡ n → b < insts_of bs → r ≡ side_of side bs a b)
-      → r ≡ side_of side (blocks_at W 0 n) a b
-  by_table side f = f (blocks_at W 0 n) table (length_rows_at block_row W 0 2 n) h
 
 -- ---- readable or not
 

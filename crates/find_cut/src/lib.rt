@@ -2,13 +2,13 @@
 #![tactic(auto)]
 
 ghost use Rattle.std.specs.Prelude.{◌≡◌, true, cond, leb, Some, None, ◌+◌, ◌*◌, ◌/◌, ◌≤◌, ◌<◌};
-ghost use Rattle.definition.specs.Types.{number_of};
 ghost use Rattle.definition.specs.Entry.{insts_of, every, block_ok, side_of};
 ghost use Rattle.rows.specs.Parts.{splice};
 ghost use Rattle.words.specs.Words.{word_count, words_of};
 ghost use Rattle.function.specs.Blocks.{blocks_at, start_words};
 ghost use Rattle.find_cut.specs.Answer.{side_named, unless, cut_refusal, admission, cut_answer, work_left};
 
+use block_starts::BlockStarts;
 use definition::{Inst, Refusal, Side};
 
 // Number 0 and the instruction before which the cut is made; or the refusal's number, and 0.
@@ -17,23 +17,6 @@ use definition::{Inst, Refusal, Side};
 pub struct Cut {
     pub number: u32,
     pub inst: u32,
-}
-
-// The number of a refusal.
-pub fn number_of(refusal: Refusal) -> u32
-    ensures { result ≡ number_of refusal }
-{
-    match refusal {
-        Refusal::NotARecord => 1,
-        Refusal::OverALimit => 2,
-        Refusal::BadBook => 3,
-        Refusal::BadFunction => 4,
-        Refusal::BadHint => 5,
-        Refusal::BadSegment => 6,
-        Refusal::BadUse => 7,
-        Refusal::Stopped(_) => 8,
-        Refusal::Full => 9,
-    }
 }
 
 // The side of a number: 0 early, any other late.
@@ -103,7 +86,12 @@ fn cut_by(blocks: &[u8], n: u32, after: u32, before: u32, side: Side, work: &mut
     ensures { (result.0 ≡ side_of side (blocks_at (words_of blocks.now) 0 n) after before) × (words_of work.new ≡ splice (words_of work.old) 0 (start_words (words_of blocks.now) 0 n)) }
 {
     block_starts::put_starts(blocks, 0, n, work, 0);
-    split_placement::cut(work, 0, n, Inst(after), Inst(before), side)
+    let t = BlockStarts {
+        words: work,
+        at: 0,
+        n,
+    };
+    split_placement::cut(&t, Inst(after), Inst(before), side)
 }
 
 // blocks: rows of two little-endian words, instruction count and frequency bits. side: 0 early, 1 late. work: what it holds does not matter.
@@ -119,7 +107,7 @@ pub fn find_optimal_split_point(
 {
     match admitted(blocks, after, before, side) {
         Err(refusal) => Cut {
-            number: number_of(refusal),
+            number: refusal.number(),
             inst: 0,
         },
         Ok(side) => {

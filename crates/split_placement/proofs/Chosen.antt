@@ -1,301 +1,417 @@
--- The place that the code answers is the definition's: `early_next`, `early_start`, `late_before`, `late_end`; and the
--- block that judges a place: `judges_early`, `judges_late`. Assumes nothing.
+-- The place of the open block that the side wants is the definition's cut: `chosen_place`, for any frequencies' bits.
+-- So what the code answers is: `early_next`, `early_start`, `late_before`, `late_end`; and the block that judges a place:
+-- `judges_early`, `judges_late`. Assumes nothing.
 use Prim.Native.Nat.{ℕ, suc, ◌+◌, ◌-◌, ◌*◌, ◌≤◌, ◌<◌}
 use native.Mathlib.Omega.{arith}
+use native.Mathlib.Nat.{eq-or-lt_of_le}
 use native.Mathlib.Numerals.{add-one}
 use mathlib.Core.Path.{◌≡◌, refl, sym, ap, ◌∙◌, subst}
 use mathlib.Core.Logic.{◌⊎◌, inl, inr}
-use mathlib.Core.Bool.{Bool, true, false}
+use mathlib.Core.Bool.{Bool, true, false, cond}
 use mathlib.Core.List.{List}
-use lib.Dec.{ltb}
+use lib.Dec.{ltb, eqb}
 use lib.ListN.{length, get_or}
 use lib.Ieee.{Float, lt, binary32, of_bits}
 use lib.Ieee.Bits.{is_true}
-use borrow.Author.Tests.{lt-ltb, le-ltb, ltb-true, ltb-false}
+use Rattle.std.proofs.lemmas.Bool.{cases_lt}
+use borrow.Author.Tests.{lt-ltb, le-ltb, eq-eqb, ne_eqb}
 use Rattle.definition.specs.declared.BlockData.{BlockData}
 use Rattle.definition.specs.Entry.{plain, every, block_ok, insts_of}
 use Rattle.definition.specs.declared.Side.{Side}
 use Rattle.definition.specs.declared.Side.TheVariants.{Early, Late}
-use Rattle.definition.specs.SplitPlacement.{freq_at, early_cut, late_cut, side_of}
+use Rattle.definition.specs.SplitPlacement.{side_of}
 use Rattle.definition.specs.CutMoves.{first_open, last_open}
 use Rattle.floats.proofs.Bits.{lt_bits, bits_plain}
-use Rattle.function.specs.Blocks.{start_of, block_of, block_at, Starts}
-use Rattle.function.specs.BlockLaws.{start_next, start_mono, block_passes, all_pass, starts_frequency, Holding, block_holds}
-use Rattle.split_placement.specs.Places.{EarlyPlace, next, start, LatePlace, last, end, bits_of, least}
-use Rattle.split_placement.proofs.Walks.{FirstOf, LastOf, first_of_lem, last_of}
-use Rattle.split_placement.proofs.Rules.{early_rule, late_rule, one_earliest, one_latest}
+use Rattle.function.specs.Blocks.{start_of, block_of, block_at}
+use Rattle.function.specs.BlockLaws.{start_next, start_mono, block_filled, block_passes, each_passes, all_pass}
+use Rattle.function.specs.BlockLaws.{Holding, block_holds, holding_frequency}
+use Rattle.block_starts.specs.declared.table.BlockStarts.{BlockStarts}
+use Rattle.block_starts.specs.Table.{words_in, Encodes}
+use Rattle.split_placement.specs.Places.{OpenPlace, judged, next, start, last, end, bits_in, least}
+use Rattle.split_placement.proofs.Wins.{Before, one_wins}
+use Rattle.split_placement.proofs.Folds.{Wanted, not_both}
+use Rattle.split_placement.proofs.Walks.{LeastOf, least_of}
+use Rattle.split_placement.proofs.Rules.{early_rule, late_rule}
 
--- ---- the blocks of a table of starts
+-- an open block's place: early, `after`+1 in the first, in any other its start; late, `before` in the last, in any
+-- other its end
+abbrev pub place_of : Side → List BlockData → ℕ → ℕ → ℕ → ℕ
+place_of Early bs after before c = cond (eqb c (block_of bs (suc after))) (suc after) (start_of bs c)
+place_of Late bs after before c = cond (eqb c (block_of bs (before - 1))) before (start_of bs (suc c))
 
-row_passes : (b : BlockData) (w : ℕ) → 1 ≤ b.insts → of_bits binary32 w ≡ b.frequency → w < 2139095040 → block_ok b ≡ true
-row_passes b w h e l = block_passes b h (ap plain (sym e) ∙ is_true (plain (of_bits binary32 w)) (bits_plain w l))
+-- by cases: early of the first block and of another, late of the last block and of another
+first_place : (bs : List BlockData) (a b c : ℕ) → c ≡ block_of bs (suc a) → place_of Early bs a b c ≡ suc a
+first_place bs a b c e = rw (eq-eqb _ _ e)
 
-module _ (W : List ℕ) (at : ℕ) (bs : List BlockData) (s : Starts W at bs) where
-  blocks_ok : every block_ok bs ≡ true
-  blocks_ok = all_pass bs (λ j h. row_passes (block_at bs j) (bits_of W at j) (s.filled j h) (s.bits j h) (s.finite j h))
+later_place : (bs : List BlockData) (a b c : ℕ) → (c ≡ block_of bs (suc a) → ⊥)
+    → place_of Early bs a b c ≡ start_of bs c
+later_place bs a b c n = rw (ne_eqb _ _ n)
 
+last_place : (bs : List BlockData) (a b c : ℕ) → c ≡ block_of bs (b - 1) → place_of Late bs a b c ≡ b
+last_place bs a b c e = rw (eq-eqb _ _ e)
+
+earlier_place : (bs : List BlockData) (a b c : ℕ) → (c ≡ block_of bs (b - 1) → ⊥)
+    → place_of Late bs a b c ≡ start_of bs (suc c)
+earlier_place bs a b c n = rw (ne_eqb _ _ n)
+
+-- ---- blocks that 01 accepts, f giving the bits of their frequencies, and ends within them
+
+pub record Priced (f : ℕ → ℕ) (bs : List BlockData) : Type 0 where
+  pub ok : every block_ok bs ≡ true
+  pub is : (j : ℕ) → j < length bs → of_bits binary32 (f j) ≡ (block_at bs j).frequency
+  pub finite : (j : ℕ) → j < length bs → f j < 2139095040
+
+module _ {f : ℕ → ℕ} {bs : List BlockData} (p : Priced f bs) where
   start_below : (k : ℕ) → k < length bs → start_of bs k < start_of bs (suc k)
-  start_below k h = omega (arith, start_next bs k h, s.filled k h)
+  start_below k h = omega (arith, start_next bs k h, block_filled (block_at bs k) (each_passes bs k p.ok h))
+
+  starts_rise : (j k : ℕ) → j < k → k ≤ length bs → start_of bs j < start_of bs k
+  starts_rise j k h l = omega (arith, start_below j (omega arith), start_mono bs (suc j) k h l)
 
   -- starts are in the order of their blocks
   start_order : (j k : ℕ) → j ≤ length bs → start_of bs j < start_of bs k → j < k
-  start_order j k h l = go (ltb j k) refl
+  start_order j k h l = go (cases_lt j k)
     where
-      go : (t : Bool) → ltb j k ≡ t → j < k
-      go true e = ltb-true j k e
-      go false e = absurd (omega (arith, l, start_mono bs k j (ltb-false j k e) h))
+      go : (j < k) ⊎ (k ≤ j) → j < k
+      go (inl g) = g
+      go (inr g) = absurd (omega (arith, l, start_mono bs k j g h))
 
-  price_of : (k i : ℕ) → k < length bs → start_of bs k ≤ i → i < start_of bs (suc k) → freq_at bs i ≡ of_bits binary32 (bits_of W at k)
-  price_of k i h l u = starts_frequency s (record { there = h; low = l; high = u })
+  -- and so are blocks with what they hold
+  held_order : {i k j m : ℕ} → Holding bs i j → Holding bs k m → i ≤ k → j ≤ m
+  held_order {i} {k} {j} {m} f g h =
+      let l = start_order j (suc m) (omega (arith, f.there)) (omega (arith, f.low, g.high)) in omega arith
 
   -- prices compare as bits
-  compare_prices : (x y : Float) (j k : ℕ) (t : Bool) → j < length bs → k < length bs → x ≡ of_bits binary32 (bits_of W at j) → y ≡ of_bits binary32 (bits_of W at k)
-      → ltb (bits_of W at j) (bits_of W at k) ≡ t → lt x y ≡ t
-  compare_prices x y j k t hj hk ex ey e = rw (ex, ey) (lt_bits (bits_of W at j) (bits_of W at k) (s.finite j hj) (s.finite k hk) ∙ e)
+  compared : (x y : Float) (j k : ℕ) (t : Bool) → j < length bs → k < length bs → x ≡ of_bits binary32 (f j)
+      → y ≡ of_bits binary32 (f k) → ltb (f j) (f k) ≡ t → lt x y ≡ t
+  compared x y j k t hj hk ex ey e = rw (ex, ey) (lt_bits (f j) (f k) (p.finite j hj) (p.finite k hk) ∙ e)
 
-  -- ---- early
+  module _ (a b : ℕ) (h : a < b) (l : b < insts_of bs) where
+    -- the blocks that hold the first and the last instruction that a side judges by
+    early_lo : Holding bs (suc a) (block_of bs (suc a))
+    early_lo = block_holds bs (suc a) (omega arith)
 
-  module _ (a b lo hi : ℕ) (h : a < b) (l : b < insts_of bs) (f : Holding bs (suc a) lo) (g : Holding bs b hi) where
-    pub lo_hi : lo ≤ hi
-    lo_hi = omega (arith, start_order lo (suc hi) (omega (arith, f.there)) (omega (arith, f.low, g.high)))
+    early_hi : Holding bs b (block_of bs b)
+    early_hi = block_holds bs b l
 
-    -- the block of an open place
-    record EarlyBlock (p : ℕ) : Type 0 where
+    late_lo : Holding bs a (block_of bs a)
+    late_lo = block_holds bs a (omega arith)
+
+    late_hi : Holding bs (b - 1) (block_of bs (b - 1))
+    late_hi = block_holds bs (b - 1) (omega arith)
+
+    -- some block is open, and all open ones are there
+    pub open_order : (side : Side) → first_open side bs a ≤ last_open side bs b
+    unfolding first_open last_open
+    open_order Early = held_order early_lo early_hi (omega arith)
+    open_order Late = held_order late_lo late_hi (omega arith)
+
+    pub open_there : (side : Side) → last_open side bs b < length bs
+    unfolding last_open
+    open_there Early = early_hi.there
+    open_there Late = late_hi.there
+
+    -- an open block's place is open, and is judged by its frequency
+    record OpenBlock (side : Side) (k : ℕ) : Type 0 where
+      open_place : OpenPlace side bs a b (place_of side bs a b k)
+      price : judged side bs (place_of side bs a b k) ≡ of_bits binary32 (f k)
+
+    -- the frequency of the block that holds i
+    held : (k i : ℕ) → Holding bs i k → judged Early bs i ≡ of_bits binary32 (f k)
+    held k i g = holding_frequency g ∙ sym (p.is k g.there)
+
+    open_block : (side : Side) (k : ℕ) → first_open side bs a ≤ k → k ≤ last_open side bs b → OpenBlock side k
+    unfolding first_open last_open
+    open_block Early k u v = go (eq-or-lt_of_le u)
+      where
+        there : k < length bs
+        there = omega (arith, early_hi.there)
+
+        go : (block_of bs (suc a) ≡ k) ⊎ (block_of bs (suc a) < k) → OpenBlock Early k
+        go (inl e) =
+            let q = first_place bs a b k (sym e) in
+            record {
+              open_place = rw q (next refl);
+              price = ap (judged Early bs) q ∙ held k (suc a) (subst (Holding bs (suc a)) e early_lo);
+            }
+        go (inr g) =
+            let q = later_place bs a b k (omega arith) in
+            let low = start_mono bs (suc (block_of bs (suc a))) k g (omega (arith, there)) in
+            let high = start_mono bs k (block_of bs b) v (omega (arith, early_hi.there)) in
+            record {
+              open_place =
+                  rw q
+                  (start (record { block = k; there = there; is = refl }) (omega (arith, early_lo.high, low))
+                  (omega (arith, early_hi.low, high)));
+              price =
+                  ap (judged Early bs) q
+                  ∙ held k (start_of bs k) (record { there = there; low = omega arith; high = start_below k there });
+            }
+    open_block Late k u v = go (eq-or-lt_of_le v)
+      where
+        there : k < length bs
+        there = omega (arith, late_hi.there)
+
+        go : (k ≡ block_of bs (b - 1)) ⊎ (k < block_of bs (b - 1)) → OpenBlock Late k
+        go (inl e) =
+            let q = last_place bs a b k e in
+            record {
+              open_place = rw q (last refl);
+              price = ap (judged Late bs) q ∙ held k (b - 1) (subst (Holding bs (b - 1)) (sym e) late_hi);
+            }
+        go (inr g) =
+            let q = earlier_place bs a b k (omega arith) in
+            let low = start_mono bs (suc (block_of bs a)) (suc k) (omega arith) (omega (arith, there)) in
+            let high = start_mono bs (suc k) (block_of bs (b - 1)) g (omega (arith, late_hi.there)) in
+            let below = start_below k there in
+            record {
+              open_place =
+                  rw q
+                  (end (record { block = k; there = there; is = refl }) (omega (arith, late_lo.high, low))
+                  (omega (arith, late_hi.low, high)));
+              price =
+                  ap (judged Late bs) q
+                  ∙ held k (start_of bs (suc k) - 1)
+                  (record { there = there; low = omega (arith, below); high = omega (arith, below) });
+            }
+
+    -- each open place is that of an open block
+    record OfBlock (side : Side) (q : ℕ) : Type 0 where
       block : ℕ
-      above : suc a ≤ p
-      low : lo ≤ block
-      high : block ≤ hi
-      price : freq_at bs p ≡ of_bits binary32 (bits_of W at block)
-      where_is : ((p ≡ suc a) × (block ≡ lo)) ⊎ ((p ≡ start_of bs block) × (lo < block))
+      low : first_open side bs a ≤ block
+      high : block ≤ last_open side bs b
+      is : q ≡ place_of side bs a b block
 
-    early_block : (p : ℕ) → EarlyPlace bs a b p → EarlyBlock p
-    early_block p (next e) =
-        record { block = lo; above = omega arith; low = omega arith; high = lo_hi; price = ap (freq_at bs) e ∙ price_of lo (suc a) f.there f.low f.high; where_is = inl (e, refl) }
-    early_block p (start q u v) =
-        let j = q.block in
-        let behind : lo < j = start_order lo j (omega (arith, f.there)) (omega (arith, f.low, q.is)) in
+    of_block : (side : Side) (q : ℕ) → OpenPlace side bs a b q → OfBlock side q
+    unfolding first_open last_open
+    of_block Early q (next e) =
         record {
-          block = j;
-          above = omega arith;
+          block = block_of bs (suc a);
           low = omega arith;
-          high = omega (arith, start_order j (suc hi) (omega (arith, q.there)) (omega (arith, g.high, q.is)));
-          price = price_of j p q.there (omega (arith, q.is)) (omega (arith, q.is, start_below j q.there));
-          where_is = inr (q.is, behind);
+          high = open_order Early;
+          is = e ∙ sym (first_place bs a b _ refl);
         }
-
-    module _ (best : ℕ) (w : FirstOf (bits_of W at) lo hi best) where
-      best_there : best < length bs
-      best_there = omega (arith, w.high, g.there)
-
-      early_is : (c : ℕ) → EarlyPlace bs a b c → freq_at bs c ≡ of_bits binary32 (bits_of W at best)
-          → ((p : ℕ) (q : EarlyBlock p) → p < c → q.block < best) → c ≡ early_cut bs a b
-      early_is c place price earlier =
-          one_earliest (EarlyPlace bs a b) (freq_at bs) c (early_cut bs a b)
-          (record {
-            place = place;
-            least = λ p q.
-                let k = early_block p q in
-                compare_prices (freq_at bs p) (freq_at bs c) k.block best false (omega (arith, k.high, g.there)) best_there k.price price
-                (le-ltb (bits_of W at k.block) (bits_of W at best) (w.least k.block k.low k.high));
-            earliest = λ p q u.
-                let k = early_block p q in
-                compare_prices (freq_at bs c) (freq_at bs p) best k.block true best_there (omega (arith, k.high, g.there)) price k.price
-                (lt-ltb (bits_of W at best) (bits_of W at k.block) (w.first k.block k.low (earlier p k u)));
-          })
-          (early_rule bs a b blocks_ok)
-
-      pub early_first : best ≡ lo → suc a ≡ early_cut bs a b
-      early_first e =
-          early_is (suc a) (next refl) (subst (λ (k : ℕ). freq_at bs (suc a) ≡ of_bits binary32 (bits_of W at k)) (sym e) (price_of lo (suc a) f.there f.low f.high))
-          (λ p q u. absurd (omega (arith, u, q.above)))
-
-      pub early_later : lo < best → start_of bs best ≡ early_cut bs a b
-      early_later u =
-          early_is (start_of bs best) (start (record { block = best; there = best_there; is = refl }) above upto)
-          (price_of best (start_of bs best) best_there (omega arith) (start_below best best_there)) (λ p q v. earlier p q.block v w.high q.high q.where_is)
-        where
-          above : suc a < start_of bs best
-          above = omega (arith, f.high, start_mono bs (suc lo) best u (omega (arith, best_there)))
-
-          upto : start_of bs best ≤ b
-          upto = omega (arith, g.low, start_mono bs best hi w.high (omega (arith, g.there)))
-
-          earlier : (p j : ℕ) → p < start_of bs best → best ≤ hi → j ≤ hi → ((p ≡ suc a) × (j ≡ lo)) ⊎ ((p ≡ start_of bs j) × (lo < j)) → j < best
-          earlier p j v x y (inl z) = omega (arith, z.1)
-          earlier p j v x y (inr z) = start_order j best (omega (arith, y, g.there)) (omega (arith, v, z.0))
-
-  -- ---- late
-
-  module _ (a b lo hi : ℕ) (h : a < b) (l : b < insts_of bs) (f : Holding bs a lo) (g : Holding bs (b - 1) hi) where
-    pub late_lo_hi : lo ≤ hi
-    late_lo_hi = omega (arith, start_order lo (suc hi) (omega (arith, f.there)) (omega (arith, f.low, g.high)))
-
-    record LateBlock (p : ℕ) : Type 0 where
-      block : ℕ
-      upto : p ≤ b
-      low : lo ≤ block
-      high : block ≤ hi
-      price : freq_at bs (p - 1) ≡ of_bits binary32 (bits_of W at block)
-      where_is : ((p ≡ b) × (block ≡ hi)) ⊎ (p ≡ start_of bs (suc block))
-
-    late_block : (p : ℕ) → LatePlace bs a b p → LateBlock p
-    late_block p (last e) =
-        record {
-          block = hi;
-          upto = omega arith;
-          low = late_lo_hi;
-          high = omega arith;
-          price = ap (λ (k : ℕ). freq_at bs (k - 1)) e ∙ price_of hi (b - 1) g.there g.low g.high;
-          where_is = inl (e, refl);
-        }
-    late_block p (end q u v) =
-        let j = q.block in
+    of_block Early q (start s u v) =
+        let j = s.block in
+        let own : Holding bs q j =
+        record { there = s.there; low = omega (arith, s.is); high = omega (arith, s.is, start_below j s.there) } in
+        let behind : block_of bs (suc a) < j =
+        start_order (block_of bs (suc a)) j (omega (arith, early_lo.there)) (omega (arith, early_lo.low, s.is)) in
         record {
           block = j;
-          upto = v;
-          low = omega (arith, start_order lo (suc j) (omega (arith, f.there)) (omega (arith, f.low, q.is)));
-          high = omega (arith, start_order j (suc hi) (omega (arith, q.there)) (omega (arith, g.high, q.is, start_below j q.there)));
-          price = price_of j (p - 1) q.there (omega (arith, q.is, start_below j q.there)) (omega (arith, q.is));
-          where_is = inr q.is;
+          low = omega arith;
+          high = held_order own early_hi v;
+          is = s.is ∙ sym (later_place bs a b j (omega arith));
         }
+    of_block Late q (last e) =
+        record {
+          block = block_of bs (b - 1);
+          low = open_order Late;
+          high = omega arith;
+          is = e ∙ sym (last_place bs a b _ refl);
+        }
+    of_block Late q (end s u v) =
+        record {
+          block = s.block;
+          low = held_order late_lo own (omega arith);
+          high = high;
+          is = go (eq-or-lt_of_le high);
+        }
+      where
+        below : start_of bs s.block < start_of bs (suc s.block)
+        below = start_below s.block s.there
 
-    module _ (best : ℕ) (w : LastOf (bits_of W at) lo hi best) where
-      late_there : best < length bs
-      late_there = omega (arith, w.high, g.there)
+        own : Holding bs (q - 1) s.block
+        own = record { there = s.there; low = omega (arith, s.is, below); high = omega (arith, s.is, below) }
 
-      late_is : (c : ℕ) → LatePlace bs a b c → freq_at bs (c - 1) ≡ of_bits binary32 (bits_of W at best)
-          → ((p : ℕ) (q : LateBlock p) → c < p → best < q.block) → c ≡ late_cut bs a b
-      late_is c place price later =
-          one_latest (LatePlace bs a b) (λ p. freq_at bs (p - 1)) c (late_cut bs a b)
-          (record {
-            place = place;
-            least = λ p q.
-                let k = late_block p q in
-                compare_prices (freq_at bs (p - 1)) (freq_at bs (c - 1)) k.block best false (omega (arith, k.high, g.there)) late_there k.price price
-                (le-ltb (bits_of W at k.block) (bits_of W at best) (w.least k.block k.low k.high));
-            latest = λ p q u.
-                let k = late_block p q in
-                compare_prices (freq_at bs (c - 1)) (freq_at bs (p - 1)) best k.block true late_there (omega (arith, k.high, g.there)) price k.price
-                (lt-ltb (bits_of W at best) (bits_of W at k.block) (w.last k.block (later p k u) k.high));
-          })
-          (late_rule bs a b blocks_ok)
+        high : s.block ≤ block_of bs (b - 1)
+        high = held_order own late_hi (omega arith)
 
-      pub late_last : best ≡ hi → b ≡ late_cut bs a b
-      late_last e =
-          late_is b (last refl) (subst (λ (k : ℕ). freq_at bs (b - 1) ≡ of_bits binary32 (bits_of W at k)) (sym e) (price_of hi (b - 1) g.there g.low g.high))
-          (λ p q u. absurd (omega (arith, u, q.upto)))
+        go : (s.block ≡ block_of bs (b - 1)) ⊎ (s.block < block_of bs (b - 1)) → q ≡ place_of Late bs a b s.block
+        go (inl e) =
+            let k = ap (λ (j : ℕ). start_of bs (suc j)) e in
+            omega (arith, s.is, k, late_hi.high, v, last_place bs a b s.block e)
+        go (inr g) = s.is ∙ sym (earlier_place bs a b s.block (omega arith))
 
-      pub late_earlier : best < hi → start_of bs (suc best) ≡ late_cut bs a b
-      late_earlier u =
-          late_is (start_of bs (suc best)) (end (record { block = best; there = late_there; is = refl }) above upto)
-          (price_of best (start_of bs (suc best) - 1) late_there (omega (arith, below)) (omega (arith, below))) (λ p q v. later p q.block v q.where_is)
+    -- places rise with their blocks
+    pub places_rise : (side : Side) (c d : ℕ) → first_open side bs a ≤ c → c < d → d ≤ last_open side bs b
+        → place_of side bs a b c < place_of side bs a b d
+    unfolding first_open last_open
+    places_rise Early c d u g v = rw (later_place bs a b d (omega arith)) (go (eq-or-lt_of_le u))
+      where
+        go : (block_of bs (suc a) ≡ c) ⊎ (block_of bs (suc a) < c) → place_of Early bs a b c < start_of bs d
+        go (inl e) =
+            rw (first_place bs a b c (sym e))
+            (let l = start_mono bs (suc (block_of bs (suc a))) d (omega arith) (omega (arith, early_hi.there)) in
+            omega (arith, early_lo.high, l))
+        go (inr k) = rw (later_place bs a b c (omega arith)) (starts_rise c d g (omega (arith, early_hi.there)))
+    places_rise Late c d u g v = rw (earlier_place bs a b c (omega arith)) (go (eq-or-lt_of_le v))
+      where
+        go : (d ≡ block_of bs (b - 1)) ⊎ (d < block_of bs (b - 1)) → start_of bs (suc c) < place_of Late bs a b d
+        go (inl e) =
+            rw (last_place bs a b d e)
+            (let l = start_mono bs (suc c) (block_of bs (b - 1)) (omega arith) (omega (arith, late_hi.there)) in
+            omega (arith, late_hi.low, l))
+        go (inr k) =
+            rw (earlier_place bs a b d (omega arith))
+            (starts_rise (suc c) (suc d) (omega arith) (omega (arith, late_hi.there)))
+
+    -- so blocks are in the order of their places
+    place_order : (side : Side) (c d : ℕ) → first_open side bs a ≤ d → c ≤ last_open side bs b
+        → place_of side bs a b c < place_of side bs a b d → c < d
+    place_order side c d u v g = go (cases_lt c d)
+      where
+        same : (d ≡ c) ⊎ (d < c) → c < d
+        same (inl e) = absurd (omega (arith, g, ap (place_of side bs a b) e))
+        same (inr k) = absurd (omega (arith, g, places_rise side d c u k v))
+
+        go : (c < d) ⊎ (d ≤ c) → c < d
+        go (inl k) = k
+        go (inr k) = same (eq-or-lt_of_le k)
+
+    -- what the definition's cut is, by both rules
+    record CutPlace (side : Side) : Type 0 where
+      cut_open : OpenPlace side bs a b (side_of side bs a b)
+      cut_wanted : (q : ℕ) → OpenPlace side bs a b q → Wanted (judged side bs) side (side_of side bs a b) q
+
+    cut_place : (side : Side) → CutPlace side
+    cut_place Early =
+        let r = early_rule bs a b p.ok in
+        record { cut_open = r.place; cut_wanted = λ q o. record { least = r.least q o; ahead = r.earliest q o } }
+    cut_place Late =
+        let r = late_rule bs a b p.ok in
+        record { cut_open = r.place; cut_wanted = λ q o. record { least = r.least q o; ahead = r.latest q o } }
+
+    module _ (side : Side) (best : ℕ) (w : LeastOf side f (first_open side bs a) (last_open side bs b) best) where
+      -- its place is wanted over that of any open block
+      wanted_over : (k : ℕ) → first_open side bs a ≤ k → k ≤ last_open side bs b
+          → Wanted (judged side bs) side (place_of side bs a b best) (place_of side bs a b k)
+      wanted_over k u v =
+          record {
+            least = compared _ _ k best false there best_there x.price y.price (le-ltb (f k) (f best) (w.wins k u v).least);
+            ahead = λ g.
+                compared _ _ best k true best_there there y.price x.price
+                (lt-ltb (f best) (f k) ((w.wins k u v).ahead (order side g u v w.low w.high)));
+          }
         where
-          below : start_of bs best < start_of bs (suc best)
-          below = start_below best late_there
+          there : k < length bs
+          there = omega (arith, open_there side)
 
-          above : suc a ≤ start_of bs (suc best)
-          above = omega (arith, f.high, start_mono bs (suc lo) (suc best) (omega (arith, w.low)) (omega (arith, late_there)))
+          best_there : best < length bs
+          best_there = omega (arith, w.high, open_there side)
 
-          upto : start_of bs (suc best) ≤ b
-          upto = omega (arith, g.low, start_mono bs (suc best) hi u (omega (arith, g.there)))
+          x : OpenBlock side k
+          x = open_block side k u v
 
-          later : (p j : ℕ) → start_of bs (suc best) < p → ((p ≡ b) × (j ≡ hi)) ⊎ (p ≡ start_of bs (suc j)) → best < j
-          later p j v (inl z) = omega (arith, z.1)
-          later p j v (inr z) = omega (arith, start_order (suc best) (suc j) (omega (arith, late_there)) (omega (arith, v, z)))
+          y : OpenBlock side best
+          y = open_block side best w.low w.high
 
--- ---- as the code has it: the blocks found, the walk's answer, and the place answered, for all blocks that the table encodes
+          order : (d : Side) → Before d (place_of d bs a b k) (place_of d bs a b best) → first_open d bs a ≤ k
+              → k ≤ last_open d bs b → first_open d bs a ≤ best → best ≤ last_open d bs b → Before d k best
+          order Early g u v low high = place_order Early k best low v g
+          order Late g u v low high = place_order Late best k u high g
 
-abbrev pub Finds : List ℕ → ℕ → ℕ → ℕ → ℕ → Type 0
-Finds W at n i k = (bs : List BlockData) → Starts W at bs → length bs ≡ n → i < insts_of bs → k ≡ block_of bs i
+      -- the place of the open block that is wanted is the cut
+      pub chosen_place : place_of side bs a b best ≡ side_of side bs a b
+      chosen_place =
+          one_wins (not_both (judged side bs)) side (OpenPlace side bs a b) _ _
+          (open_block side best w.low w.high).open_place (cut_place side).cut_open
+          (λ q o.
+          let k = of_block side q o in
+          subst (Wanted (judged side bs) side (place_of side bs a b best)) (sym k.is) (wanted_over k.block k.low k.high))
+          (cut_place side).cut_wanted
+
+-- ---- as the code has it: the blocks found, the walk's answer, and the place answered, for all blocks of the table
+
+abbrev pub Finds : BlockStarts → ℕ → ℕ → Type 0
+Finds t i k = (bs : List BlockData) → Encodes t bs → i < insts_of bs → k ≡ block_of bs i
 
 -- block k judges place i
-abbrev pub Judges : List ℕ → ℕ → ℕ → Side → ℕ → ℕ → Type 0
-Judges W at n side i k =
-    (bs : List BlockData) → Starts W at bs → length bs ≡ n → i < insts_of bs → k ≡ last_open side bs i
+abbrev pub Judges : BlockStarts → Side → ℕ → ℕ → Type 0
+Judges t side i k = (bs : List BlockData) → Encodes t bs → i < insts_of bs → k ≡ last_open side bs i
 
-module _ (W : List ℕ) (at n i k : ℕ) (side : Side) where
-  pub judges_early : side ≡ Early → Finds W at n i k → Judges W at n side i k
+module _ (t : BlockStarts) (i k : ℕ) (side : Side) where
+  pub judges_early : side ≡ Early → Finds t i k → Judges t side i k
   unfolding last_open
-  judges_early e f bs s l h = f bs s l h ∙ ap (λ (x : Side). last_open x bs i) (sym e)
+  judges_early e f bs s h = f bs s h ∙ ap (λ (x : Side). last_open x bs i) (sym e)
 
-  pub judges_late : side ≡ Late → Finds W at n (i - 1) k → Judges W at n side i k
+  pub judges_late : side ≡ Late → Finds t (i - 1) k → Judges t side i k
   unfolding last_open
-  judges_late e f bs s l h = f bs s l (omega arith) ∙ ap (λ (x : Side). last_open x bs i) (sym e)
+  judges_late e f bs s h = f bs s (omega arith) ∙ ap (λ (x : Side). last_open x bs i) (sym e)
 
 -- the first open block judges the first open place
-pub first_judges : (side : Side) (bs : List BlockData) (after : ℕ) → last_open side bs (after + 1) ≡ first_open side bs after
+pub first_judges : (side : Side) (bs : List BlockData) (after : ℕ)
+    → last_open side bs (after + 1) ≡ first_open side bs after
 unfolding first_open last_open
 first_judges Early bs after = ap (block_of bs) (add-one after)
 first_judges Late bs after = ap (block_of bs) (omega arith)
 
-found : (bs : List BlockData) (i k : ℕ) → i < insts_of bs → k ≡ block_of bs i → Holding bs i k
-found bs i k h e = subst (λ (m : ℕ). Holding bs i m) (sym e) (block_holds bs i h)
+row_passes : (b : BlockData) (w : ℕ) → 1 ≤ b.insts → of_bits binary32 w ≡ b.frequency → w < 2139095040
+    → block_ok b ≡ true
+row_passes b w h e l = block_passes b h (ap plain (sym e) ∙ is_true (plain (of_bits binary32 w)) (bits_plain w l))
 
-module _ (W : List ℕ) (at n a b lo hi best : ℕ) (side : Side) (h : a < b) (f : Judges W at n side (a + 1) lo)
-    (g : Judges W at n side b hi) (e : best ≡ least side (bits_of W at) lo lo (hi - lo)) where
+-- the blocks of a table, with the bits in it
+priced : (t : BlockStarts) (bs : List BlockData) → Encodes t bs → Priced (bits_in t) bs
+priced t bs s =
+    let r = s.starts in
+    record {
+      ok = all_pass bs (λ j h. row_passes (block_at bs j) (bits_in t j) (r.filled j h) (r.bits j h) (r.finite j h));
+      is = r.bits;
+      finite = r.finite;
+    }
+
+module _ (t : BlockStarts) (a b lo hi best : ℕ) (side : Side) (h : a < b) (f : Judges t side (a + 1) lo)
+    (g : Judges t side b hi) (e : best ≡ least side (bits_in t) lo lo (hi - lo)) where
   -- c is the place, for all such blocks
   abbrev Is : ℕ → Type 0
-  Is c =
-      (bs : List BlockData) → Starts W at bs → length bs ≡ n → b < insts_of bs → c ≡ side_of side bs a b
+  Is c = (bs : List BlockData) → Encodes t bs → b < insts_of bs → c ≡ side_of side bs a b
 
-  module _ (d : side ≡ Early) (bs : List BlockData) (s : Starts W at bs) (k : length bs ≡ n) (l : b < insts_of bs) where
-    lo_holds : Holding bs (suc a) lo
-    unfolding last_open
-    lo_holds =
-        found bs (suc a) lo (omega arith)
-        (f bs s k (omega arith) ∙ (λ x. last_open (d x) bs (add-one a x)))
+  module _ (bs : List BlockData) (s : Encodes t bs) (l : b < insts_of bs) where
+    first_is : lo ≡ first_open side bs a
+    first_is = f bs s (omega arith) ∙ first_judges side bs a
 
-    hi_holds : Holding bs b hi
-    unfolding last_open
-    hi_holds = found bs b hi l (g bs s k l ∙ ap (λ (x : Side). last_open x bs b) d)
+    last_is : hi ≡ last_open side bs b
+    last_is = g bs s l
 
-    walked : FirstOf (bits_of W at) lo hi best
+    walked : LeastOf side (bits_in t) lo hi best
     walked =
-        subst (λ (m : ℕ). FirstOf (bits_of W at) lo hi m)
-        (sym (e ∙ ap (λ (x : Side). least x (bits_of W at) lo lo (hi - lo)) d))
-        (first_of_lem (bits_of W at) lo hi (lo_hi W at bs s a b lo hi h l lo_holds hi_holds))
+        let u = open_order (priced t bs s) a b h l side in
+        subst (LeastOf side (bits_in t) lo hi) (sym e)
+        (least_of side (bits_in t) lo hi (omega (arith, u, first_is, last_is)))
+
+    best_there : best < length bs
+    best_there = omega (arith, walked.high, last_is, open_there (priced t bs s) a b h l side)
+
+    by_place : (x : Side) (c : ℕ) → side ≡ x → c ≡ place_of x bs a b best → c ≡ side_of side bs a b
+    by_place x c d q =
+        q ∙ ap (λ (y : Side). place_of y bs a b best) (sym d)
+        ∙ chosen_place (priced t bs s) a b h l side best
+        (subst (λ (j : ℕ). LeastOf side (bits_in t) (first_open side bs a) j best) last_is
+        (subst (λ (j : ℕ). LeastOf side (bits_in t) j hi best) first_is walked))
+
+    early_first : side ≡ Early → lo ≡ block_of bs (suc a)
+    unfolding first_open
+    early_first d = first_is ∙ ap (λ (x : Side). first_open x bs a) d
+
+    late_last : side ≡ Late → hi ≡ block_of bs (b - 1)
+    unfolding last_open
+    late_last d = last_is ∙ ap (λ (x : Side). last_open x bs b) d
 
   pub early_next : side ≡ Early → best ≡ lo → Is (a + 1)
-  early_next d q bs s k l =
-      add-one a
-      ∙ early_first W at bs s a b lo hi h l (lo_holds d bs s k l) (hi_holds d bs s k l) best (walked d bs s k l) q
-      ∙ ap (λ (x : Side). side_of x bs a b) (sym d)
+  early_next d q bs s l =
+      by_place bs s l Early (a + 1) d (add-one a ∙ sym (first_place bs a b best (q ∙ early_first bs s l d)))
 
-  pub early_start : (c : ℕ) → side ≡ Early → (best ≡ lo → ⊥) → c ≡ get_or W (at + best * 2) 0 → Is c
-  early_start c d q r bs s k l =
-      let w = walked d bs s k l in
-      let u : lo < best = omega (arith, w.low, q) in
-      r ∙ s.first best (omega (arith, w.high, (hi_holds d bs s k l).there))
-      ∙ early_later W at bs s a b lo hi h l (lo_holds d bs s k l) (hi_holds d bs s k l) best w u
-      ∙ ap (λ (x : Side). side_of x bs a b) (sym d)
-
-  module _ (d : side ≡ Late) (bs : List BlockData) (s : Starts W at bs) (k : length bs ≡ n) (l : b < insts_of bs) where
-    late_lo_holds : Holding bs a lo
-    unfolding first_open
-    late_lo_holds =
-        found bs a lo (omega arith)
-        (f bs s k (omega arith) ∙ first_judges side bs a ∙ ap (λ (x : Side). first_open x bs a) d)
-
-    late_hi_holds : Holding bs (b - 1) hi
-    unfolding last_open
-    late_hi_holds = found bs (b - 1) hi (omega arith) (g bs s k l ∙ ap (λ (x : Side). last_open x bs b) d)
-
-    late_walked : LastOf (bits_of W at) lo hi best
-    late_walked =
-        subst (λ (m : ℕ). LastOf (bits_of W at) lo hi m)
-        (sym (e ∙ ap (λ (x : Side). least x (bits_of W at) lo lo (hi - lo)) d))
-        (last_of (bits_of W at) lo hi (late_lo_hi W at bs s a b lo hi h l late_lo_holds late_hi_holds))
+  pub early_start : (c : ℕ) → side ≡ Early → (best ≡ lo → ⊥) → c ≡ get_or (words_in t) (t.at + best * 2) 0 → Is c
+  early_start c d q r bs s l =
+      by_place bs s l Early c d
+      (r ∙ s.starts.first best (omega (arith, best_there bs s l))
+      ∙ sym (later_place bs a b best (λ k. q (k ∙ sym (early_first bs s l d)))))
 
   pub late_before : side ≡ Late → best ≡ hi → Is b
-  late_before d q bs s k l =
-      late_last W at bs s a b lo hi h l (late_lo_holds d bs s k l) (late_hi_holds d bs s k l) best
-      (late_walked d bs s k l) q
-      ∙ ap (λ (x : Side). side_of x bs a b) (sym d)
+  late_before d q bs s l = by_place bs s l Late b d (sym (last_place bs a b best (q ∙ late_last bs s l d)))
 
-  pub late_end : (c : ℕ) → side ≡ Late → (best ≡ hi → ⊥) → c ≡ get_or W (at + (best + 1) * 2) 0 → Is c
-  late_end c d q r bs s k l =
-      let w = late_walked d bs s k l in
-      let u : best < hi = omega (arith, w.high, q) in
-      r ∙ s.first (best + 1) (omega (arith, w.high, (late_hi_holds d bs s k l).there)) ∙ ap (start_of bs) (add-one best)
-      ∙ late_earlier W at bs s a b lo hi h l (late_lo_holds d bs s k l) (late_hi_holds d bs s k l) best w u
-      ∙ ap (λ (x : Side). side_of x bs a b) (sym d)
+  pub late_end : (c : ℕ) → side ≡ Late → (best ≡ hi → ⊥) → c ≡ get_or (words_in t) (t.at + (best + 1) * 2) 0 → Is c
+  late_end c d q r bs s l =
+      by_place bs s l Late c d
+      (r ∙ s.starts.first (best + 1) (omega (arith, best_there bs s l)) ∙ ap (start_of bs) (add-one best)
+      ∙ sym (earlier_place bs a b best (λ k. q (k ∙ sym (late_last bs s l d)))))

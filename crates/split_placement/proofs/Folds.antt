@@ -1,15 +1,18 @@
--- The definition's folds over a list that does not fall: the first, or the last, of its numbers whose price is least. Assumes nothing.
-use Prim.Native.Nat.{ℕ, ◌≤◌, ◌<◌}
+-- The definition's folds over a list that does not fall: of its numbers the one that the side wants. Assumes nothing.
+use Prim.Native.Nat.{ℕ, ◌≤◌}
 use native.Mathlib.Omega.{arith}
-use mathlib.Core.Path.{◌≡◌, refl, sym, subst}
+use mathlib.Core.Path.{◌≡◌, refl, sym, ◌∙◌, subst}
 use mathlib.Core.Logic.{◌⊎◌, inl, inr}
-use mathlib.Core.Bool.{Bool, true, false, cond}
+use mathlib.Core.Bool.{Bool, true, false}
 use mathlib.Core.List.{List, [], ◌∷◌, ◌++◌}
 use lib.Ieee.{Float, lt}
+use Rattle.definition.specs.declared.Side.{Side}
+use Rattle.definition.specs.declared.Side.TheVariants.{Early, Late}
 use Rattle.definition.specs.Entry.{plain}
 use Rattle.definition.specs.SplitPlacement.{earliest, latest, late_from}
-use Rattle.split_placement.specs.Places.{EarliestLeast, LatestLeast}
+use Rattle.function.specs.Bools.{clash}
 use Rattle.split_placement.proofs.Order.{lower_not_higher, not_below_itself, up_to, below_up_to, up_to_below}
+use Rattle.split_placement.proofs.Wins.{Costs, Wins, choice, Tests, Picked, wins_itself, wins_through, picked}
 
 abbrev pub In : ℕ → List ℕ → Type 0
 In x [] = ⊥
@@ -20,121 +23,104 @@ abbrev pub Rising : List ℕ → Type 0
 Rising [] = Unit {0}
 Rising (c ∷ cs) = ((x : ℕ) → In x cs → c ≤ x) × Rising cs
 
+-- ---- prices as costs
+
+abbrev pub NoDearer : (ℕ → Float) → ℕ → ℕ → Type 0
+NoDearer price x y = lt (price y) (price x) ≡ false
+
+abbrev pub Cheaper : (ℕ → Float) → ℕ → ℕ → Type 0
+Cheaper price x y = lt (price x) (price y) ≡ true
+
+-- x is no dearer than y, and cheaper where y is ahead
+abbrev pub Wanted : (ℕ → Float) → Side → ℕ → ℕ → Type 0
+Wanted price side x y = Wins (NoDearer price) (Cheaper price) side x y
+
+-- no price is both
+pub not_both : (price : ℕ → Float) (x y : ℕ) → Cheaper price x y → NoDearer price y x → ⊥
+not_both price x y h k = clash (sym h ∙ k)
+
+-- of the numbers of a list r is the one wanted
+pub record Best (price : ℕ → Float) (side : Side) (xs : List ℕ) (r : ℕ) : Type 0 where
+  pub inside : In r xs
+  pub wins : (p : ℕ) → In p xs → Wanted price side r p
+
 module _ (price : ℕ → Float) (ok : (p : ℕ) → plain (price p) ≡ true) where
-  -- the price of one number in place of another's
-  like : (x y z : ℕ) (t : Bool) → x ≡ y → lt (price y) (price z) ≡ t → lt (price x) (price z) ≡ t
-  like x y z t e h = subst (λ (k : ℕ). lt (price k) (price z) ≡ t) (sym e) h
+  pub prices : Costs (NoDearer price) (Cheaper price)
+  prices =
+      record {
+        itself = λ x. not_below_itself (price x) (ok x);
+        weaker = λ x y. lower_not_higher (price x) (price y) (ok x) (ok y);
+        through = λ x y z. up_to (price x) (price y) (price z) (ok x) (ok y) (ok z);
+        less_then = λ x y z. below_up_to (price x) (price y) (price z) (ok x) (ok y) (ok z);
+        then_less = λ x y z. up_to_below (price x) (price y) (price z) (ok x) (ok y) (ok z);
+      }
 
-  like_r : (x y z : ℕ) (t : Bool) → x ≡ y → lt (price z) (price y) ≡ t → lt (price z) (price x) ≡ t
-  like_r x y z t e h = subst (λ (k : ℕ). lt (price z) (price k) ≡ t) (sym e) h
+  -- the fold of each side, and its test
+  abbrev fold : Side → ℕ → List ℕ → ℕ
+  fold Early c ds = earliest price c ds
+  fold Late c ds = latest price c ds
 
-  -- ---- the earliest
+  abbrev test : Side → ℕ → ℕ → Bool
+  test Early c d = lt (price d) (price c)
+  test Late c d = lt (price c) (price d)
 
-  first_one : (c : ℕ) → EarliestLeast (λ x. In x (c ∷ [])) price c
-  first_one c = record { place = inl refl; least = at; earliest = before }
-    where
-      at : (p : ℕ) → In p (c ∷ []) → lt (price p) (price c) ≡ false
-      at p (inl e) = like p c c false e (not_below_itself (price c) (ok c))
-      at p (inr m) = absurd m
+  fold_none : (side : Side) (c : ℕ) → fold side c [] ≡ c
+  unfolding earliest latest
+  fold_none Early c = refl
+  fold_none Late c = refl
 
-      before : (p : ℕ) → In p (c ∷ []) → p < c → lt (price c) (price p) ≡ true
-      before p (inl e) h = absurd (omega arith)
-      before p (inr m) h = absurd m
+  fold_more : (side : Side) (c d : ℕ) (ds : List ℕ)
+      → fold side c (d ∷ ds) ≡ fold side (choice side (test side c d) c d) ds
+  unfolding earliest latest
+  fold_more Early c d ds = refl
+  fold_more Late c d ds = refl
 
-  -- d is below c: c goes
-  first_lower : (c d : ℕ) (ds : List ℕ) (r : ℕ) → lt (price d) (price c) ≡ true → EarliestLeast (λ x. In x (d ∷ ds)) price r → EarliestLeast (λ x. In x (c ∷ d ∷ ds)) price r
-  first_lower c d ds r e f = record { place = inr f.place; least = at; earliest = before }
-    where
-      at : (p : ℕ) → In p (c ∷ d ∷ ds) → lt (price p) (price r) ≡ false
-      at p (inl g) = like p c r false g (up_to (price r) (price d) (price c) (ok r) (ok d) (ok c) (f.least d (inl refl)) (lower_not_higher (price d) (price c) (ok d) (ok c) e))
-      at p (inr m) = f.least p m
+  tested : (side : Side) (c d : ℕ) → Tests (NoDearer price) (Cheaper price) side (test side c d) c d
+  tested Early c d = (λ e. e, λ e. e)
+  tested Late c d = (λ e. e, λ e. e)
 
-      before : (p : ℕ) → In p (c ∷ d ∷ ds) → p < r → lt (price r) (price p) ≡ true
-      before p (inl g) h = like_r p c r true g (up_to_below (price r) (price d) (price c) (ok r) (ok d) (ok c) (f.least d (inl refl)) e)
-      before p (inr m) h = f.earliest p m h
+  module _ (side : Side) where
+    fold_best : (ds : List ℕ) (c : ℕ) → Rising (c ∷ ds) → Best price side (c ∷ ds) (fold side c ds)
+    fold_best [] c s =
+        subst (Best price side (c ∷ [])) (sym (fold_none side c)) (record { inside = inl refl; wins = over })
+      where
+        over : (p : ℕ) → In p (c ∷ []) → Wanted price side c p
+        over p (inl e) = subst (Wanted price side c) (sym e) (wins_itself prices side c)
+        over p (inr m) = absurd m
+    fold_best (d ∷ ds) c s =
+        subst (Best price side (c ∷ d ∷ ds)) (sym (fold_more side c d ds))
+        (step _ _ (picked prices side (test side c d) c d (s.0 d (inl refl)) (tested side c d)) (λ q. fold_best ds _ q))
+      where
+        step : (x r : ℕ) → Picked (NoDearer price) (Cheaper price) side c d x
+            → (Rising (x ∷ ds) → Best price side (x ∷ ds) r) → Best price side (c ∷ d ∷ ds) r
+        step x r k f = record { inside = within k.one b.inside; wins = over }
+          where
+            rises : (x ≡ c) ⊎ (x ≡ d) → (y : ℕ) → In y ds → x ≤ y
+            rises (inl e) y m = omega (arith, s.0 y (inr m))
+            rises (inr e) y m = omega (arith, s.1.0 y m)
 
-  -- d is not below c: d goes
-  first_higher : (c d : ℕ) (ds : List ℕ) (r : ℕ) → c ≤ d → lt (price d) (price c) ≡ false → EarliestLeast (λ x. In x (c ∷ ds)) price r → EarliestLeast (λ x. In x (c ∷ d ∷ ds)) price r
-  first_higher c d ds r l e f = record { place = wider r f.place; least = at; earliest = before }
-    where
-      wider : (p : ℕ) → In p (c ∷ ds) → In p (c ∷ d ∷ ds)
-      wider p (inl g) = inl g
-      wider p (inr m) = inr (inr m)
+            b : Best price side (x ∷ ds) r
+            b = f (rises k.one, s.1.1)
 
-      at : (p : ℕ) → In p (c ∷ d ∷ ds) → lt (price p) (price r) ≡ false
-      at p (inl g) = f.least p (inl g)
-      at p (inr (inl g)) = like p d r false g (up_to (price r) (price c) (price d) (ok r) (ok c) (ok d) (f.least c (inl refl)) e)
-      at p (inr (inr m)) = f.least p (inr m)
+            within : (x ≡ c) ⊎ (x ≡ d) → In r (x ∷ ds) → In r (c ∷ d ∷ ds)
+            within o (inr m) = inr (inr m)
+            within (inl e) (inl g) = inl (g ∙ e)
+            within (inr e) (inl g) = inr (inl (g ∙ e))
 
-      before : (p : ℕ) → In p (c ∷ d ∷ ds) → p < r → lt (price r) (price p) ≡ true
-      before p (inl g) h = f.earliest p (inl g) h
-      before p (inr (inl g)) h = like_r p d r true g (below_up_to (price r) (price c) (price d) (ok r) (ok c) (ok d) (f.earliest c (inl refl) (omega arith)) e)
-      before p (inr (inr m)) h = f.earliest p (inr m) h
+            first : Wanted price side r x
+            first = b.wins x (inl refl)
 
-  pub earliest_least : (c : ℕ) (ds : List ℕ) → Rising (c ∷ ds) → EarliestLeast (λ x. In x (c ∷ ds)) price (earliest price c ds)
-  unfolding earliest
-  earliest_least c [] s = first_one c
-  earliest_least c (d ∷ ds) s = go (lt (price d) (price c)) refl (earliest_least d ds s.1) (earliest_least c ds ((λ x m. s.0 x (inr m)), s.1.1))
-    where
-      go : (t : Bool) → lt (price d) (price c) ≡ t → EarliestLeast (λ x. In x (d ∷ ds)) price (earliest price d ds) → EarliestLeast (λ x. In x (c ∷ ds)) price (earliest price c ds)
-          → EarliestLeast (λ x. In x (c ∷ d ∷ ds)) price (earliest price (cond t d c) ds)
-      go true e f g = first_lower c d ds _ e f
-      go false e f g = first_higher c d ds _ (s.0 d (inl refl)) e g
+            over : (p : ℕ) → In p (c ∷ d ∷ ds) → Wanted price side r p
+            over p (inl e) = subst (Wanted price side r) (sym e) (wins_through prices side r x c first k.over_first)
+            over p (inr (inl e)) =
+                subst (Wanted price side r) (sym e) (wins_through prices side r x d first k.over_second)
+            over p (inr (inr m)) = b.wins p (inr m)
 
-  -- ---- the latest
+  pub early_best : (c : ℕ) (ds : List ℕ) → Rising (c ∷ ds) → Best price Early (c ∷ ds) (earliest price c ds)
+  early_best c ds s = fold_best Early ds c s
 
-  last_one : (c : ℕ) → LatestLeast (λ x. In x (c ∷ [])) price c
-  last_one c = record { place = inl refl; least = at; latest = behind }
-    where
-      at : (p : ℕ) → In p (c ∷ []) → lt (price p) (price c) ≡ false
-      at p (inl e) = like p c c false e (not_below_itself (price c) (ok c))
-      at p (inr m) = absurd m
-
-      behind : (p : ℕ) → In p (c ∷ []) → c < p → lt (price c) (price p) ≡ true
-      behind p (inl e) h = absurd (omega arith)
-      behind p (inr m) h = absurd m
-
-  -- c is below d: d goes
-  last_lower : (c d : ℕ) (ds : List ℕ) (r : ℕ) → lt (price c) (price d) ≡ true → LatestLeast (λ x. In x (c ∷ ds)) price r → LatestLeast (λ x. In x (c ∷ d ∷ ds)) price r
-  last_lower c d ds r e f = record { place = wider r f.place; least = at; latest = behind }
-    where
-      wider : (p : ℕ) → In p (c ∷ ds) → In p (c ∷ d ∷ ds)
-      wider p (inl g) = inl g
-      wider p (inr m) = inr (inr m)
-
-      at : (p : ℕ) → In p (c ∷ d ∷ ds) → lt (price p) (price r) ≡ false
-      at p (inl g) = f.least p (inl g)
-      at p (inr (inl g)) = like p d r false g (up_to (price r) (price c) (price d) (ok r) (ok c) (ok d) (f.least c (inl refl)) (lower_not_higher (price c) (price d) (ok c) (ok d) e))
-      at p (inr (inr m)) = f.least p (inr m)
-
-      behind : (p : ℕ) → In p (c ∷ d ∷ ds) → r < p → lt (price r) (price p) ≡ true
-      behind p (inl g) h = f.latest p (inl g) h
-      behind p (inr (inl g)) h = like_r p d r true g (up_to_below (price r) (price c) (price d) (ok r) (ok c) (ok d) (f.least c (inl refl)) e)
-      behind p (inr (inr m)) h = f.latest p (inr m) h
-
-  -- c is not below d: c goes
-  last_higher : (c d : ℕ) (ds : List ℕ) (r : ℕ) → ((x : ℕ) → In x (d ∷ ds) → c ≤ x) → lt (price c) (price d) ≡ false → LatestLeast (λ x. In x (d ∷ ds)) price r → LatestLeast (λ x. In x (c ∷ d ∷ ds)) price r
-  last_higher c d ds r l e f = record { place = inr f.place; least = at; latest = behind }
-    where
-      at : (p : ℕ) → In p (c ∷ d ∷ ds) → lt (price p) (price r) ≡ false
-      at p (inl g) = like p c r false g (up_to (price r) (price d) (price c) (ok r) (ok d) (ok c) (f.least d (inl refl)) e)
-      at p (inr m) = f.least p m
-
-      behind : (p : ℕ) → In p (c ∷ d ∷ ds) → r < p → lt (price r) (price p) ≡ true
-      behind p (inl g) h = absurd (omega (arith, g, h, l r f.place))
-      behind p (inr m) h = f.latest p m h
-
-  pub latest_least : (c : ℕ) (ds : List ℕ) → Rising (c ∷ ds) → LatestLeast (λ x. In x (c ∷ ds)) price (latest price c ds)
-  unfolding latest
-  latest_least c [] s = last_one c
-  latest_least c (d ∷ ds) s = go (lt (price c) (price d)) refl (latest_least d ds s.1) (latest_least c ds ((λ x m. s.0 x (inr m)), s.1.1))
-    where
-      go : (t : Bool) → lt (price c) (price d) ≡ t → LatestLeast (λ x. In x (d ∷ ds)) price (latest price d ds) → LatestLeast (λ x. In x (c ∷ ds)) price (latest price c ds)
-          → LatestLeast (λ x. In x (c ∷ d ∷ ds)) price (latest price (cond t c d) ds)
-      go true e f g = last_lower c d ds _ e g
-      go false e f g = last_higher c d ds _ s.0 e f
-
-  pub late_from_lem : (cs : List ℕ) (b : ℕ) → Rising (cs ++ (b ∷ [])) → LatestLeast (λ x. In x (cs ++ (b ∷ []))) price (late_from price cs b)
+  pub late_best : (cs : List ℕ) (b : ℕ) → Rising (cs ++ (b ∷ []))
+      → Best price Late (cs ++ (b ∷ [])) (late_from price cs b)
   unfolding late_from
-  late_from_lem [] b s = last_one b
-  late_from_lem (c ∷ cs) b s = latest_least c (cs ++ (b ∷ [])) s
+  late_best [] b s = subst (Best price Late (b ∷ [])) (fold_none Late b) (fold_best Late [] b s)
+  late_best (c ∷ cs) b s = fold_best Late (cs ++ (b ∷ [])) c s

@@ -1,4 +1,5 @@
 pub mod Order
+pub mod Wins
 pub mod Folds
 pub mod Rules
 pub mod Sides

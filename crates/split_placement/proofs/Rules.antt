@@ -8,46 +8,31 @@ use mathlib.Core.List.{List, [], ◌∷◌, ◌++◌}
 use lib.Dec.{leb, ltb}
 use lib.ListN.{length}
 use lib.Ieee.{Float}
-use borrow.Author.Tests.{ltb-true, ltb-false, leb-true, lt-ltb, le-leb}
+use borrow.Author.Tests.{ltb-true, leb-true, lt-ltb, le-leb}
 use Rattle.definition.specs.declared.BlockData.{BlockData}
+use Rattle.definition.specs.declared.Side.TheVariants.{Early, Late}
 use Rattle.definition.specs.Entry.{plain, every, block_ok}
 use Rattle.definition.specs.SplitPlacement.{freq_at, starts, ends, keep, early_cut, late_cut}
 use Rattle.function.specs.Bools.{and_l, and_r, both}
 use Rattle.function.specs.Blocks.{start_of}
 use Rattle.function.specs.BlockLaws.{block_plain}
 use Rattle.split_placement.specs.Places.{EarlyPlace, next, start, LatePlace, last, end, EarliestLeast, LatestLeast}
-use Rattle.split_placement.proofs.Folds.{In, Rising, earliest_least, late_from_lem}
+use Rattle.split_placement.proofs.Wins.{one_wins}
+use Rattle.split_placement.proofs.Folds.{In, Rising, Wanted, not_both, early_best, late_best}
 
 -- ---- one place is wanted
 
 pub one_earliest : (Place : ℕ → Type 0) (price : ℕ → Float) (c d : ℕ) → EarliestLeast Place price c → EarliestLeast Place price d → c ≡ d
-one_earliest Place price c d f g = go (ltb c d) refl (ltb d c) refl
+one_earliest Place price c d f g = one_wins (not_both price) Early Place c d f.place g.place (wins c f) (wins d g)
   where
-    clash : (a b : ℕ) → EarliestLeast Place price a → EarliestLeast Place price b → a < b → ⊥
-    clash a b h k l = let z : ◌≡◌ {A = ℕ} 0 1 = cc (h.least b k.place, k.earliest a h.place l) in omega arith
-
-    go : (s : Bool) → ltb c d ≡ s → (t : Bool) → ltb d c ≡ t → c ≡ d
-    go true e t h = absurd (clash c d f g (ltb-true c d e))
-    go false e true h = absurd (clash d c g f (ltb-true d c h))
-    go false e false h = omega (arith, ltb-false c d e, ltb-false d c h)
+    wins : (x : ℕ) → EarliestLeast Place price x → (p : ℕ) → Place p → Wanted price Early x p
+    wins x f p q = record { least = f.least p q; ahead = f.earliest p q }
 
 pub one_latest : (Place : ℕ → Type 0) (price : ℕ → Float) (c d : ℕ) → LatestLeast Place price c → LatestLeast Place price d → c ≡ d
-one_latest Place price c d f g = go (ltb c d) refl (ltb d c) refl
+one_latest Place price c d f g = one_wins (not_both price) Late Place c d f.place g.place (wins c f) (wins d g)
   where
-    clash : (a b : ℕ) → LatestLeast Place price a → LatestLeast Place price b → a < b → ⊥
-    clash a b h k l = let z : ◌≡◌ {A = ℕ} 0 1 = cc (k.least a h.place, h.latest b k.place l) in omega arith
-
-    go : (s : Bool) → ltb c d ≡ s → (t : Bool) → ltb d c ≡ t → c ≡ d
-    go true e t h = absurd (clash c d f g (ltb-true c d e))
-    go false e true h = absurd (clash d c g f (ltb-true d c h))
-    go false e false h = omega (arith, ltb-false c d e, ltb-false d c h)
-
--- the same places under another description
-same_earliest : (P Q : ℕ → Type 0) (price : ℕ → Float) (c : ℕ) → ((p : ℕ) → P p → Q p) → ((p : ℕ) → Q p → P p) → EarliestLeast P price c → EarliestLeast Q price c
-same_earliest P Q price c f g e = record { place = f c e.place; least = λ p q. e.least p (g p q); earliest = λ p q. e.earliest p (g p q) }
-
-same_latest : (P Q : ℕ → Type 0) (price : ℕ → Float) (c : ℕ) → ((p : ℕ) → P p → Q p) → ((p : ℕ) → Q p → P p) → LatestLeast P price c → LatestLeast Q price c
-same_latest P Q price c f g e = record { place = f c e.place; least = λ p q. e.least p (g p q); latest = λ p q. e.latest p (g p q) }
+    wins : (x : ℕ) → LatestLeast Place price x → (p : ℕ) → Place p → Wanted price Late x p
+    wins x f p q = record { least = f.least p q; ahead = f.latest p q }
 
 -- ---- every frequency is finite and not negative
 
@@ -188,8 +173,12 @@ module _ (bs : List BlockData) (after before : ℕ) where
   pub early_rule : every block_ok bs ≡ true → EarliestLeast (EarlyPlace bs after before) (freq_at bs) (early_cut bs after before)
   unfolding early_list early_cut
   early_rule ok =
-      same_earliest (λ p. In p (suc after ∷ early_list)) (EarlyPlace bs after before) (freq_at bs) (early_cut bs after before) to_early from_early
-      (earliest_least (freq_at bs) (frequency_plain bs ok) (suc after) early_list early_rises)
+      let b = early_best (freq_at bs) (frequency_plain bs ok) (suc after) early_list early_rises in
+      record {
+        place = to_early _ b.inside;
+        least = λ p q. (b.wins p (from_early p q)).least;
+        earliest = λ p q. (b.wins p (from_early p q)).ahead;
+      }
 
   -- ---- late
 
@@ -255,5 +244,9 @@ module _ (bs : List BlockData) (after before : ℕ) where
   pub late_rule : every block_ok bs ≡ true → LatestLeast (LatePlace bs after before) (λ p. freq_at bs (p - 1)) (late_cut bs after before)
   unfolding late_list late_cut
   late_rule ok =
-      same_latest (λ p. In p (late_list ++ (before ∷ []))) (LatePlace bs after before) (λ p. freq_at bs (p - 1)) (late_cut bs after before) to_late from_late
-      (late_from_lem (λ p. freq_at bs (p - 1)) (λ p. frequency_plain bs ok (p - 1)) late_list before late_rises)
+      let b = late_best (λ p. freq_at bs (p - 1)) (λ p. frequency_plain bs ok (p - 1)) late_list before late_rises in
+      record {
+        place = to_late _ b.inside;
+        least = λ p q. (b.wins p (from_late p q)).least;
+        latest = λ p q. (b.wins p (from_late p q)).ahead;
+      }

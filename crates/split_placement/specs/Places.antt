@@ -7,6 +7,8 @@ use Rattle.definition.specs.declared.Side.{Side}
 use Rattle.definition.specs.declared.Side.TheVariants.{Early, Late}
 use Rattle.definition.specs.SplitPlacement.{freq_at}
 use Rattle.function.specs.Blocks.{start_of}
+use Rattle.block_starts.specs.declared.table.BlockStarts.{BlockStarts}
+use Rattle.block_starts.specs.Table.{words_in}
 
 -- ---- the open places
 
@@ -63,24 +65,16 @@ pub record LeastOpen (side : Side) (bs : List BlockData) (after before c : ℕ) 
 
 -- ---- what the code answers, over the rows of a table of starts
 
-abbrev pub bits_of : List ℕ → ℕ → ℕ → ℕ
-bits_of W at j = get_or W (at + j * 2 + 1) 0
-
--- the first of c and the k numbers behind j whose f is least, and the last
-unfoldable pub first_least : (ℕ → ℕ) → ℕ → ℕ → ℕ → ℕ
-first_least f c j zero = c
-first_least f c j (suc k) = first_least f (cond (ltb (f (j + 1)) (f c)) (j + 1) c) (j + 1) k
-
-unfoldable pub last_least : (ℕ → ℕ) → ℕ → ℕ → ℕ → ℕ
-last_least f c j zero = c
-last_least f c j (suc k) = last_least f (cond (ltb (f c) (f (j + 1))) c (j + 1)) (j + 1) k
-
--- the one of each side: early the first, late the last
-abbrev pub least : Side → (ℕ → ℕ) → ℕ → ℕ → ℕ → ℕ
-least Early f c j k = first_least f c j k
-least Late f c j k = last_least f c j k
+-- the bits of row j's frequency
+abbrev pub bits_in : BlockStarts → ℕ → ℕ
+bits_in t j = get_or (words_in t) (t.at + j * 2 + 1) 0
 
 -- of c and of j behind it, the one of lower f; of equal ones the one ahead
 abbrev pub ahead : Side → (ℕ → ℕ) → ℕ → ℕ → ℕ
 ahead Early f c j = cond (ltb (f j) (f c)) j c
 ahead Late f c j = cond (ltb (f c) (f j)) c j
+
+-- of c and the k numbers behind j the one whose f is least: early the first such, late the last
+unfoldable pub least : Side → (ℕ → ℕ) → ℕ → ℕ → ℕ → ℕ
+least side f c j zero = c
+least side f c j (suc k) = least side f (ahead side f c (j + 1)) (j + 1) k

@@ -4,7 +4,7 @@ use Rattle.block_starts.proofs.Loops.{Between}
 use Rattle.block_starts.proofs.block_of.Given as goal
 
 abbrev pub invariant-loop-high : goal.invariant-loop-high
-invariant-loop-high l = Between (words_of l.starts) l.at l.n l.inst.0 l.low l.high
+invariant-loop-high l = Between (words_of l.t.words.now) l.t.at l.t.n l.inst.0 l.low l.high
 
 abbrev pub decreases-loop-high : goal.decreases-loop-high
 decreases-loop-high l = l.high - l.low

@@ -1,13 +1,6 @@
 use native.Mathlib.Omega.{arith}
-use Rattle.cut_margins.proofs.Leaves.{edge_start, edge_next, edge_end}
+use Rattle.cut_margins.proofs.Leaves.{edge_next, edge_end}
 use Rattle.cut_margins.proofs.edge_of.Goals as goal
-
-pub loop-i-init : goal.loop-i-init
-loop-i-init c = edge_start _ _ _ _ _
-
-pub lower-e-requires : goal.lower-e-requires
-lower-e-requires c = let h = c.loop-i-test.true in
-    (omega arith, c.requires.2 _ (omega arith))
 
 pub loop-i-preserved : goal.loop-i-preserved
 loop-i-preserved c = edge_next _ _ _ _ c.loop-i.invariant c.loop-i-test.true c.lower-e.ensures

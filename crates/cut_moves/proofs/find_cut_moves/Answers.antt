@@ -1,7 +1,6 @@
 use native.Mathlib.Omega.{arith}
 use mathlib.Core.Path.{sym}
 use lib.ListN.{length}
-use Rattle.words.specs.Laws.{length_whole}
 use Rattle.find_cut.proofs.Answers.{rows_there}
 use Rattle.cut_moves.proofs.Numbers.{was_admitted_moves}
 use Rattle.cut_moves.proofs.Whole.{left_empty, part_zero, Accepted, rows_fit, left_moves}
@@ -21,15 +20,12 @@ returns-in-Err c =
     let a = c.args in
     let both =
     left_empty a.blocks.now a.after a.before a.side (length a.list.now) _ c.clear.ensures.zeroed _ _ (sym c.in-Err.ensures)
-    c.number_of.ensures in
+    c.number.ensures in
     record { value = both.0; list_after = both.1 }
 
 pub overflow_cast-n : goal.overflow_cast-n
 overflow_cast-n c = let o = accepted (goal.at.overflow_cast-n c).In-Ok in
     omega (arith, o.free.passed.blocks_few)
-
-pub slice_bounds-put_sorted-end-in-Ok : goal.slice_bounds-put_sorted-end-in-Ok
-slice_bounds-put_sorted-end-in-Ok c = sym (length_whole c.clear.new.s)
 
 pub put_sorted-count-requires : goal.put_sorted-count-requires
 put_sorted-count-requires c =

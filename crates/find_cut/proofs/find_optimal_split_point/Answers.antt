@@ -7,7 +7,7 @@ use Rattle.find_cut.proofs.find_optimal_split_point.Goals as goal
 
 pub returns-in-Err : goal.returns-in-Err
 returns-in-Err c = let a = c.args in
-    let both = failed a.blocks.now a.after a.before a.side (words_of a.work.now) _ _ (sym c.in-Err.ensures) c.number_of.ensures in
+    let both = failed a.blocks.now a.after a.before a.side (words_of a.work.now) _ _ (sym c.in-Err.ensures) c.number.ensures in
     record { value = both.0; work_after = both.1 }
 
 pub overflow_cast-n : goal.overflow_cast-n

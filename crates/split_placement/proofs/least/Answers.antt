@@ -1,9 +1,6 @@
 use native.Mathlib.Omega.{arith}
-use Rattle.split_placement.proofs.Walks.{walk_start, walk_next, walk_end}
+use Rattle.split_placement.proofs.Walks.{walk_next, walk_end}
 use Rattle.split_placement.proofs.least.Goals as goal
-
-pub loop-j-init : goal.loop-j-init
-loop-j-init c = walk_start _ _ _ _
 
 pub loop-j-preserved : goal.loop-j-preserved
 loop-j-preserved c = walk_next c.loop-j.invariant _ c.loop-j-test.true c.lower-best.ensures
