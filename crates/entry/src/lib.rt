@@ -1,22 +1,25 @@
 // The entry tests on a job of good shape, lowest number first, and the work slice of a job that passes them.
 #![tactic(auto)]
 
-ghost use Rattle.std.specs.Prelude.{◌≡◌, true, ◌≤◌, IfOk};
+ghost use Rattle.std.specs.Prelude.{◌≡◌, true, ℕ, ◌+◌, ◌*◌, ◌≤◌, ◌<◌, IfOk, get_or};
 ghost use Rattle.words.specs.Words.{word_count, words_of};
-ghost use Rattle.definition.specs.Entry.{limits_ok, lowest_of, entry};
-ghost use Rattle.layout.specs.Layout.{Fits};
+ghost use Rattle.layout.specs.JobWords.{words_in};
+ghost use Rattle.definition.specs.Entry.{insts_of, limits_ok, lowest_of, entry};
+ghost use Rattle.function.specs.Blocks.{blocks_at};
 ghost use Rattle.operands.specs.Chains.{Chained, operands_of};
-ghost use Rattle.job.specs.Job.{raw_job};
+ghost use Rattle.job.specs.Job.{raw_in};
 ghost use Rattle.job_shape.specs.Shape.{Shaped};
 ghost use Rattle.entry_function.specs.Counts.{Indexes};
-ghost use Rattle.entry_kinds.specs.Tests.{Ready};
 ghost use Rattle.entry_uses.specs.Tests.{Rising};
 ghost use Rattle.work_layout.specs.Regions.{max_work};
 ghost use Rattle.entry.specs.Number.{refusal_in, list_tests, table_tests};
 ghost use Rattle.entry.specs.Accepted.{Accepted, Prepared, prepared};
 
 use definition::Refusal;
-use layout::Layout;
+use entry_function::Counted;
+use entry_kinds::Indexed;
+use entry_uses::Bounded;
+use layout::{Job, Layout, Table};
 use operands::Chains;
 use work_layout::WorkLayout;
 
@@ -29,73 +32,103 @@ pub struct Entered {
 }
 
 // Tests 5 to 7, of a job that passed 1 to 4.
-fn test_lists(job: &[u8], lay: Layout, work: &[u8], c: Chains) -> Result<(), Refusal>
-    requires { Ready (word_count job.now) (word_count work.now) (words_of job.now) (words_of work.now) lay c × Rising (words_of job.now) lay × (limits_ok (raw_job (words_of job.now) lay) ≡ true) }
-    ensures { refusal_in result ≡ lowest_of (list_tests (raw_job (words_of job.now) lay)) }
+fn test_lists(bounded: &Bounded) -> Result<(), Refusal>
+    ensures { refusal_in result ≡ lowest_of (list_tests (raw_in bounded.now.indexed.job)) }
 {
-    let count = c.insts;
-    if !entry_hints::hints_ok(job, lay, count) {
+    let indexed = &bounded.indexed;
+    let counted = Counted {
+        job: indexed.job,
+        insts: indexed.chains.insts,
+    };
+    if !entry_hints::hints_ok(&counted) {
         return Err(Refusal::BadHint);
     }
-    if !entry_segments::segments_ok(job, lay, count) {
+    if !entry_segments::segments_ok(&counted) {
         return Err(Refusal::BadSegment);
     }
-    if !entry_uses::uses_ok(job, lay, work, c) {
+    if !entry_uses::uses_ok(bounded) {
         return Err(Refusal::BadUse);
     }
     Ok(())
 }
 
 // Tests 4 to 7, of a job that passed 1 to 3. Test 4 leaves the index of the operands in the work slice.
-fn test_tables(job: &[u8], lay: Layout, work: &mut [u8], c: Chains) -> Result<(), Refusal>
-    requires { Fits (word_count job.now) lay × Rising (words_of job.now) lay × (limits_ok (raw_job (words_of job.now) lay) ≡ true) × Indexes (word_count work.old) (words_of job.now) lay c }
-    ensures value { refusal_in result ≡ lowest_of (table_tests (raw_job (words_of job.now) lay)) }
-    ensures chained { IfOk result (λ u. Chained (words_of work.new) c (operands_of (words_of job.now) c)) }
+fn test_tables(counted: &Counted, work: &mut [u8], c: Chains) -> Result<(), Refusal>
+    requires { Rising (words_in counted.now.job) counted.now.job.lay × (limits_ok (raw_in counted.now.job) ≡ true)
+        × Indexes (word_count work.old) (words_in counted.now.job) counted.now.job.lay c }
+    ensures value { refusal_in result ≡ lowest_of (table_tests (raw_in counted.now.job)) }
+    ensures chained { IfOk result (λ u. Chained (words_of work.new) c (operands_of (words_in counted.now.job) c)) }
 {
-    if !entry_function::function_ok(job, lay, work, c) {
+    if !entry_function::function_ok(counted, work, c) {
         return Err(Refusal::BadFunction);
     }
-    test_lists(job, lay, work, c)
+    let indexed = Indexed {
+        job: counted.job,
+        work,
+        chains: c,
+    };
+    test_lists(&Bounded { indexed })
 }
 
-// Tests 2 to 7, of a job that passed 1 with the layout `lay`.
-pub fn enter(job: &[u8], lay: Layout, work: &mut [u8]) -> Result<Entered, Refusal>
-    requires { Shaped job.now lay × (max_work ≤ word_count work.old) }
-    ensures refused { refusal_in result ≡ entry (raw_job (words_of job.now) lay) }
-    ensures accepted { IfOk result (λ e. (e.lay ≡ lay) × Accepted job.now (words_of work.new) e.lay e.wl e.insts) }
+// How many instructions the blocks have. That each byte is below 256 is promised too: a proof knows it of a slice that
+// is a parameter, and not of one in a struct.
+fn insts_in(bytes: &[u8], blocks: Table) -> u64
+    requires { (blocks.at + blocks.n * 2 ≤ word_count bytes.now) × (blocks.n ≤ 512) }
+    ensures insts { result ≡ insts_of (blocks_at (words_of bytes.now) blocks.at blocks.n) }
+    ensures bytes { (i : ℕ) → get_or bytes.now i 0 < 256 }
 {
-    if !entry_book::limits_ok(job, lay) {
+    function::count_insts(bytes, blocks.at, blocks.n as u32)
+}
+
+// Tests 2 to 7, of a job that passed 1.
+pub fn enter(job: &Job, work: &mut [u8]) -> Result<Entered, Refusal>
+    requires { Shaped job.now.bytes.now job.now.lay × (max_work ≤ word_count work.old) }
+    ensures refused { refusal_in result ≡ entry (raw_in job.now) }
+    ensures accepted { IfOk result (λ e. (e.lay ≡ job.now.lay)
+        × Accepted job.now.bytes.now (words_of work.new) e.lay e.wl e.insts) }
+{
+    let lay = &job.lay;
+    if !entry_book::limits_ok(job) {
         return Err(Refusal::OverALimit);
     }
-    if !entry_book::book_ok(job, lay) {
+    if !entry_book::book_ok(job) {
         return Err(Refusal::BadBook);
     }
-    let insts = function::count_insts(job, lay.blocks.at, lay.blocks.n as u32) as usize;
+    let insts = insts_in(job.bytes, lay.blocks) as usize;
     let wl = work_layout::work_layout(lay, insts);
-    test_tables(job, lay, work, work_layout::chains_in(lay, wl))?;
-    Ok(Entered { lay, wl, insts })
+    let counted = Counted { job: *job, insts };
+    test_tables(&counted, work, work_layout::chains_in(lay, wl))?;
+    Ok(Entered {
+        lay: job.lay,
+        wl,
+        insts,
+    })
 }
 
-// The rest of the work slice of an accepted job: no operand is mapped, no use is turned, and the table of block starts is made.
+// The rest of the work slice of an accepted job: no operand is mapped, no use is turned, and the table of block starts
+// is made.
 pub fn prepare(job: &[u8], e: Entered, work: &mut [u8])
     requires { Accepted job.now (words_of work.old) e.lay e.wl e.insts × (max_work ≤ word_count work.old) }
     ensures work_after { words_of work.new ≡ prepared (words_of job.now) (words_of work.old) e.lay e.wl }
-    ensures accepted { Accepted job.now (words_of work.new) e.lay e.wl e.insts × Prepared (words_of job.now) (words_of work.new) e.lay e.wl }
+    ensures accepted { Accepted job.now (words_of work.new) e.lay e.wl e.insts
+        × Prepared (words_of job.now) (words_of work.new) e.lay e.wl }
 {
-    let lay = e.lay;
+    let lay = &e.lay;
     let wl = e.wl;
-    work_layout::clear_words(work, wl.mapping, lay.operands.n);
+    spans::clear_words(work, wl.mapping, lay.operands.n);
     block_starts::put_starts(job, lay.blocks.at, lay.blocks.n as u32, work, wl.starts);
-    work_layout::clear_words(work, wl.marks, lay.uses.n);
+    spans::clear_words(work, wl.marks, lay.uses.n);
 }
 
 // The tests, and the work slice of a job that passes them.
-pub fn enter_prepared(job: &[u8], lay: Layout, work: &mut [u8]) -> Result<Entered, Refusal>
-    requires { Shaped job.now lay × (max_work ≤ word_count work.old) }
-    ensures refused { refusal_in result ≡ entry (raw_job (words_of job.now) lay) }
-    ensures accepted { IfOk result (λ e. (e.lay ≡ lay) × Accepted job.now (words_of work.new) e.lay e.wl e.insts × Prepared (words_of job.now) (words_of work.new) e.lay e.wl) }
+pub fn enter_prepared(job: &Job, work: &mut [u8]) -> Result<Entered, Refusal>
+    requires { Shaped job.now.bytes.now job.now.lay × (max_work ≤ word_count work.old) }
+    ensures refused { refusal_in result ≡ entry (raw_in job.now) }
+    ensures accepted { IfOk result (λ e. (e.lay ≡ job.now.lay)
+        × Accepted job.now.bytes.now (words_of work.new) e.lay e.wl e.insts
+        × Prepared (words_in job.now) (words_of work.new) e.lay e.wl) }
 {
-    let e = enter(job, lay, work)?;
-    prepare(job, e, work);
+    let e = enter(job, work)?;
+    prepare(job.bytes, e, work);
     Ok(e)
 }

@@ -3,19 +3,19 @@
 
 ghost use Rattle.std.specs.Prelude.{◌≡◌, ◌&&◌, ◌||◌, ◌+◌, ◌*◌, ◌%◌, ◌^◌, ◌≤◌, ◌<◌, ltb, eqb, get_or};
 ghost use Rattle.words.specs.Words.{word_count, words_of};
-ghost use Rattle.layout.specs.Layout.{Fits};
+ghost use Rattle.layout.specs.JobWords.{words_in};
 ghost use Rattle.reginfo.specs.Rows.{class_row, classes_at};
 ghost use Rattle.definition.specs.Entry.{conj, every, sized, class_ok, limits_ok, book_ok};
-ghost use Rattle.job.specs.Job.{raw_job};
+ghost use Rattle.job.specs.Job.{raw_in};
 ghost use Rattle.job_shape.specs.Shape.{Shaped};
 ghost use Rattle.entry_book.specs.Limits.{function_counts, other_counts, Limited};
 ghost use Rattle.entry_book.specs.Book.{scale_tests};
 
-use layout::{Layout, Table};
+use layout::{Job, Layout};
 
 // The counts of all tables, in the order of the definition's tests.
-fn counts_ok(lay: Layout) -> bool
-    ensures { result ≡ conj (function_counts lay) && conj (other_counts lay) }
+fn counts_ok(lay: &Layout) -> bool
+    ensures { result ≡ conj (function_counts lay.now) && conj (other_counts lay.now) }
 {
     lay.blocks.n <= 512
         && lay.values.n <= 1024
@@ -30,15 +30,16 @@ fn counts_ok(lay: Layout) -> bool
 }
 
 // Test 2: no count and no k above its limit.
-pub fn limits_ok(job: &[u8], lay: Layout) -> bool
-    requires { Shaped job.now lay }
-    ensures { result ≡ limits_ok (raw_job (words_of job.now) lay) }
+pub fn limits_ok(job: &Job) -> bool
+    requires { Shaped job.now.bytes.now job.now.lay }
+    ensures { result ≡ limits_ok (raw_in job.now) }
 {
+    let lay = &job.lay;
     if !counts_ok(lay) {
         return false;
     }
-    words::word_at(job, lay.opts) <= 65535
-        && function::count_insts(job, lay.blocks.at, lay.blocks.n as u32) <= 4096
+    words::word_at(job.bytes, lay.opts) <= 65535
+        && function::count_insts(job.bytes, lay.blocks.at, lay.blocks.n as u32) <= 4096
 }
 
 // Whether a mask has no bit from bit n on.
@@ -58,13 +59,13 @@ fn size_agrees(job: &[u8], i: usize, mask: u32, size: u32) -> bool
 }
 
 // All classes in the mask have this size.
-fn sizes_agree(job: &[u8], classes: Table, mask: u32, size: u32) -> bool
-    requires { classes.at + classes.n * 4 ≤ word_count job.now }
-    ensures { result ≡ sized mask size (classes_at (words_of job.now) classes.at classes.n) }
+fn sizes_agree(job: &Job, mask: u32, size: u32) -> bool
+    ensures { result ≡ sized mask size (classes_at (words_in job.now) job.now.lay.classes.at job.now.lay.classes.n) }
 {
+    let classes = job.lay.classes;
     let mut rest = mask;
     for i in 0..classes.n {
-        if !size_agrees(job, classes.at + i * 4 + 2, rest, size) {
+        if !size_agrees(job.bytes, classes.at + i * 4 + 2, rest, size) {
             return false;
         }
         rest /= 2;
@@ -73,24 +74,25 @@ fn sizes_agree(job: &[u8], classes: Table, mask: u32, size: u32) -> bool
 }
 
 // The class whose row begins at word i: a known mask, a small cost, a size of 1 to 8, subclasses of its size if that is 2 or more.
-fn class_ok(job: &[u8], classes: Table, i: usize) -> bool
-    requires { (classes.at + classes.n * 4 ≤ word_count job.now) × (classes.n ≤ 32) × (i + 4 ≤ word_count job.now) }
-    ensures { result ≡ class_ok (classes_at (words_of job.now) classes.at classes.n) (class_row (words_of job.now) i) }
+fn class_ok(job: &Job, i: usize) -> bool
+    requires { (job.now.lay.classes.n ≤ 32) × (i + 4 ≤ word_count job.now.bytes.now) }
+    ensures { result ≡ class_ok (classes_at (words_in job.now) job.now.lay.classes.at job.now.lay.classes.n) (class_row (words_in job.now) i) }
 {
-    let mask = words::word_at(job, i);
-    let size = words::word_at(job, i + 2);
-    mask_known(mask, classes.n)
-        && floats::is_small(words::word_at(job, i + 1))
+    let mask = words::word_at(job.bytes, i);
+    let size = words::word_at(job.bytes, i + 2);
+    mask_known(mask, job.lay.classes.n)
+        && floats::is_small(words::word_at(job.bytes, i + 1))
         && 1 <= size
         && size <= 8
-        && (size < 2 || sizes_agree(job, classes, mask, size))
+        && (size < 2 || sizes_agree(job, mask, size))
 }
 
-fn classes_ok(job: &[u8], classes: Table) -> bool
-    requires { (classes.at + classes.n * 4 ≤ word_count job.now) × (classes.n ≤ 32) }
-    ensures { result ≡ every (class_ok (classes_at (words_of job.now) classes.at classes.n)) (classes_at (words_of job.now) classes.at classes.n) }
+fn classes_ok(job: &Job) -> bool
+    requires { job.now.lay.classes.n ≤ 32 }
+    ensures { result ≡ every (class_ok (classes_at (words_in job.now) job.now.lay.classes.at job.now.lay.classes.n)) (classes_at (words_in job.now) job.now.lay.classes.at job.now.lay.classes.n) }
 {
-    (0..classes.n).all(|i| class_ok(job, classes, classes.at + i * 4))
+    let classes = job.lay.classes;
+    (0..classes.n).all(|i| class_ok(job, classes.at + i * 4))
 }
 
 // The three scales of the options that begin at word i.
@@ -104,12 +106,13 @@ fn scales_ok(job: &[u8], i: usize) -> bool
 }
 
 // Test 3: the register book and the scales.
-pub fn book_ok(job: &[u8], lay: Layout) -> bool
-    requires { Fits (word_count job.now) lay × Limited (words_of job.now) lay }
-    ensures { result ≡ book_ok (raw_job (words_of job.now) lay) }
+pub fn book_ok(job: &Job) -> bool
+    requires { Limited (words_in job.now) job.now.lay }
+    ensures { result ≡ book_ok (raw_in job.now) }
 {
-    job_shape::all_below(job, lay.banks, 1, 0, lay.classes.n as u32)
-        && job_shape::all_below(job, lay.values, 3, 0, lay.banks.n as u32)
-        && classes_ok(job, lay.classes)
-        && scales_ok(job, lay.opts)
+    let lay = &job.lay;
+    job_shape::all_below(job.bytes, lay.banks, 1, 0, lay.classes.n as u32)
+        && job_shape::all_below(job.bytes, lay.values, 3, 0, lay.banks.n as u32)
+        && classes_ok(job)
+        && scales_ok(job.bytes, lay.opts)
 }

@@ -1,18 +1,21 @@
-// Entry test 7, of one use's kind and fields. The words of its row are tested as they stand, since a field beyond its UseKind type is to be seen.
+// Entry test 7, of one use's kind and fields. The words of its row are tested as they stand, since a field beyond its
+// UseKind type is to be seen.
 #![tactic(auto)]
 
 ghost use Rattle.std.specs.Prelude.{◌≡◌, ◌+◌, ◌*◌, ◌≤◌, ◌<◌, get_or};
-ghost use Rattle.words.specs.Words.{word_count, words_of};
+ghost use Rattle.words.specs.Words.{word_count};
+ghost use Rattle.layout.specs.JobWords.{words_in};
 ghost use Rattle.definition.specs.Types.{cls};
 ghost use Rattle.definition.specs.Entry.{group_use_ok, kind_ok};
 ghost use Rattle.uses.specs.Rows.{raw_row};
 ghost use Rattle.operands.specs.Rows.{operand_row, fits_use};
-ghost use Rattle.job.specs.Job.{raw_job};
-ghost use Rattle.entry_kinds.specs.Tests.{class_use_ok, tied_use_ok, Ready};
+ghost use Rattle.job.specs.Job.{raw_in};
+ghost use Rattle.entry_kinds.specs.Tests.{class_use_ok, tied_use_ok};
+
+mod indexed;
 
 use definition::{Inst, RegClass, Value};
-use layout::Layout;
-use operands::Chains;
+pub use indexed::Indexed;
 
 // Whether a slot fits its type and a class is one of n.
 fn class_use_ok(n: usize, slot: u32, class: u32) -> bool
@@ -29,68 +32,56 @@ fn tied_use_ok(n: usize, slot: u32, def: u32, class: u32, index: u32) -> bool
 }
 
 // Whether operand k is of the class, and its value group has value v at the index.
-fn operand_fits(
-    job: &[u8],
-    lay: Layout,
-    work: &[u8],
-    c: Chains,
-    k: usize,
-    v: Value,
-    class: u32,
-    index: u32,
-) -> bool
-    requires { Ready (word_count job.now) (word_count work.now) (words_of job.now) (words_of work.now) lay c × (k < lay.operands.n) }
-    ensures { result ≡ fits_use (raw_job (words_of job.now) lay) v (cls class) index (operand_row (words_of job.now) (lay.operands.at + k * 4)) }
+fn operand_fits(indexed: &Indexed, k: usize, v: Value, class: u32, index: u32) -> bool
+    requires { k < indexed.now.job.lay.operands.n }
+    ensures { result ≡ fits_use (raw_in indexed.now.job) v (cls class) index
+        (operand_row (words_in indexed.now.job) (indexed.now.job.lay.operands.at + k * 4)) }
 {
-    let o = operands::operand_at(job, lay.operands.at + k * 4);
+    let job = &indexed.job;
+    let lay = &job.lay;
+    let o = operands::operand_at(job.bytes, lay.operands.at + k * 4);
     if o.class != RegClass(class) {
         return false;
     }
     let group = lay.vgroups.at + o.vgroup.0 as usize * 9;
-    if coalescing::group_len(job, group) <= index as usize {
+    if coalescing::group_len(job.bytes, group) <= index as usize {
         return false;
     }
-    coalescing::member_at(job, group, index as usize) == v
+    coalescing::member_at(job.bytes, group, index as usize) == v
 }
 
 // Whether a group use of value v at instruction p has its operand, with this class, and v at its index.
-fn group_use_ok(
-    job: &[u8],
-    lay: Layout,
-    work: &[u8],
-    c: Chains,
-    v: Value,
-    p: Inst,
-    slot: u32,
-    class: u32,
-    index: u32,
-) -> bool
-    requires { Ready (word_count job.now) (word_count work.now) (words_of job.now) (words_of work.now) lay c × (p.0 < c.insts) }
-    ensures { result ≡ group_use_ok (raw_job (words_of job.now) lay) v p slot (cls class) index }
+fn group_use_ok(indexed: &Indexed, v: Value, p: Inst, slot: u32, class: u32, index: u32) -> bool
+    requires { p.0 < indexed.now.chains.insts }
+    ensures { result ≡ group_use_ok (raw_in indexed.now.job) v p slot (cls class) index }
 {
-    match operands::find_operand(job, work, c, p, slot) {
-        Some(k) => operand_fits(job, lay, work, c, k, v, class, index),
+    match operands::find_operand(indexed.job.bytes, indexed.work, indexed.chains, p, slot) {
+        Some(k) => operand_fits(indexed, k, v, class, index),
         None => false,
     }
 }
 
 // Whether the kind and fields of the use at word i, of value v, are within the job. A conflict is no kind for a job.
-pub fn kind_ok(job: &[u8], lay: Layout, work: &[u8], c: Chains, v: Value, i: usize) -> bool
-    requires { Ready (word_count job.now) (word_count work.now) (words_of job.now) (words_of work.now) lay c × (i + 6 ≤ word_count job.now) × (get_or (words_of job.now) (i + 1) 0 < c.insts) }
-    ensures { result ≡ kind_ok (raw_job (words_of job.now) lay) v (raw_row (words_of job.now) i).pos (raw_row (words_of job.now) i).kind }
+pub fn kind_ok(indexed: &Indexed, v: Value, i: usize) -> bool
+    requires { (i + 6 ≤ word_count indexed.now.job.bytes.now)
+        × (get_or (words_in indexed.now.job) (i + 1) 0 < indexed.now.chains.insts) }
+    ensures { result ≡ kind_ok (raw_in indexed.now.job) v (raw_row (words_in indexed.now.job) i).pos
+        (raw_row (words_in indexed.now.job) i).kind }
 {
-    let p = Inst(words::word_at(job, i + 1));
-    let a = words::word_at(job, i + 2);
-    let b = words::word_at(job, i + 3);
-    let x = words::word_at(job, i + 4);
-    let d = words::word_at(job, i + 5);
+    let job = &indexed.job;
+    let lay = &job.lay;
+    let p = Inst(words::word_at(job.bytes, i + 1));
+    let a = words::word_at(job.bytes, i + 2);
+    let b = words::word_at(job.bytes, i + 3);
+    let x = words::word_at(job.bytes, i + 4);
+    let d = words::word_at(job.bytes, i + 5);
     let regs = lay.regs.n;
     let classes = lay.classes.n;
-    match words::word_at(job, i) {
+    match words::word_at(job.bytes, i) {
         0 | 1 => (a as usize) < regs,
         2 => tied_use_ok(classes, a, b, x, d),
         4 | 5 => class_use_ok(classes, a, b),
-        6 | 7 => group_use_ok(job, lay, work, c, v, p, a, b, x),
+        6 | 7 => group_use_ok(indexed, v, p, a, b, x),
         8 | 9 => true,
         _ => false,
     }

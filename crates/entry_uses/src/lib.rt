@@ -1,52 +1,52 @@
 // Entry test 7: the uses of each segment of a job.
 #![tactic(auto)]
 
-ghost use Rattle.std.specs.Prelude.{◌≡◌, true, ◌+◌, ◌*◌, ◌≤◌, ◌<◌};
+ghost use Rattle.std.specs.Prelude.{◌≡◌, ◌+◌, ◌*◌, ◌≤◌, ◌<◌};
 ghost use Rattle.rows.specs.RowsAt.{rows_at};
 ghost use Rattle.words.specs.Words.{word_count, words_of};
-ghost use Rattle.definition.specs.Entry.{every, chained, limits_ok, use_ok, uses_ok};
+ghost use Rattle.layout.specs.JobWords.{words_in};
+ghost use Rattle.definition.specs.Entry.{every, chained, use_ok, uses_ok};
 ghost use Rattle.uses.specs.Rows.{raw_row};
 ghost use Rattle.layout.specs.Layout.{segment_of};
-ghost use Rattle.job.specs.Job.{raw_job};
-ghost use Rattle.entry_kinds.specs.Tests.{Ready};
-ghost use Rattle.entry_uses.specs.Tests.{seg_of, not_falling, Rising};
+ghost use Rattle.job.specs.Job.{raw_in};
+ghost use Rattle.entry_uses.specs.Tests.{seg_of, not_falling};
 
-use layout::{Layout, SegRow};
-use operands::Chains;
+mod bounded;
 
-// Whether the use at word i is one that segment s may have.
-fn use_ok(job: &[u8], lay: Layout, work: &[u8], c: Chains, s: SegRow, i: usize) -> bool
-    requires { Ready (word_count job.now) (word_count work.now) (words_of job.now) (words_of work.now) lay c × (i + 6 ≤ word_count job.now) }
-    ensures { result ≡ use_ok (raw_job (words_of job.now) lay) (seg_of s) (raw_row (words_of job.now) i) }
+pub use bounded::Bounded;
+use entry_kinds::Indexed;
+use layout::SegRow;
+
+// Whether use k of segment s is one that it may have.
+fn use_ok(indexed: &Indexed, s: SegRow, k: usize) -> bool
+    requires { s.first + k < indexed.now.job.lay.uses.n }
+    ensures { result ≡ use_ok (raw_in indexed.now.job) (seg_of s)
+        (raw_row (words_in indexed.now.job) (indexed.now.job.lay.uses.at + (s.first + k) * 6)) }
 {
-    let count = c.insts;
-    let pos = words::word_at(job, i + 1);
+    let job = &indexed.job;
+    let lay = &job.lay;
+    let count = indexed.chains.insts;
+    let i = lay.uses.at + (s.first as usize + k) * 6;
+    let pos = words::word_at(job.bytes, i + 1);
     if count <= pos as usize {
         return false;
     }
-    if !entry_kinds::kind_ok(job, lay, work, c, s.value, i) {
+    if !entry_kinds::kind_ok(indexed, s.value, i) {
         return false;
     }
     if 4 * pos + 4 <= s.from.0 {
         return false;
     }
-    uses::end_point(uses::use_at(job, i)) <= s.to
+    uses::end_point(uses::use_at(job.bytes, i)) <= s.to
 }
 
-// The same of the n uses from word `at` on.
-fn each_use_ok(
-    job: &[u8],
-    lay: Layout,
-    work: &[u8],
-    c: Chains,
-    s: SegRow,
-    at: usize,
-    n: usize,
-) -> bool
-    requires { Ready (word_count job.now) (word_count work.now) (words_of job.now) (words_of work.now) lay c × (at + n * 6 ≤ word_count job.now) }
-    ensures { result ≡ every (use_ok (raw_job (words_of job.now) lay) (seg_of s)) (rows_at raw_row (words_of job.now) at 6 n) }
+// The same of the first n uses of segment s.
+fn each_use_ok(indexed: &Indexed, s: SegRow, n: usize) -> bool
+    requires { s.first + n ≤ indexed.now.job.lay.uses.n }
+    ensures { result ≡ every (use_ok (raw_in indexed.now.job) (seg_of s))
+        (rows_at raw_row (words_in indexed.now.job) (indexed.now.job.lay.uses.at + s.first * 6) 6 n) }
 {
-    (0..n).all(|i| use_ok(job, lay, work, c, s, at + i * 6))
+    (0..n).all(|k| use_ok(indexed, s, k))
 }
 
 // Whether the positions of the n uses from word `at` on do not fall.
@@ -58,21 +58,24 @@ fn uses_rise(job: &[u8], at: usize, n: usize) -> bool
 }
 
 // Test 7 of segment k.
-fn segment_uses_ok(job: &[u8], lay: Layout, work: &[u8], c: Chains, k: usize) -> bool
-    requires { Ready (word_count job.now) (word_count work.now) (words_of job.now) (words_of work.now) lay c × Rising (words_of job.now) lay × (limits_ok (raw_job (words_of job.now) lay) ≡ true) × (k < lay.segments.n) }
-    ensures { result ≡ uses_ok (raw_job (words_of job.now) lay) (segment_of raw_row (words_of job.now) lay k) }
+fn segment_uses_ok(bounded: &Bounded, k: usize) -> bool
+    requires { k < bounded.now.indexed.job.lay.segments.n }
+    ensures { result ≡ uses_ok (raw_in bounded.now.indexed.job)
+        (segment_of raw_row (words_in bounded.now.indexed.job) bounded.now.indexed.job.lay k) }
 {
-    let s = layout::seg_at(job, lay.segments.at + k * 5);
-    let next = layout::next_use(job, lay, k);
+    let indexed = &bounded.indexed;
+    let job = &indexed.job;
+    let lay = &job.lay;
+    let s = layout::seg_at(job.bytes, lay.segments.at + k * 5);
+    let next = layout::next_use(job, k);
     let at = lay.uses.at + s.first as usize * 6;
     let n = (next - s.first) as usize;
-    each_use_ok(job, lay, work, c, s, at, n) && uses_rise(job, at, n)
+    each_use_ok(indexed, s, n) && uses_rise(job.bytes, at, n)
 }
 
 // Test 7. The use table is walked from the first segment's uses to the last one's.
-pub fn uses_ok(job: &[u8], lay: Layout, work: &[u8], c: Chains) -> bool
-    requires { Ready (word_count job.now) (word_count work.now) (words_of job.now) (words_of work.now) lay c × Rising (words_of job.now) lay × (limits_ok (raw_job (words_of job.now) lay) ≡ true) }
-    ensures { result ≡ every (uses_ok (raw_job (words_of job.now) lay)) (raw_job (words_of job.now) lay).segments }
+pub fn uses_ok(bounded: &Bounded) -> bool
+    ensures { result ≡ every (uses_ok (raw_in bounded.now.indexed.job)) (raw_in bounded.now.indexed.job).segments }
 {
-    (0..lay.segments.n).all(|k| segment_uses_ok(job, lay, work, c, k))
+    (0..bounded.indexed.job.lay.segments.n).all(|k| segment_uses_ok(bounded, k))
 }

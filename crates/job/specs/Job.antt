@@ -12,7 +12,9 @@ use Rattle.hints.specs.Hints.{hint_at}
 use Rattle.uses.specs.Rows.{use_row, raw_row}
 use Rattle.layout.specs.declared.Table.{Table}
 use Rattle.layout.specs.declared.Layout.{Layout}
+use Rattle.layout.specs.declared.job.Job as lent
 use Rattle.layout.specs.Layout.{options_row, segment_of}
+use Rattle.layout.specs.JobWords.{words_in}
 
 -- the job, by a decoder of use rows
 unfoldable pub job_by : (List ℕ → ℕ → Use) → List ℕ → Layout → Job
@@ -37,3 +39,10 @@ raw_job W lay = job_by raw_row W lay
 -- the same with the fields of its uses modulo their UseKind types, which is what code reads: the same job where the fields fit
 unfoldable pub job_of : List ℕ → Layout → Job
 job_of W lay = job_by use_row W lay
+
+-- the jobs that a lent one stands for
+abbrev pub raw_in : lent.Job → Job
+raw_in job = raw_job (words_in job) job.lay
+
+abbrev pub job_in : lent.Job → Job
+job_in job = job_of (words_in job) job.lay

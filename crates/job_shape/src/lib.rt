@@ -3,10 +3,10 @@
 
 ghost use Rattle.std.specs.Prelude.{◌≡◌, ◌+◌, ◌*◌, ◌≤◌, ◌<◌, eqb, get_or};
 ghost use Rattle.words.specs.Words.{word_count, words_of};
-ghost use Rattle.layout.specs.Layout.{Fits};
+ghost use Rattle.layout.specs.JobWords.{words_in};
 ghost use Rattle.job_shape.specs.Shape.{Placed, table_behind, layout_of, all_below, choices_ok, rises, use_counts, tables_ok, Formed};
 
-use layout::{Layout, Table};
+use layout::{Job, Layout, Table};
 
 // Word i as a number of rows or uses.
 fn count(job: &[u8], i: usize) -> usize
@@ -69,38 +69,38 @@ pub fn all_below(job: &[u8], t: Table, stride: usize, col: usize, bound: u32) ->
 }
 
 // Every choice is on its list: spillslots, memory, remat, incoming, flags, kind.
-fn choices_ok(job: &[u8], lay: Layout) -> bool
-    requires { Fits (word_count job.now) lay }
-    ensures { result ≡ choices_ok (words_of job.now) lay }
+fn choices_ok(job: &Job) -> bool
+    ensures { result ≡ choices_ok (words_in job.now) job.now.lay }
 {
-    all_below(job, lay.classes, 4, 3, 2)
-        && all_below(job, lay.regs, 1, 0, 2)
-        && all_below(job, lay.values, 3, 2, 4)
-        && all_below(job, lay.hints, 3, 2, 2)
-        && all_below(job, lay.segments, 5, 3, 16)
-        && all_below(job, lay.uses, 6, 0, 10)
+    let lay = &job.lay;
+    all_below(job.bytes, lay.classes, 4, 3, 2)
+        && all_below(job.bytes, lay.regs, 1, 0, 2)
+        && all_below(job.bytes, lay.values, 3, 2, 4)
+        && all_below(job.bytes, lay.hints, 3, 2, 2)
+        && all_below(job.bytes, lay.segments, 5, 3, 16)
+        && all_below(job.bytes, lay.uses, 6, 0, 10)
 }
 
 // The first segment's use count is 0; without a segment there is no use.
-fn counts_begin(job: &[u8], lay: Layout) -> bool
-    requires { Fits (word_count job.now) lay }
-    ensures { result ≡ eqb (get_or (use_counts (words_of job.now) lay) 0 lay.uses.n) 0 }
+fn counts_begin(job: &Job) -> bool
+    ensures { result ≡ eqb (get_or (use_counts (words_in job.now) job.now.lay) 0 job.now.lay.uses.n) 0 }
 {
+    let lay = &job.lay;
     if lay.segments.n == 0 {
         lay.uses.n == 0
     } else {
-        words::word_at(job, lay.segments.at + 4) == 0
+        words::word_at(job.bytes, lay.segments.at + 4) == 0
     }
 }
 
 // The use counts do not fall, nor does the number of uses behind them.
-fn counts_rise(job: &[u8], lay: Layout) -> bool
-    requires { Fits (word_count job.now) lay }
-    ensures { result ≡ rises 0 (use_counts (words_of job.now) lay) lay.uses.n }
+fn counts_rise(job: &Job) -> bool
+    ensures { result ≡ rises 0 (use_counts (words_in job.now) job.now.lay) job.now.lay.uses.n }
 {
+    let lay = &job.lay;
     let mut last: usize = 0;
     for i in 0..lay.segments.n {
-        let next = count(job, lay.segments.at + i * 5 + 4);
+        let next = count(job.bytes, lay.segments.at + i * 5 + 4);
         if next < last {
             return false;
         }
@@ -110,16 +110,16 @@ fn counts_rise(job: &[u8], lay: Layout) -> bool
 }
 
 // The tests behind the length: at least one bank, class and block, choices on their lists, use counts that rise.
-fn tables_ok(job: &[u8], lay: Layout) -> bool
-    requires { Fits (word_count job.now) lay }
-    ensures { result ≡ tables_ok (words_of job.now) lay }
+fn tables_ok(job: &Job) -> bool
+    ensures { result ≡ tables_ok (words_in job.now) job.now.lay }
 {
+    let lay = &job.lay;
     1 <= lay.banks.n
         && 1 <= lay.classes.n
         && 1 <= lay.blocks.n
-        && choices_ok(job, lay)
-        && counts_begin(job, lay)
-        && counts_rise(job, lay)
+        && choices_ok(job)
+        && counts_begin(job)
+        && counts_rise(job)
 }
 
 // Test 1: the layout of a slice that is exactly as long as its header says and whose tables pass.
@@ -133,5 +133,6 @@ pub fn find_layout(job: &[u8]) -> Option<Layout>
     if job.len() != (lay.uses.at + lay.uses.n * 6) * 4 {
         return None;
     }
-    tables_ok(job, lay).then_some(lay)
+    let job = Job { bytes: job, lay };
+    tables_ok(&job).then_some(lay)
 }

@@ -3,9 +3,13 @@
 
 ghost use Rattle.std.specs.Prelude.{◌≡◌, ℕ, ◌+◌, ◌*◌, ◌≤◌, ◌<◌, get_or};
 ghost use Rattle.words.specs.Words.{word_count, words_of};
-ghost use Rattle.layout.specs.Layout.{Fits, options_row, flags_of, seg_row, next_use};
+ghost use Rattle.layout.specs.JobWords.{words_in};
+ghost use Rattle.layout.specs.Layout.{options_row, flags_of, seg_row, next_use};
+
+mod job;
 
 use definition::{LiveRangePoint, Options, UseFlags, Value};
+pub use job::Job;
 
 // A table: the word at which its first row begins, and how many rows it has.
 #[derive(Clone, Copy)]
@@ -80,14 +84,15 @@ pub fn seg_at(t: &[u8], i: usize) -> SegRow
 }
 
 // The use number at which the uses of segment i end: the next segment's first, or the number of uses.
-pub fn next_use(t: &[u8], lay: Layout, i: usize) -> u32
-    requires { Fits (word_count t.now) lay × (i < lay.segments.n) × (lay.uses.n ≤ 4096) }
-    ensures { result ≡ next_use (words_of t.now) lay i }
+pub fn next_use(job: &Job, i: usize) -> u32
+    requires { (i < job.now.lay.segments.n) × (job.now.lay.uses.n ≤ 4096) }
+    ensures { result ≡ next_use (words_in job.now) job.now.lay i }
 {
+    let lay = &job.lay;
     let at = lay.segments.at;
     let n = lay.segments.n;
     if i + 1 < n {
-        return words::word_at(t, at + (i + 1) * 5 + 4);
+        return words::word_at(job.bytes, at + (i + 1) * 5 + 4);
     }
     lay.uses.n as u32
 }

@@ -3,15 +3,14 @@
 
 ghost use Rattle.std.specs.Prelude.{◌≡◌, true, cond, ◌+◌, ◌*◌, ◌≤◌, ◌<◌, eqb};
 ghost use Rattle.rows.specs.RowsAt.{rows_at};
-ghost use Rattle.words.specs.Words.{word_count, words_of};
 ghost use Rattle.definition.specs.Entry.{chained, not_after};
 ghost use Rattle.hints.specs.Hints.{hint_at};
-ghost use Rattle.layout.specs.Layout.{Fits};
 ghost use Rattle.set_part.specs.Part.{PartOk};
 ghost use Rattle.set_cuts.specs.Cut.{first_past, left_part, right_part, cut_across, cut_between, cut_part};
+ghost use Rattle.layout.specs.JobWords.{words_in};
 
 use definition::{Inst, LiveRangePoint, UseFlags};
-use layout::Layout;
+use layout::Job;
 use set_part::{PartSeg, SetPart, at_segment};
 
 // The two sides of a cut.
@@ -22,12 +21,13 @@ pub struct Parts {
 }
 
 // The first segment that does not end by point q; the last one is not looked at.
-fn first_past(job: &[u8], lay: Layout, sp: SetPart, q: u32) -> usize
-    requires { Fits (word_count job.now) lay × (sp.seg ≤ sp.last) × (sp.last < lay.segments.n) }
-    ensures { (result ≡ first_past (words_of job.now) lay sp q) × (sp.seg ≤ result) × (result ≤ sp.last) }
+fn first_past(job: &Job, sp: SetPart, q: u32) -> usize
+    requires { (sp.seg ≤ sp.last) × (sp.last < job.now.lay.segments.n) }
+    ensures { (result ≡ first_past (words_in job.now) job.now.lay sp q) × (sp.seg ≤ result) × (result ≤ sp.last) }
 {
+    let lay = &job.lay;
     for i in sp.seg..sp.last {
-        if q < words::word_at(job, lay.segments.at + i * 5 + 2) {
+        if q < words::word_at(job.bytes, lay.segments.at + i * 5 + 2) {
             return i;
         }
     }
@@ -62,18 +62,19 @@ fn right_part(sp: SetPart, k: usize, from: LiveRangePoint, flags: UseFlags, firs
 }
 
 // A cut across segment k, whose row is `row`.
-fn cut_across(job: &[u8], lay: Layout, sp: SetPart, p: Inst, k: usize, row: PartSeg) -> Parts
-    requires { Fits (word_count job.now) lay × (chained not_after (rows_at hint_at (words_of job.now) lay.hints.at 3 lay.hints.n) ≡ true)
-        × (row.first ≤ row.end) × (row.end ≤ lay.uses.n) × (4 * p.0 < row.to.0) }
-    ensures { result ≡ cut_across (rows_at hint_at (words_of job.now) lay.hints.at 3 lay.hints.n) (words_of job.now) lay p sp k row }
+fn cut_across(job: &Job, sp: SetPart, p: Inst, k: usize, row: PartSeg) -> Parts
+    requires { (chained not_after (rows_at hint_at (words_in job.now) job.now.lay.hints.at 3 job.now.lay.hints.n) ≡ true)
+        × (row.first ≤ row.end) × (row.end ≤ job.now.lay.uses.n) × (4 * p.0 < row.to.0) }
+    ensures { result ≡ cut_across (rows_at hint_at (words_in job.now) job.now.lay.hints.at 3 job.now.lay.hints.n) (words_in job.now) job.now.lay p sp k row }
 {
+    let lay = &job.lay;
     let at = lay.hints.at;
     let n = lay.hints.n;
     let first = row.first;
     let here = LiveRangePoint(4 * p.0);
-    let mid = first + uses::count_before(job, lay.uses.at + first * 6, row.end - first, p);
-    let before = cuts::left_flags(job, at, n, row.value, row.from, p, row.flags);
-    let behind = cuts::right_flags(job, at, n, row.value, row.to, p, row.flags);
+    let mid = first + uses::count_before(job.bytes, lay.uses.at + first * 6, row.end - first, p);
+    let before = cuts::left_flags(job.bytes, at, n, row.value, row.from, p, row.flags);
+    let behind = cuts::right_flags(job.bytes, at, n, row.value, row.to, p, row.flags);
     Parts {
         left: left_part(sp, k, here, before, mid),
         right: right_part(sp, k, here, behind, mid),
@@ -92,17 +93,17 @@ fn cut_between(sp: SetPart, k: usize, old: PartSeg, row: PartSeg) -> Parts
 }
 
 // The part before point 4p and the part behind it: both are there.
-pub fn cut_part(job: &[u8], lay: Layout, sp: SetPart, p: Inst) -> Parts
-    requires { Fits (word_count job.now) lay × PartOk (words_of job.now) lay sp × (sp.«from».0 < 4 * p.0) × (4 * p.0 < sp.to.0)
-        × (chained not_after (rows_at hint_at (words_of job.now) lay.hints.at 3 lay.hints.n) ≡ true) }
-    ensures { result ≡ cut_part (rows_at hint_at (words_of job.now) lay.hints.at 3 lay.hints.n) (words_of job.now) lay p sp }
+pub fn cut_part(job: &Job, sp: SetPart, p: Inst) -> Parts
+    requires { PartOk (words_in job.now) job.now.lay sp × (sp.«from».0 < 4 * p.0) × (4 * p.0 < sp.to.0)
+        × (chained not_after (rows_at hint_at (words_in job.now) job.now.lay.hints.at 3 job.now.lay.hints.n) ≡ true) }
+    ensures { result ≡ cut_part (rows_at hint_at (words_in job.now) job.now.lay.hints.at 3 job.now.lay.hints.n) (words_in job.now) job.now.lay p sp }
 {
     let q = 4 * p.0;
-    let k = first_past(job, lay, sp, q);
-    let row = set_part::part_seg(job, lay, sp, k);
+    let k = first_past(job, sp, q);
+    let row = set_part::part_seg(job, sp, k);
     if row.from.0 < q {
-        return cut_across(job, lay, sp, p, k, row);
+        return cut_across(job, sp, p, k, row);
     }
-    let old = set_part::part_seg(job, lay, sp, k - 1);
+    let old = set_part::part_seg(job, sp, k - 1);
     cut_between(sp, k, old, row)
 }

@@ -22,12 +22,14 @@ use Rattle.sheet.specs.Machine.{Answer}
 use Rattle.sheet.specs.declared.SheetError.TheVariants.{Malformed, TooMany}
 use Rattle.sheet_written.specs.Passed.{Passed, accepted_passed}
 use Rattle.sheet_form.specs.declared.Reading.{Reading}
-use Rattle.sheet_form.specs.Front.{formed, open_form, second_of, finish_of}
+use Rattle.sheet_form.specs.Fronts.{front_at}
+use Rattle.sheet_form.specs.Front.{formed, open_form, second_of}
 use Rattle.sheet_form.specs.Stream.{Streamed}
 use Rattle.agree.specs.Words.{none_some}
 use Rattle.agree.specs.Agree.{all_bytes}
 use Rattle.sheet_job.specs.Fixed.{fixed_layout}
 use Rattle.sheet_job.specs.Answers.{alike_entry, accepted_same}
+use Rattle.sheet_read.specs.Laws.{said_of}
 use Rattle.sheet_read.specs.Read.{JobRead, ReadAs}
 use Rattle.sheet_read.specs.Answers.{table_job}
 use Rattle.sheet_read.specs.Verdict.{tenth_ok, verdict_read}
@@ -86,7 +88,7 @@ module _ (second : Bool) (T : List ℕ) (lay : Layout) (Y K : List ℕ) where
 
 pub shaped_read : (cur : Reading) (T U : List ℕ)
     → Streamed (open_form table_words 1536) (formed cur (words_of T) (words_of U))
-    → word_count T ≡ table_words → word_count U ≡ 1536 → (a : Answer) → a ≡ finish_of cur.front cur.next → a ≡ Ok tt
+    → word_count T ≡ table_words → word_count U ≡ 1536 → (a : Answer) → a ≡ said_of cur → a ≡ Ok tt
     → (lay : Layout) → lay ≡ fixed_layout (words_of T) → Shaped T lay
 shaped_read cur T U s w k a i r lay l =
     let d : LeadsTo s.bytes cur (words_of T) (words_of U) =
@@ -94,14 +96,14 @@ shaped_read cur T U s w k a i r lay l =
     subst (λ (x : Layout). Shaped T x) (sym l) ((read_as s.bytes cur T U w k d a i r).shaped refl)
 
 module _ (cur : Reading) (T U K : List ℕ) (l : word_count T ≡ table_words) (k : word_count U ≡ 1536) (a : Answer)
-    (i : a ≡ finish_of cur.front cur.next) where
+    (i : a ≡ said_of cur) where
   pub judged_malformed : a ≡ Err Malformed → Judged cur T (words_of U) K (Err (By NotARecord))
   judged_malformed r = record { refused = λ sheet s. sym (none_read sheet cur T U l k s (sym i ∙ r)); job = tt; ready = tt }
 
   pub judged_crowded : a ≡ Err TooMany → Judged cur T (words_of U) K (Err (By OverALimit))
   judged_crowded r = record { refused = λ sheet s. sym (crowd_read sheet cur T U l k s (sym i ∙ r)); job = tt; ready = tt }
 
-  pub judged_read : a ≡ Ok tt → (second : Bool) → second ≡ second_of cur.front → (lay : Layout)
+  pub judged_read : a ≡ Ok tt → (second : Bool) → second ≡ second_of (front_at cur.front) → (lay : Layout)
       → lay ≡ fixed_layout (words_of T) → (v : Result Entered SheetRefusal) → Tested second T lay (words_of U) K v
       → Judged cur T (words_of U) K v
   judged_read r second d lay q v t = record {

@@ -12,6 +12,7 @@ use Rattle.sheet_places.specs.Places.{table_words}
 use Rattle.sheet.specs.Machine.{Answer}
 use Rattle.sheet.specs.declared.SheetError.TheVariants.{Malformed, TooMany}
 use Rattle.sheet_form.specs.declared.Reading.{Reading}
+use Rattle.sheet_form.specs.Fronts.{front_at}
 use Rattle.sheet_form.specs.Front.{Formed, second_of}
 use Rattle.agree.specs.Words.{none_some}
 use Rattle.agree.specs.Table.{Filled, fill, blank}
@@ -31,7 +32,7 @@ module _ (sheet : List ℕ) (cur : Reading) (T U : List ℕ) (l : word_count T �
   went_over : Went table_words sheet cur T U
   went_over = record { bytes = s.bytes; is = s.is; long = l; all = refl; room = k }
 
-  pub front : second_of cur.front ≡ is_second sheet
+  pub front : second_of (front_at cur.front) ≡ is_second sheet
   front = ap (λ (f : Formed). second_of f.at.front) s.is ∙ forms_front table_words 1536 sheet s.bytes
 
   -- by what the reader says

@@ -12,7 +12,7 @@ ghost use Rattle.sheet_verdict.specs.Judged.{Tested, Judged};
 
 use definition::{Refusal, SheetRefusal};
 use entry::Entered;
-use layout::Layout;
+use layout::Job;
 use sheet::SheetError;
 use sheet_form::Reading;
 
@@ -20,18 +20,17 @@ use sheet_form::Reading;
 #[tactic(auto, using(crate::proofs::Ways::tested_refused))]
 fn judge_job(
     second: bool,
-    table: &[u8],
-    lay: Layout,
+    job: &Job,
     written: &[u8],
     work: &mut [u8],
 ) -> Result<Entered, SheetRefusal>
-    requires { Shaped table.now lay × (word_count written.now ≡ 1536) × (max_work ≤ word_count work.old) }
-    ensures { Tested second table.now lay (words_of written.now) (words_of work.new) result }
+    requires { Shaped job.now.bytes.now job.now.lay × (word_count written.now ≡ 1536) × (max_work ≤ word_count work.old) }
+    ensures { Tested second job.now.bytes.now job.now.lay (words_of written.now) (words_of work.new) result }
 {
-    match entry::enter_prepared(table, lay, work) {
+    match entry::enter_prepared(job, work) {
         Ok(e) => {
             if second {
-                if !sheet_written::as_implied(table, lay, written) {
+                if !sheet_written::as_implied(job, written) {
                     return Err(SheetRefusal::WrittenDiffers);
                 }
             }
@@ -42,6 +41,8 @@ fn judge_job(
 }
 
 // The verdict on every sheet that leads the reader to this state and these tables.
+// The lent tables are slices of so many words, and the work slice one of `max_work` or more, by clauses: arrays would
+// ask for just so many bytes.
 pub fn judge(
     cur: Reading,
     table: &[u8],
@@ -51,9 +52,12 @@ pub fn judge(
     requires { Streamed (open_form table_words 1536) (formed cur (words_of table.now) (words_of written.now)) × (word_count table.now ≡ table_words) × (word_count written.now ≡ 1536) × (max_work ≤ word_count work.old) }
     ensures { Judged cur table.now (words_of written.now) (words_of work.new) result }
 {
-    let lay = sheet_job::fixed_layout(table);
     match sheet_form::finish(cur) {
-        Ok(()) => judge_job(sheet_form::is_second(cur), table, lay, written, work),
+        Ok(()) => {
+            let lay = sheet_job::fixed_layout(table);
+            let job = Job { bytes: table, lay };
+            judge_job(sheet_form::is_second(cur), &job, written, work)
+        }
         Err(SheetError::Malformed) => Err(SheetRefusal::By(Refusal::NotARecord)),
         Err(SheetError::TooMany) => Err(SheetRefusal::By(Refusal::OverALimit)),
     }

@@ -3,13 +3,13 @@
 
 ghost use Rattle.std.specs.Prelude.{◌≡◌, ◌+◌, ◌≤◌, ◌<◌, set};
 ghost use Rattle.words.specs.Words.{word_count, words_of};
+ghost use Rattle.layout.specs.JobWords.{words_in};
 ghost use Rattle.definition.specs.Uses.{param_of};
-ghost use Rattle.layout.specs.Layout.{Fits};
 ghost use Rattle.set_part.specs.Part.{PartOk, marked_use};
 ghost use Rattle.turned.specs.Turned.{coded, param_here, holder, turned_row};
 
 use definition::{Inst, Use, UseKind, Value};
-use layout::Layout;
+use layout::Job;
 use set_part::SetPart;
 
 // What is kept of a turned use: its value, its number, and the block parameter, if there is one, that its list begins with at its instruction.
@@ -21,6 +21,7 @@ pub struct TurnedRow {
 }
 
 // Marks use number n as turned.
+// Of the work space the place of the marks alone is used here and below, so it goes by itself.
 pub fn mark(work: &mut [u8], marks: usize, n: usize)
     requires { marks + n < word_count work.old }
     ensures { words_of work.new ≡ set (words_of work.old) (marks + n) 1 }
@@ -29,11 +30,12 @@ pub fn mark(work: &mut [u8], marks: usize, n: usize)
 }
 
 // Use number n of the job: a conflict if it is marked.
-pub fn marked_use(job: &[u8], lay: Layout, work: &[u8], marks: usize, n: usize) -> Use
-    requires { Fits (word_count job.now) lay × (n < lay.uses.n) × (marks + n < word_count work.now) }
-    ensures { result ≡ marked_use (words_of work.now) marks (words_of job.now) lay n }
+pub fn marked_use(job: &Job, work: &[u8], marks: usize, n: usize) -> Use
+    requires { (n < job.now.lay.uses.n) × (marks + n < word_count work.now) }
+    ensures { result ≡ marked_use (words_of work.now) marks (words_in job.now) job.now.lay n }
 {
-    let u = uses::use_at(job, lay.uses.at + n * 6);
+    let lay = &job.lay;
+    let u = uses::use_at(job.bytes, lay.uses.at + n * 6);
     if words::word_at(work, marks + n) == 0 {
         return u;
     }
@@ -61,12 +63,13 @@ fn param_here(u: Use, p: Inst) -> Option<u32>
 }
 
 // The segment of a part that use number c belongs to.
-fn holder_of(job: &[u8], lay: Layout, sp: SetPart, c: usize) -> usize
-    requires { Fits (word_count job.now) lay × (sp.seg ≤ sp.last) × (sp.last < lay.segments.n) }
-    ensures { (result ≡ holder (words_of job.now) lay sp c) × (sp.seg ≤ result) × (result ≤ sp.last) }
+fn holder_of(job: &Job, sp: SetPart, c: usize) -> usize
+    requires { (sp.seg ≤ sp.last) × (sp.last < job.now.lay.segments.n) }
+    ensures { (result ≡ holder (words_in job.now) job.now.lay sp c) × (sp.seg ≤ result) × (result ≤ sp.last) }
 {
+    let lay = &job.lay;
     for i in sp.seg..sp.last {
-        if c < words::word_at(job, lay.segments.at + (i + 1) * 5 + 4) as usize {
+        if c < words::word_at(job.bytes, lay.segments.at + (i + 1) * 5 + 4) as usize {
             return i;
         }
     }
@@ -74,21 +77,14 @@ fn holder_of(job: &[u8], lay: Layout, sp: SetPart, c: usize) -> usize
 }
 
 // What is kept of the use at place n of a part.
-pub fn turned_at(
-    job: &[u8],
-    lay: Layout,
-    work: &[u8],
-    marks: usize,
-    sp: SetPart,
-    n: usize,
-) -> TurnedRow
-    requires { Fits (word_count job.now) lay × PartOk (words_of job.now) lay sp × (sp.first + n < sp.end) × (marks + lay.uses.n ≤ word_count work.now) }
-    ensures { result ≡ turned_row (words_of work.now) marks (words_of job.now) lay sp n }
+pub fn turned_at(job: &Job, work: &[u8], marks: usize, sp: SetPart, n: usize) -> TurnedRow
+    requires { PartOk (words_in job.now) job.now.lay sp × (sp.first + n < sp.end) × (marks + job.now.lay.uses.n ≤ word_count work.now) }
+    ensures { result ≡ turned_row (words_of work.now) marks (words_in job.now) job.now.lay sp n }
 {
     let c = sp.first + n;
-    let row = set_part::part_seg(job, lay, sp, holder_of(job, lay, sp, c));
-    let u = marked_use(job, lay, work, marks, c);
-    let head = marked_use(job, lay, work, marks, row.first);
+    let row = set_part::part_seg(job, sp, holder_of(job, sp, c));
+    let u = marked_use(job, work, marks, c);
+    let head = marked_use(job, work, marks, row.first);
     TurnedRow {
         value: row.value,
         number: c,

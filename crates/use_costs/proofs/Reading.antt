@@ -79,10 +79,6 @@ module _ (W : List ℕ) (lay : Layout) where
       ap (λ (x : ValueData). x.remat)
       (sym (get_d_over (rows_at value_row W lay.values.at 3 lay.values.n) v.0 no_value (omega (arith, length_rows_at value_row W lay.values.at 3 lay.values.n))))
 
--- a field of a class
-pub cost_of_lem : {d e : ClassData} → (d ≡ e) × T (small d.cost) → (d.cost ≡ e.cost) × T (small d.cost)
-cost_of_lem p = (ap (λ (x : ClassData). x.cost) p.0, p.1)
-
 -- the block at hand holds the instruction
 pub near_here : (W : List ℕ) (at n b a e i : ℕ) → a ≡ get_or W (at + b * 2) 0 → e ≡ get_or W (at + (b + 1) * 2) 0 → b < n → a ≤ i → i < e
     → (b < n) × ((bs : List BlockData) → Starts W at bs → length bs ≡ n → i < insts_of bs → b ≡ block_of bs i)

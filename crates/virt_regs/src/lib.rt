@@ -11,6 +11,10 @@ use definition::{LiveRangePoint, RegClass, Value, ValueSet, VirtReg, VirtRegGrou
 use words::word_at;
 
 // How many rows each table can hold.
+// That the tables lie in the slice beside it is a clause and no ghost field: the slice is lent `&mut`, and with a
+// struct of both each function that writes a row would promise that the layout stays. Nor is `tables_end` below 2^64
+// a ghost field: `has_room` asks nothing of a layout. A register, a group or a place is a number of the call, so that
+// it is in the tables is a clause too.
 #[derive(Clone, Copy)]
 pub struct OutLayout {
     pub regs: usize,
@@ -67,7 +71,8 @@ pub struct RegisterRow {
     pub count: u32,
 }
 
-// A piece's row: origin is 0 for its own and 1 for a conflict, first its first use, uses how many.
+// A piece's row: origin is the number of an Origin, first its first use, uses how many.
+// The origin is no Origin: a lent table may hold any word there, and `piece_at` gives the word that it holds.
 #[derive(Clone, Copy)]
 pub struct PieceRow {
     pub value: Value,

@@ -3,11 +3,11 @@
 
 ghost use Rattle.std.specs.Prelude.{◌≡◌, ◌+◌, ◌*◌, ◌≤◌, ◌<◌};
 ghost use Rattle.words.specs.Words.{word_count, words_of};
-ghost use Rattle.layout.specs.Layout.{Fits};
+ghost use Rattle.layout.specs.JobWords.{words_in};
 ghost use Rattle.virt_regs.specs.Encoding.{tables_end};
 ghost use Rattle.vreg_uses.specs.Shown.{part_list, piece_list, Listed, shown_words};
 
-use layout::Layout;
+use layout::Job;
 use set_part::SetPart;
 use use_lists::{Source, UseList};
 use virt_regs::OutLayout;
@@ -40,19 +40,18 @@ pub fn piece_list(out: &[u8], ol: OutLayout, i: usize) -> UseList
 }
 
 // The rows of a list: a part of the job's use table or of the result's.
-pub fn list_rows<'a>(
-    job: &'a [u8],
-    lay: Layout,
-    out: &'a [u8],
-    ol: OutLayout,
-    list: UseList,
-) -> &'a [u8]
-    requires { Fits (word_count job.now) lay × (tables_end ol ≤ word_count out.now) × Listed lay ol list }
-    ensures { words_of result.now ≡ shown_words (words_of job.now) lay (words_of out.now) ol list }
+pub fn list_rows<'a>(job: &Job<'a>, out: &'a [u8], ol: OutLayout, list: UseList) -> &'a [u8]
+    requires { (tables_end ol ≤ word_count out.now) × Listed job.now.lay ol list }
+    ensures { words_of result.now ≡ shown_words (words_in job.now) job.now.lay (words_of out.now) ol list }
 {
+    let lay = &job.lay;
     let at = lay.uses.at;
     let end = at + lay.uses.n * 6;
     let base = ol.use_base();
     let behind = ol.group_base();
-    use_lists::use_list(&job[at * 4..end * 4], &out[base * 4..behind * 4], list)
+    use_lists::use_list(
+        &job.bytes[at * 4..end * 4],
+        &out[base * 4..behind * 4],
+        list,
+    )
 }

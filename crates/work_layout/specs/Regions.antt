@@ -1,7 +1,6 @@
 -- Where the parts of the work slice lie. Assumes nothing.
 use Rattle.std.specs.Prelude.{ℕ, ◌+◌, ◌-◌, ◌*◌, ◌≤◌, ◌≡◌}
 use Rattle.operands.specs.declared.Chains.{Chains}
-use Rattle.layout.specs.declared.Table.{Table}
 use Rattle.layout.specs.declared.Layout.{Layout}
 use Rattle.work_layout.specs.declared.WorkLayout.{WorkLayout}
 

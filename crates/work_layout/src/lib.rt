@@ -1,9 +1,7 @@
 // The parts of the work slice, one after the other in words.
 #![tactic(auto)]
 
-ghost use Rattle.std.specs.Prelude.{◌≡◌, ◌+◌, ◌≤◌, replicate};
-ghost use Rattle.rows.specs.Parts.{splice};
-ghost use Rattle.words.specs.Words.{word_count, words_of};
+ghost use Rattle.std.specs.Prelude.{◌≡◌, ◌≤◌};
 ghost use Rattle.work_layout.specs.Regions.{max_work, work_layout_of, Regions, chains_in};
 
 use layout::Layout;
@@ -22,9 +20,9 @@ pub struct WorkLayout {
 }
 
 // The parts of a job within the limits, of `insts` instructions.
-pub fn work_layout(lay: Layout, insts: usize) -> WorkLayout
-    requires { (insts ≤ 4096) × (lay.operands.n ≤ 1024) × (lay.blocks.n ≤ 512) × (lay.uses.n ≤ 4096) }
-    ensures { (result ≡ work_layout_of lay insts) × Regions max_work lay insts result }
+pub fn work_layout(lay: &Layout, insts: usize) -> WorkLayout
+    requires { (insts ≤ 4096) × (lay.now.operands.n ≤ 1024) × (lay.now.blocks.n ≤ 512) × (lay.now.uses.n ≤ 4096) }
+    ensures { (result ≡ work_layout_of lay.now insts) × Regions max_work lay.now insts result }
 {
     let operands = lay.operands.n;
     let blocks = lay.blocks.n;
@@ -43,9 +41,9 @@ pub fn work_layout(lay: Layout, insts: usize) -> WorkLayout
 }
 
 // The index of the operands.
-pub fn chains_in(lay: Layout, wl: WorkLayout) -> Chains
+pub fn chains_in(lay: &Layout, wl: WorkLayout) -> Chains
     requires { wl.heads ≤ wl.nexts }
-    ensures { result ≡ chains_in lay wl }
+    ensures { result ≡ chains_in lay.now wl }
 {
     let heads = wl.heads;
     let nexts = wl.nexts;
@@ -56,14 +54,4 @@ pub fn chains_in(lay: Layout, wl: WorkLayout) -> Chains
         nexts,
         insts: nexts - heads,
     }
-}
-
-// Zeros in n words from word `at` on.
-pub fn clear_words(work: &mut [u8], at: usize, n: usize)
-    requires { at + n ≤ word_count work.old }
-    ensures { words_of work.new ≡ splice (words_of work.old) at (replicate n 0) }
-{
-    let start = at * 4;
-    let end = (at + n) * 4;
-    spans::clear(&mut work[start..end]);
 }

@@ -3,7 +3,7 @@ use mathlib.Core.Path.{refl, sym, ◌∙◌}
 use Rattle.job_shape.proofs.Tests.{passed}
 use Rattle.entry.proofs.Numbers.{entry_limits, entry_book, entry_tables}
 use Rattle.entry.proofs.Counts.{rising}
-use Rattle.entry.proofs.Entering.{err_kept, few, indexes, accepted}
+use Rattle.entry.proofs.Entering.{raw_insts, err_kept, few, indexes, accepted}
 use Rattle.entry.proofs.enter.Goals as goal
 
 pub limits_ok-requires : goal.limits_ok-requires
@@ -13,32 +13,29 @@ pub returns-then-not-limits_ok : goal.returns-then-not-limits_ok
 returns-then-not-limits_ok c = record { refused = entry_limits _ _ c.if-not-limits_ok.true-raw c.limits_ok.ensures; accepted = tt }
 
 pub book_ok-requires : goal.book_ok-requires
-book_ok-requires c = let b = c.requires.0 in
-    (b.fits, few b c.if-not-limits_ok.false-raw c.limits_ok.ensures)
+book_ok-requires c = few c.requires.0 c.if-not-limits_ok.false-raw c.limits_ok.ensures
 
 pub returns-then-not-book_ok : goal.returns-then-not-book_ok
 returns-then-not-book_ok c = record { refused = entry_book _ _ c.if-not-limits_ok.false-raw c.limits_ok.ensures c.if-not-book_ok.true-raw c.book_ok.ensures; accepted = tt }
 
-pub overflow_cast-lay : goal.overflow_cast-lay
-overflow_cast-lay c = let l = few c.requires.0 c.if-not-limits_ok.false-raw c.limits_ok.ensures in
-    record { fits = omega (arith, l.blocks) }
-
-pub count_insts-insts-requires : goal.count_insts-insts-requires
-count_insts-insts-requires c = c.requires.0.fits.blocks
+pub insts_in-insts-requires : goal.insts_in-insts-requires
+insts_in-insts-requires c = (c.requires.0.fits.blocks, (few c.requires.0 c.if-not-limits_ok.false-raw c.limits_ok.ensures).blocks)
 
 pub work_layout-wl-requires : goal.work_layout-wl-requires
 work_layout-wl-requires c = let l = few c.requires.0 c.if-not-limits_ok.false-raw c.limits_ok.ensures in
-    (omega (arith, l.insts, c.count_insts-insts.ensures), l.operands, l.blocks, l.uses)
+    (omega (arith, l.insts, c.insts_in-insts.ensures.insts), l.operands, l.blocks, l.uses)
+
+pub invariant_of-counted : goal.invariant_of-counted
+invariant_of-counted c = record { counted = c.insts_in-insts.ensures.insts ∙ sym (raw_insts _ _) }
 
 pub chains_in-requires : goal.chains_in-requires
 chains_in-requires c = omega (arith, c.work_layout-wl.ensures.1.heads)
 
 pub test_tables-requires : goal.test_tables-requires
 test_tables-requires c = let p = c.requires in (
-  p.0.fits,
   rising _ _ p.0.counts,
   passed c.if-not-limits_ok.false-raw c.limits_ok.ensures,
-  indexes p.1 c.count_insts-insts.ensures c.work_layout-wl.ensures.1 c.chains_in.ensures,
+  indexes p.1 c.insts_in-insts.ensures.insts c.work_layout-wl.ensures.1 c.chains_in.ensures,
 )
 
 pub returns-in_err-test_tables-clause-refused : goal.returns-in_err-test_tables-clause-refused
@@ -50,5 +47,5 @@ returns c = let t = c.in_ok-test_tables.ensures in
     let n = entry_tables _ _ c.if-not-limits_ok.false-raw c.limits_ok.ensures c.if-not-book_ok.false-raw c.book_ok.ensures t.value in
     record {
       refused = n;
-      accepted = (refl, accepted _ _ c.requires.0 (sym n) _ _ _ (λ i. omega (arith, c.shared_slice_known-1.given i)) c.count_insts-insts.ensures c.work_layout-wl.ensures.1 _ c.chains_in.ensures t.chained);
+      accepted = (refl, accepted _ _ c.requires.0 (sym n) _ _ _ c.insts_in-insts.ensures.bytes c.insts_in-insts.ensures.insts c.work_layout-wl.ensures.1 _ c.chains_in.ensures t.chained);
     }

@@ -15,13 +15,13 @@ overflow_cast-lay c = let p = c.requires in
 pub put_starts-requires : goal.put_starts-requires
 put_starts-requires c = let p = c.requires in
     let r = p.0.regions in
-    let k = c.clear_words.auto.work in
+    let k = c.clear_words.auto.s in
     (p.0.shaped.fits.blocks, omega (arith, p.1, k, r.starts, r.marks, r.turned), omega (arith, p.0.limited.insts))
 
 pub clear_words-requires-2 : goal.clear_words-requires-2
 clear_words-requires-2 c = let p = c.requires in
     let r = p.0.regions in
-    omega (arith, p.1, c.put_starts.auto.starts, c.clear_words.auto.work, r.starts, r.marks, r.turned)
+    omega (arith, p.1, c.put_starts.auto.starts, c.clear_words.auto.s, r.starts, r.marks, r.turned)
 
 pub returns : goal.returns
 returns c =

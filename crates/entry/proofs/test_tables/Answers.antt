@@ -6,15 +6,15 @@ use Rattle.entry.proofs.test_tables.Goals as goal
 
 pub function_ok-requires : goal.function_ok-requires
 function_ok-requires c = let p = c.requires in
-    (p.0, limits_within _ _ p.2, p.3)
+    (limits_within _ _ p.1, p.2)
 
 pub returns-then-not-function_ok : goal.returns-then-not-function_ok
 returns-then-not-function_ok c = record { value = fails _ _ c.if-not-function_ok.true-raw c.function_ok.ensures.value; chained = tt }
 
-pub test_lists-requires : goal.test_lists-requires
-test_lists-requires c = let p = c.requires in
+pub invariant_of-indexed : goal.invariant_of-indexed
+invariant_of-indexed c = let p = c.requires in
     let f = c.function_ok in
-    (ready p.0 p.2 p.3 f.auto.work c.if-not-function_ok.false-raw f.ensures.value (λ e. (f.ensures.chained e).0), p.1, p.2)
+    record { ready = ready c.args.counted.now.job.fits p.1 p.2 f.auto.work c.if-not-function_ok.false-raw f.ensures.value (λ e. (f.ensures.chained e).0) }
 
 pub returns : goal.returns
 returns c = let f = c.function_ok in record { value = passes _ _ c.if-not-function_ok.false-raw f.ensures.value c.test_lists.ensures; chained = if_ok c.test_lists.result (f.ensures.chained (not-false _ c.if-not-function_ok.false-raw)).0 }

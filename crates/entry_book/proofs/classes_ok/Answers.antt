@@ -7,5 +7,5 @@ use Rattle.entry_book.proofs.classes_ok.Goals as goal
 
 pub returns : goal.returns
 unfolding classes_at
-returns c = let cs = classes_at (words_of c.args.job.now) c.args.classes.at c.args.classes.n in
-    every_row_from_all (class_ok cs) class_row (words_of c.args.job.now) c.args.classes.at 4 c.args.classes.n c.all.ensures.ran (λ x b q k. search (rules, tests))
+returns c = let cs = classes_at (words_of c.args.job.now.bytes.now) c.args.job.now.lay.classes.at c.args.job.now.lay.classes.n in
+    every_row_from_all (class_ok cs) class_row (words_of c.args.job.now.bytes.now) c.args.job.now.lay.classes.at 4 c.args.job.now.lay.classes.n c.all.ensures.ran (λ x b q k. search (rules, tests))

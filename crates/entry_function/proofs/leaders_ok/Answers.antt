@@ -8,5 +8,5 @@ use Rattle.entry_function.proofs.leaders_ok.Goals as goal
 
 pub returns : goal.returns
 unfolding values_at
-returns c = let W = words_of c.args.job.now in
-    every_row_from_all (leader_ok (raw_job W c.args.lay)) value_row W c.args.lay.values.at 3 c.args.lay.values.n c.all.ensures.ran (λ x b q k. search (rules, tests))
+returns c = let W = words_of c.args.job.now.bytes.now in
+    every_row_from_all (leader_ok (raw_job W c.args.job.now.lay)) value_row W c.args.job.now.lay.values.at 3 c.args.job.now.lay.values.n c.all.ensures.ran (λ x b q k. search (rules, tests))

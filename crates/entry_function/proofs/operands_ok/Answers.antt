@@ -8,5 +8,5 @@ use Rattle.entry_function.proofs.operands_ok.Goals as goal
 
 pub returns : goal.returns
 unfolding operands_at
-returns c = let W = words_of c.args.job.now in
-    every_row_from_all (operand_ok (raw_job W c.args.lay)) operand_row W c.args.lay.operands.at 4 c.args.lay.operands.n c.all.ensures.ran (λ x b q k. search (rules, tests))
+returns c = let W = words_of c.args.counted.now.job.bytes.now in
+    every_row_from_all (operand_ok (raw_job W c.args.counted.now.job.lay)) operand_row W c.args.counted.now.job.lay.operands.at 4 c.args.counted.now.job.lay.operands.n c.all.ensures.ran (λ x b q k. search (rules, tests))

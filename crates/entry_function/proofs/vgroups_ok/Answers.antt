@@ -8,5 +8,5 @@ use Rattle.entry_function.proofs.vgroups_ok.Goals as goal
 
 pub returns : goal.returns
 unfolding vgroups_at
-returns c = let W = words_of c.args.job.now in
-    every_row_from_all (vgroup_ok (raw_job W c.args.lay)) vgroup_row W c.args.lay.vgroups.at 9 c.args.lay.vgroups.n c.all.ensures.ran (λ x b q k. search (rules, tests))
+returns c = let W = words_of c.args.job.now.bytes.now in
+    every_row_from_all (vgroup_ok (raw_job W c.args.job.now.lay)) vgroup_row W c.args.job.now.lay.vgroups.at 9 c.args.job.now.lay.vgroups.n c.all.ensures.ran (λ x b q k. search (rules, tests))

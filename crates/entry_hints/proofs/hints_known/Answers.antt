@@ -7,5 +7,5 @@ use Rattle.entry_hints.specs.Tests.{hint_known}
 use Rattle.entry_hints.proofs.hints_known.Goals as goal
 
 pub returns : goal.returns
-returns c = let W = words_of c.args.job.now in
-    every_row_from_all (hint_known (raw_job W c.args.lay)) hint_at W c.args.lay.hints.at 3 c.args.lay.hints.n c.all.ensures.ran (λ x b q k. search (rules, tests))
+returns c = let W = words_of c.args.counted.now.job.bytes.now in
+    every_row_from_all (hint_known (raw_job W c.args.counted.now.job.lay)) hint_at W c.args.counted.now.job.lay.hints.at 3 c.args.counted.now.job.lay.hints.n c.all.ensures.ran (λ x b q k. search (rules, tests))

@@ -4,7 +4,7 @@ use Rattle.entry_hints.proofs.Tests.{hints_is}
 use Rattle.entry_hints.proofs.hints_ok.Goals as goal
 
 pub returns-then-hints_known : goal.returns-then-hints_known
-returns-then-hints_known c = rw (hints_is (words_of c.args.job.now) c.args.lay) (search (rules, tests))
+returns-then-hints_known c = rw (hints_is (words_of c.args.counted.now.job.bytes.now) c.args.counted.now.job.lay) (search (rules, tests))
 
 pub returns-else-hints_known : goal.returns-else-hints_known
-returns-else-hints_known c = rw (hints_is (words_of c.args.job.now) c.args.lay) (search (rules, tests))
+returns-else-hints_known c = rw (hints_is (words_of c.args.counted.now.job.bytes.now) c.args.counted.now.job.lay) (search (rules, tests))

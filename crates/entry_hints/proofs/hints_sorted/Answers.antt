@@ -6,4 +6,4 @@ use Rattle.function.specs.Chained.{chained_row_from_all}
 use Rattle.entry_hints.proofs.hints_sorted.Goals as goal
 
 pub returns : goal.returns
-returns c = chained_row_from_all not_after hint_at (words_of c.args.job.now) c.args.lay.hints.at 3 c.args.lay.hints.n c.all.ensures.ran (λ x b q k. search (rules, tests))
+returns c = chained_row_from_all not_after hint_at (words_of c.args.job.now.bytes.now) c.args.job.now.lay.hints.at 3 c.args.job.now.lay.hints.n c.all.ensures.ran (λ x b q k. search (rules, tests))

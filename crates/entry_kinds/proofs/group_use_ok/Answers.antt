@@ -2,10 +2,10 @@ use Rattle.entry_kinds.proofs.Tests.{found_below, group_at, group_none}
 use Rattle.entry_kinds.proofs.group_use_ok.Goals as goal
 
 pub operand_fits-requires : goal.operand_fits-requires
-operand_fits-requires c = (c.requires.0, found_below _ _ _ _ _ _ c.requires.0 c.args.v _ _ c.args.class c.args.index _ c.find_operand.ensures _ c.in-Some.is)
+operand_fits-requires c = found_below _ _ _ _ _ _ c.args.indexed.now.ready c.args.v _ _ c.args.class c.args.index _ c.find_operand.ensures _ c.in-Some.is
 
 pub returns-in-Some : goal.returns-in-Some
-returns-in-Some c = group_at _ _ _ _ _ _ c.requires.0 _ _ _ _ _ _ c.find_operand.ensures _ c.in-Some.is _ c.operand_fits.ensures
+returns-in-Some c = group_at _ _ _ _ _ _ c.args.indexed.now.ready _ _ _ _ _ _ c.find_operand.ensures _ c.in-Some.is _ c.operand_fits.ensures
 
 pub returns-in-None : goal.returns-in-None
-returns-in-None c = group_none _ _ _ _ _ _ c.requires.0 _ _ _ _ _ _ c.find_operand.ensures c.in-None.is
+returns-in-None c = group_none _ _ _ _ _ _ c.args.indexed.now.ready _ _ _ _ _ _ c.find_operand.ensures c.in-None.is

@@ -5,20 +5,20 @@ use Rattle.entry_kinds.proofs.Tests.{group_there, group_few, fits_class, fits_in
 use Rattle.entry_kinds.proofs.operand_fits.Goals as goal
 
 pub returns-then-ne : goal.returns-then-ne
-returns-then-ne c = fits_class _ _ c.requires.0.passed _ c.requires.1 _ c.operand_at-o.ensures _ _ _ (not-true _ (sym c.ne.ensures ∙ c.if-ne.true))
+returns-then-ne c = fits_class _ _ c.args.indexed.now.ready.passed _ c.requires _ c.operand_at-o.ensures _ _ _ (not-true _ (sym c.ne.ensures ∙ c.if-ne.true))
 
 pub group_len-requires : goal.group_len-requires
-group_len-requires c = omega (arith, group_there _ _ c.requires.0.passed _ c.requires.1 _ c.operand_at-o.ensures, c.requires.0.fits.vgroups)
+group_len-requires c = omega (arith, group_there _ _ c.args.indexed.now.ready.passed _ c.requires _ c.operand_at-o.ensures, c.args.indexed.now.ready.fits.vgroups)
 
 pub returns-then-group_len-index : goal.returns-then-group_len-index
-returns-then-group_len-index c = fits_index _ _ c.requires.0.passed _ c.requires.1 _ c.operand_at-o.ensures _ _ _ (not-false _ (sym c.ne.ensures ∙ c.if-ne.false)) _ c.group_len.ensures c.if-group_len-index.true
+returns-then-group_len-index c = fits_index _ _ c.args.indexed.now.ready.passed _ c.requires _ c.operand_at-o.ensures _ _ _ (not-false _ (sym c.ne.ensures ∙ c.if-ne.false)) _ c.group_len.ensures c.if-group_len-index.true
 
 pub member_at-requires : goal.member_at-requires
 member_at-requires c = (
-  omega (arith, group_there _ _ c.requires.0.passed _ c.requires.1 _ c.operand_at-o.ensures, c.requires.0.fits.vgroups),
-  group_few _ _ c.requires.0.passed _ c.requires.1 _ c.operand_at-o.ensures,
+  omega (arith, group_there _ _ c.args.indexed.now.ready.passed _ c.requires _ c.operand_at-o.ensures, c.args.indexed.now.ready.fits.vgroups),
+  group_few _ _ c.args.indexed.now.ready.passed _ c.requires _ c.operand_at-o.ensures,
   omega (arith, c.group_len.ensures, c.if-group_len-index.false),
 )
 
 pub returns : goal.returns
-returns c = c.eq.ensures ∙ fits_by _ _ c.requires.0.passed _ c.requires.1 _ c.operand_at-o.ensures _ _ _ (not-false _ (sym c.ne.ensures ∙ c.if-ne.false)) _ c.group_len.ensures c.if-group_len-index.false _ c.member_at.ensures
+returns c = c.eq.ensures ∙ fits_by _ _ c.args.indexed.now.ready.passed _ c.requires _ c.operand_at-o.ensures _ _ _ (not-false _ (sym c.ne.ensures ∙ c.if-ne.false)) _ c.group_len.ensures c.if-group_len-index.false _ c.member_at.ensures

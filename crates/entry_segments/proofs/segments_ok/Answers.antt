@@ -4,7 +4,7 @@ use Rattle.entry_segments.proofs.Tests.{segments_is}
 use Rattle.entry_segments.proofs.segments_ok.Goals as goal
 
 pub returns-then-segments_within : goal.returns-then-segments_within
-returns-then-segments_within c = rw (segments_is (words_of c.args.job.now) c.args.lay) (search (rules, tests))
+returns-then-segments_within c = rw (segments_is (words_of c.args.counted.now.job.bytes.now) c.args.counted.now.job.lay) (search (rules, tests))
 
 pub returns-else-segments_within : goal.returns-else-segments_within
-returns-else-segments_within c = rw (segments_is (words_of c.args.job.now) c.args.lay) (search (rules, tests))
+returns-else-segments_within c = rw (segments_is (words_of c.args.counted.now.job.bytes.now) c.args.counted.now.job.lay) (search (rules, tests))

@@ -8,5 +8,5 @@ use Rattle.function.specs.Chained.{chained_from_all}
 use Rattle.entry_segments.proofs.segments_sorted.Goals as goal
 
 pub returns : goal.returns
-returns c = let W = words_of c.args.job.now in
-    chained_from_all (in_order (raw_job W c.args.lay)) (segment_of raw_row W c.args.lay) c.args.lay.segments.n c.all.ensures.ran (λ x b q k. search (rules, tests))
+returns c = let W = words_of c.args.job.now.bytes.now in
+    chained_from_all (in_order (raw_job W c.args.job.now.lay)) (segment_of raw_row W c.args.job.now.lay) c.args.job.now.lay.segments.n c.all.ensures.ran (λ x b q k. search (rules, tests))

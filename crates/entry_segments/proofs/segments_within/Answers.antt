@@ -8,5 +8,5 @@ use Rattle.function.specs.Every.{every_from_all}
 use Rattle.entry_segments.proofs.segments_within.Goals as goal
 
 pub returns : goal.returns
-returns c = let W = words_of c.args.job.now in
-    every_from_all (segment_ok (raw_job W c.args.lay)) (segment_of raw_row W c.args.lay) c.args.lay.segments.n c.all.ensures.ran (λ x b q k. search (rules, tests))
+returns c = let W = words_of c.args.counted.now.job.bytes.now in
+    every_from_all (segment_ok (raw_job W c.args.counted.now.job.lay)) (segment_of raw_row W c.args.counted.now.job.lay) c.args.counted.now.job.lay.segments.n c.all.ensures.ran (λ x b q k. search (rules, tests))

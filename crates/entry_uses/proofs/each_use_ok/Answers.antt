@@ -1,3 +1,6 @@
+use Prim.Native.Nat.{◌+◌, ◌*◌}
+use native.Mathlib.Omega.{arith}
+use mathlib.Core.Path.{◌≡◌}
 use Rattle.std.proofs.Common.{rules, tests}
 use Rattle.words.specs.Words.{words_of}
 use Rattle.definition.specs.Entry.{use_ok}
@@ -8,5 +11,8 @@ use Rattle.entry_uses.specs.Tests.{seg_of}
 use Rattle.entry_uses.proofs.each_use_ok.Goals as goal
 
 pub returns : goal.returns
-returns c = let W = words_of c.args.job.now in
-    every_row_from_all (use_ok (raw_job W c.args.lay) (seg_of c.args.s)) raw_row W c.args.at 6 c.args.n c.all.ensures.ran (λ x b q k. search (rules, tests))
+returns c = let W = words_of c.args.indexed.now.job.bytes.now in
+    let lay = c.args.indexed.now.job.lay in
+    let first = c.args.s.first in
+    every_row_from_all (use_ok (raw_job W lay) (seg_of c.args.s)) raw_row W (lay.uses.at + first * 6) 6 c.args.n c.all.ensures.ran
+    (λ k b q t. let z : lay.uses.at + first * 6 + k * 6 ≡ lay.uses.at + (first + k) * 6 = omega arith in rw z (search (rules, tests)))

@@ -9,5 +9,5 @@ use Rattle.entry_uses.proofs.Tests.{over_segments}
 use Rattle.entry_uses.proofs.uses_ok.Goals as goal
 
 pub returns : goal.returns
-returns c = let W = words_of c.args.job.now in
-    over_segments W c.args.lay _ (every_from_all (uses_ok (raw_job W c.args.lay)) (segment_of raw_row W c.args.lay) c.args.lay.segments.n c.all.ensures.ran (λ x b q k. search (rules, tests)))
+returns c = let W = words_of c.args.bounded.now.indexed.job.bytes.now in
+    over_segments W c.args.bounded.now.indexed.job.lay _ (every_from_all (uses_ok (raw_job W c.args.bounded.now.indexed.job.lay)) (segment_of raw_row W c.args.bounded.now.indexed.job.lay) c.args.bounded.now.indexed.job.lay.segments.n c.all.ensures.ran (λ x b q k. search (rules, tests)))

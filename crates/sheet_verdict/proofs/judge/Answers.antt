@@ -3,6 +3,9 @@ use Rattle.std.specs.Prelude.{Err}
 use Rattle.sheet_verdict.proofs.Ways.{shaped_read, judged_malformed, judged_crowded, judged_read}
 use Rattle.sheet_verdict.proofs.judge.Goals as goal
 
+pub invariant_of-job : goal.invariant_of-job
+invariant_of-job c = let p = c.requires in record { fits = (shaped_read _ _ _ p.0 p.1 p.2 _ c.finish.ensures c.in-Ok.is _ c.fixed_layout-lay.ensures).fits }
+
 pub judge_job-requires : goal.judge_job-requires
 judge_job-requires c = let p = c.requires in (
   shaped_read _ _ _ p.0 p.1 p.2 _ c.finish.ensures

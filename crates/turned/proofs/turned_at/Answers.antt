@@ -5,8 +5,8 @@ use Rattle.turned.proofs.turned_at.Goals as goal
 
 pub marked_use-head-requires : goal.marked_use-head-requires
 marked_use-head-requires c = let pre = c.requires in
-    let h = head_within _ _ _ _ _ _ pre.1 (omega arith) pre.2 c.holder_of.ensures.0 c.part_seg-row.ensures in
-    (pre.0, h, omega (arith, pre.3))
+    let h = head_within _ _ _ _ _ _ pre.0 (omega arith) pre.1 c.holder_of.ensures.0 c.part_seg-row.ensures in
+    (h, omega (arith, pre.2))
 
 pub returns : goal.returns
 unfolding turned_in turned_row

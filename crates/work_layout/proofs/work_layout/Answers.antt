@@ -5,4 +5,4 @@ use Rattle.work_layout.proofs.work_layout.Goals as goal
 
 pub returns : goal.returns
 unfolding work_layout_of
-returns c = (refl, regions_of c.args.lay c.args.insts c.requires.0 c.requires.1 c.requires.2 c.requires.3)
+returns c = (refl, regions_of c.args.lay.now c.args.insts c.requires.0 c.requires.1 c.requires.2 c.requires.3)
