@@ -5,7 +5,7 @@ ghost use Rattle.std.specs.Prelude.{◌≡◌, ◌/◌, ◌≤◌, ◌<◌, leng
 ghost use Rattle.words.specs.Words.{word_count, words_of};
 ghost use Rattle.definition.specs.Build.{build};
 ghost use Rattle.definition.specs.Entry.{answer};
-ghost use Rattle.job.specs.Job.{raw_job};
+ghost use Rattle.job.specs.Job.{raw_job, raw_in};
 ghost use Rattle.job_shape.specs.Shape.{Shaped};
 ghost use Rattle.job_shape.specs.Answer.{binary_answer};
 ghost use Rattle.virt_regs.specs.Encoding.{room_of};
@@ -14,12 +14,13 @@ ghost use Rattle.entry.specs.Accepted.{Accepted, Prepared};
 ghost use Rattle.build_answer.specs.Answered.{out_layout_of, Answered};
 ghost use Rattle.build.specs.Ends.{end_number, built_end, Cleared};
 
-use build_answer::{BuildEnd, number_of, out_layout, refuse, tables_bytes};
+use build_answer::{BuildEnd, out_layout, refuse, tables_bytes};
 use build_sets::build_sets;
 use definition::Refusal;
 use entry::{Entered, enter_prepared};
+use frame::frame_of;
 use job_shape::find_layout;
-use layout::Layout;
+use layout::Job;
 use place_end::NotPlaced;
 use spans::clear;
 use virt_regs::{Counts, OutLayout};
@@ -60,7 +61,12 @@ pub fn build_entered(
     ensures { Answered (length out.old) ol
         (build (raw_job (words_of job.now) e.lay) (room_of ol)) result out.new }
 {
-    match build_sets(job, e.lay, out, ol, work, e.wl) {
+    let job = Job {
+        bytes: job,
+        lay: e.lay,
+    };
+    let fr = frame_of(&job, ol, e.wl);
+    match build_sets(&fr, out, work) {
         Err(why) => {
             let number = end_number(why);
             clear(out);
@@ -71,19 +77,13 @@ pub fn build_entered(
 }
 
 // A job of good shape, in such tables.
-pub fn build_shaped(
-    job: &[u8],
-    lay: Layout,
-    out: &mut [u8],
-    ol: OutLayout,
-    work: &mut [u8],
-) -> BuildEnd
-    requires { Shaped job.now lay × (max_work ≤ word_count work.old) × Cleared ol out.old }
-    ensures { Answered (length out.old) ol (answer (raw_job (words_of job.now) lay) (room_of ol)) result out.new }
+pub fn build_shaped(job: &Job, out: &mut [u8], ol: OutLayout, work: &mut [u8]) -> BuildEnd
+    requires { Shaped job.now.bytes.now job.now.lay × (max_work ≤ word_count work.old) × Cleared ol out.old }
+    ensures { Answered (length out.old) ol (answer (raw_in job.now) (room_of ol)) result out.new }
 {
-    match enter_prepared(job, lay, work) {
-        Ok(e) => build_entered(job, e, out, ol, work),
-        Err(r) => refuse(number_of(r)),
+    match enter_prepared(job, work) {
+        Ok(e) => build_entered(job.bytes, e, out, ol, work),
+        Err(r) => refuse(r.number()),
     }
 }
 
@@ -104,8 +104,9 @@ pub fn build_initial_vregs(
     clear(out);
     let ol = out_layout(out.len() / 4, regs, segs, uses, groups);
     let Some(lay) = find_layout(job) else {
-        return refuse(number_of(Refusal::NotARecord));
+        return refuse(Refusal::NotARecord.number());
     };
     let end = tables_bytes(ol);
-    build_shaped(job, lay, &mut out[..end], ol, work)
+    let job = Job { bytes: job, lay };
+    build_shaped(&job, &mut out[..end], ol, work)
 }

@@ -1,14 +1,11 @@
-// How a build ends, the numbers of the refusals, and the tables in the slice that the caller lends for the result.
+// How a build ends, and the tables in the slice that the caller lends for the result.
 #![tactic(auto)]
 
 ghost use Rattle.std.specs.Prelude.{◌≡◌, ◌*◌, ◌≤◌, ◌<◌};
 ghost use Rattle.virt_regs.specs.Encoding.{tables_end};
-ghost use Rattle.definition.specs.Types.{number_of};
-ghost use Rattle.definition.specs.SheetForms.{sheet_number_of};
 ghost use Rattle.build_answer.specs.Answered.{named_in, Cut};
 ghost use Rattle.build_answer.specs.Sheets.{number_alone};
 
-use definition::{Refusal, SheetRefusal};
 use virt_regs::OutLayout;
 
 // Number 0 and how many registers and groups there are; or the refusal's number, and zeros. No Result, since C gets it.
@@ -18,33 +15,6 @@ pub struct BuildEnd {
     pub number: u32,
     pub registers: u32,
     pub groups: u32,
-}
-
-// The number of a refusal.
-pub fn number_of(r: Refusal) -> u32
-    ensures { result ≡ number_of r }
-{
-    match r {
-        Refusal::NotARecord => 1,
-        Refusal::OverALimit => 2,
-        Refusal::BadBook => 3,
-        Refusal::BadFunction => 4,
-        Refusal::BadHint => 5,
-        Refusal::BadSegment => 6,
-        Refusal::BadUse => 7,
-        Refusal::Stopped(_) => 8,
-        Refusal::Full => 9,
-    }
-}
-
-// The number of a job sheet's refusal.
-pub fn sheet_number_of(r: SheetRefusal) -> u32
-    ensures { result ≡ sheet_number_of r }
-{
-    match r {
-        SheetRefusal::By(f) => number_of(f),
-        SheetRefusal::WrittenDiffers => 10,
-    }
 }
 
 // A refusal, by its number alone.

@@ -5,3 +5,4 @@ pub mod Empty
 pub mod Sets
 pub mod Laid
 pub mod Loop
+pub mod InFrame

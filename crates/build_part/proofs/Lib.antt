@@ -3,4 +3,3 @@ pub mod Turns
 pub mod Cuts
 pub mod Ways
 pub mod Behind
-pub mod Framed

@@ -68,8 +68,8 @@ module _ {t w n : ℕ} {W K : List ℕ} {lay : Layout} {wl : WorkLayout} {sp : S
   number : (turned_row K wl.marks W lay sp i).number < lay.uses.n
   number = turn_number K W lay wl sp n i l.mapping room l.ok few picked
 
-  pub turn_asked : Fits t lay × PartOk W lay sp × TurnRoom w lay wl × (sp.first + i < sp.end) × (n < lay.uses.n)
-  turn_asked = (l.ready.fits, l.ok, l.turns, inside, few)
+  pub turn_asked : PartOk W lay sp × TurnRoom w lay wl × (sp.first + i < sp.end) × (n < lay.uses.n)
+  turn_asked = (l.ok, l.turns, inside, few)
 
   once : (c : Counts) → Stepped t w W K (turned_once K wl n (turned_row K wl.marks W lay sp i)) lay wl sp n (Ok (On sp c (n + 1)))
   unfolding OnwardBy

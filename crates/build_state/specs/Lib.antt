@@ -3,3 +3,4 @@ pub mod Builds
 pub mod Held
 pub mod Placing
 pub mod Rounds
+pub mod InFrame

@@ -5,28 +5,40 @@ ghost use Rattle.std.specs.Prelude.{◌≡◌, List, [], ◌∷◌, ◌++◌, �
 ghost use Rattle.std.proofs.Math.Option.{Option};
 ghost use Rattle.rows.specs.Tab.{tab};
 ghost use Rattle.words.specs.Words.{word_count, words_of};
+ghost use Rattle.layout.specs.JobWords.{words_in};
 ghost use Rattle.definition.specs.Types.{Turned, vrgroup};
 ghost use Rattle.definition.specs.Build.{opening, conflict_piece};
 ghost use Rattle.definition.specs.Place.{map_uses, uses_of, segs_of};
-ghost use Rattle.layout.specs.Layout.{Fits};
 ghost use Rattle.virt_regs.specs.Encoding.{tables_end};
 ghost use Rattle.vreg_put.specs.Written.{Written};
-ghost use Rattle.constraints.specs.Ready.{Ready};
-ghost use Rattle.part_maps.specs.Maps.{MapApart, Maps};
-ghost use Rattle.conflict_piece.specs.Conflict.{row_use, turned_rows_of, RowsOk, param_by, open_count, conflict_row};
+ghost use Rattle.part_maps.specs.Maps.{Maps};
+ghost use Rattle.conflict_piece.specs.Conflict.{param_by, open_count, conflict_row};
+ghost use Rattle.constraints.specs.InFrame.{Ready};
+ghost use Rattle.part_maps.specs.InFrame.{MapApart};
+ghost use Rattle.conflict_piece.specs.InFrame.{row_use, turned_rows_of, RowsOk};
 
-use definition::{Inst, LiveRangePoint, Use, UseKind, Value};
-use layout::Layout;
+use definition::{Inst, LiveRangePoint, Origin, Use, UseKind, Value};
+use frame::Frame;
 use virt_regs::{OutLayout, PieceRow};
-use work_layout::WorkLayout;
+
+// What the conflict pieces of one instruction take over of its first turned use.
+#[derive(Clone, Copy)]
+pub struct First {
+    pub value: Value,
+    pub pos: Inst,
+    pub param: Option<u32>,
+}
 
 // The use of turned row k, as it stands in the job.
-pub fn turned_use(job: &[u8], lay: Layout, work: &[u8], turned: usize, k: usize) -> Use
-    requires { Fits (word_count job.now) lay × (turned + k * 4 + 4 ≤ word_count work.now) × (get_or (words_of work.now) (turned + k * 4 + 1) 0 < lay.uses.n) }
-    ensures { result ≡ row_use (words_of work.now) turned (words_of job.now) lay k }
+pub fn turned_use(fr: &Frame, work: &[u8], k: usize) -> Use
+    requires { (fr.now.wl.turned + k * 4 + 4 ≤ word_count work.now) × (get_or (words_of work.now) (fr.now.wl.turned + k * 4 + 1) 0 < fr.now.job.lay.uses.n) }
+    ensures { result ≡ row_use fr.now work.now k }
 {
+    let job = &fr.job;
+    let turned = fr.wl.turned;
+    let lay = &job.lay;
     let n = words::word_at(work, turned + k * 4 + 1) as usize;
-    uses::use_at(job, lay.uses.at + n * 6)
+    uses::use_at(job.bytes, lay.uses.at + n * 6)
 }
 
 // "If the list of the first turned use began with a BlockparamIn at p, the piece begins with it too": how many uses are written, from use row u on.
@@ -46,23 +58,13 @@ fn write_opening(out: &mut [u8], ol: OutLayout, u: usize, pos: Inst, param: Opti
 }
 
 // The uses of turned rows a to b - 1, from use row u on.
-fn write_turned(
-    job: &[u8],
-    lay: Layout,
-    work: &[u8],
-    turned: usize,
-    a: usize,
-    b: usize,
-    out: &mut [u8],
-    ol: OutLayout,
-    u: usize,
-)
-    requires { Fits (word_count job.now) lay × RowsOk (word_count work.now) (words_of work.now) turned lay a b × (tables_end ol ≤ word_count out.old) × (u + (b - a) ≤ ol.uses) }
-    ensures { (O : List ℕ) (p v : ℕ) (us : List Use) → Written ol O p v [] us (words_of out.old) → u ≡ v + length us → Written ol O p v [] (us ++ tab (row_use (words_of work.now) turned (words_of job.now) lay) a (b - a)) (words_of out.new) }
+fn write_turned(fr: &Frame, work: &[u8], a: usize, b: usize, out: &mut [u8], u: usize)
+    requires { RowsOk fr.now work.now a b × (tables_end fr.now.ol ≤ word_count out.old) × (u + (b - a) ≤ fr.now.ol.uses) }
+    ensures { (O : List ℕ) (p v : ℕ) (us : List Use) → Written fr.now.ol O p v [] us (words_of out.old) → u ≡ v + length us → Written fr.now.ol O p v [] (us ++ tab (row_use fr.now work.now) a (b - a)) (words_of out.new) }
 {
     for i in a..b {
-        let x = turned_use(job, lay, work, turned, i);
-        vreg_put::put_use(out, ol, u + (i - a), x);
+        let x = turned_use(fr, work, i);
+        vreg_put::put_use(out, fr.ol, u + (i - a), x);
     }
 }
 
@@ -77,7 +79,7 @@ fn conflict_row(value: Value, pos: Inst, param: Option<u32>, u: usize, n: usize)
         from: LiveRangePoint(at),
         to: LiveRangePoint(at + 2),
         flags: u32::from(param.is_none()),
-        origin: 1,
+        origin: Origin::Conflict as u32,
         first: u as u32,
         uses: n as u32,
     }
@@ -85,47 +87,35 @@ fn conflict_row(value: Value, pos: Inst, param: Option<u32>, u: usize, n: usize)
 
 // The piece of the turned rows a to b - 1, as piece row p, with its uses from use row u on.
 pub fn write_conflict(
-    job: &[u8],
-    lay: Layout,
+    fr: &Frame,
     work: &[u8],
-    turned: usize,
     a: usize,
     b: usize,
-    value: Value,
-    pos: Inst,
-    param: Option<u32>,
+    x: First,
     out: &mut [u8],
-    ol: OutLayout,
     p: usize,
     u: usize,
 )
-    requires fits { Fits (word_count job.now) lay × RowsOk (word_count work.now) (words_of work.now) turned lay a b × (tables_end ol ≤ word_count out.old) }
-    requires room { (p < ol.segs) × (u + (open_count param + (b - a)) ≤ ol.uses) × (u + (open_count param + (b - a)) < 4294967296) × (4 * pos.0 + 2 < 4294967296) }
-    ensures { (ts : List Turned) → ts ≡ turned_rows_of (words_of work.now) turned (words_of job.now) lay a b → Written ol (words_of out.old) p u (conflict_piece value pos (param_by param) ts ∷ []) (uses_of (segs_of (conflict_piece value pos (param_by param) ts ∷ []))) (words_of out.new) }
+    requires fits { RowsOk fr.now work.now a b × (tables_end fr.now.ol ≤ word_count out.old) }
+    requires room { (p < fr.now.ol.segs) × (u + (open_count x.param + (b - a)) ≤ fr.now.ol.uses) × (u + (open_count x.param + (b - a)) < 4294967296) × (4 * x.pos.0 + 2 < 4294967296) }
+    ensures { (ts : List Turned) → ts ≡ turned_rows_of fr.now work.now a b → Written fr.now.ol (words_of out.old) p u (conflict_piece x.value x.pos (param_by x.param) ts ∷ []) (uses_of (segs_of (conflict_piece x.value x.pos (param_by x.param) ts ∷ []))) (words_of out.new) }
 {
-    let k = write_opening(out, ol, u, pos, param);
-    write_turned(job, lay, work, turned, a, b, out, ol, u + k);
-    let row = conflict_row(value, pos, param, u, k + (b - a));
-    vreg_put::put_piece(out, ol, p, row);
+    let k = write_opening(out, fr.ol, u, x.pos, x.param);
+    write_turned(fr, work, a, b, out, u + k);
+    let row = conflict_row(x.value, x.pos, x.param, u, k + (b - a));
+    vreg_put::put_piece(out, fr.ol, p, row);
 }
 
 // "A new group maps every group operand of its register": of the conflict piece of rows a to b - 1. Not if one is mapped already.
-pub fn map_conflict(
-    job: &[u8],
-    lay: Layout,
-    work: &mut [u8],
-    wl: WorkLayout,
-    a: usize,
-    b: usize,
-    g: u32,
-) -> bool
-    requires { Ready (word_count job.now) (word_count work.old) (words_of job.now) (words_of work.old) lay wl × MapApart lay wl × RowsOk (word_count work.old) (words_of work.old) wl.turned lay a b × (g < 4294967295) × (0 < lay.segments.n) }
-    ensures { (v : Value) (p : Inst) (q : Option ℕ) → Maps (words_of job.now) (words_of work.old) lay wl (map_uses (vrgroup g) (uses_of (segs_of (conflict_piece v p q (turned_rows_of (words_of work.old) wl.turned (words_of job.now) lay a b) ∷ [])))) result (words_of work.new) }
+pub fn map_conflict(fr: &Frame, work: &mut [u8], a: usize, b: usize, g: u32) -> bool
+    requires { Ready fr.now work.old × MapApart fr.now × RowsOk fr.now work.old a b × (g < 4294967295) × (0 < fr.now.job.lay.segments.n) }
+    ensures { (v : Value) (p : Inst) (q : Option ℕ) → Maps (words_in fr.now.job) (words_of work.old) fr.now.job.lay fr.now.wl (map_uses (vrgroup g) (uses_of (segs_of (conflict_piece v p q (turned_rows_of fr.now work.old a b) ∷ [])))) result (words_of work.new) }
 {
+    let wl = &fr.wl;
     let turned = wl.turned;
     for i in a..b {
-        let u = turned_use(job, lay, work, turned, i);
-        if !part_maps::map_use(job, lay, work, wl, u, g) {
+        let u = turned_use(fr, work, i);
+        if !part_maps::map_use(fr, work, u, g) {
             return false;
         }
     }

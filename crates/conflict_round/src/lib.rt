@@ -3,22 +3,23 @@
 
 ghost use Rattle.std.specs.Prelude.{◌≡◌, List, ◌∷◌, ℕ, ◌+◌, ◌*◌, ◌≤◌, ◌<◌, get_or};
 ghost use Rattle.words.specs.Words.{word_count, words_of};
+ghost use Rattle.layout.specs.JobWords.{words_in};
 ghost use Rattle.definition.specs.Types.{State};
 ghost use Rattle.definition.specs.Admit.{admit};
 ghost use Rattle.definition.specs.Build.{all_of, runs, same_inst};
-ghost use Rattle.layout.specs.Layout.{Fits};
-ghost use Rattle.job.specs.Job.{job_of};
+ghost use Rattle.job.specs.Job.{job_in};
 ghost use Rattle.virt_regs.specs.Encoding.{tables_end};
 ghost use Rattle.constraints.specs.Held.{held_of, admission_of};
-ghost use Rattle.constraints.specs.Ready.{Ready, Stands};
-ghost use Rattle.conflict_piece.specs.Conflict.{row_use, turned_row_at, turned_rows_of, RowsOk};
+ghost use Rattle.conflict_piece.specs.Conflict.{turned_row_at};
 ghost use Rattle.conflict_round.specs.Rounds.{row_words, swap_rows, TurnedApart, Elsewhere, try_all, Tried};
+ghost use Rattle.constraints.specs.InFrame.{Ready, Stands};
+ghost use Rattle.conflict_piece.specs.Conflict as conflict;
+ghost use Rattle.conflict_piece.specs.InFrame.{row_use, turned_rows_of, RowsOk};
 
 use constraints::Held;
 use definition::RegClass;
+use frame::Frame;
 use layout::Layout;
-use virt_regs::OutLayout;
-use work_layout::WorkLayout;
 
 // The four words of a row: value, use number, whether it has a parameter (0 or 1), the parameter.
 #[derive(Clone, Copy)]
@@ -63,46 +64,28 @@ fn swap_rows(work: &mut [u8], turned: usize, i: usize, j: usize)
 }
 
 // Whether the use of row k is admitted.
-fn admit_row(
-    job: &[u8],
-    lay: Layout,
-    out: &[u8],
-    ol: OutLayout,
-    work: &[u8],
-    wl: WorkLayout,
-    held: Held,
-    k: usize,
-) -> Option<Held>
-    requires { Ready (word_count job.now) (word_count work.now) (words_of job.now) (words_of work.now) lay wl × (tables_end ol ≤ word_count out.now) × (wl.turned + k * 4 + 4 ≤ word_count work.now) × (get_or (words_of work.now) (wl.turned + k * 4 + 1) 0 < lay.uses.n) × (0 < lay.segments.n) }
-    ensures { (st : State) → Stands ol (words_of out.now) (words_of job.now) (words_of work.now) lay wl st → admission_of result ≡ admit (job_of (words_of job.now) lay) st (held_of held) (row_use (words_of work.now) wl.turned (words_of job.now) lay k) }
+fn admit_row(fr: &Frame, out: &[u8], work: &[u8], held: Held, k: usize) -> Option<Held>
+    requires { Ready fr.now work.now × (tables_end fr.now.ol ≤ word_count out.now) × (fr.now.wl.turned + k * 4 + 4 ≤ word_count work.now) × (get_or (words_of work.now) (fr.now.wl.turned + k * 4 + 1) 0 < fr.now.job.lay.uses.n) × (0 < fr.now.job.lay.segments.n) }
+    ensures { (st : State) → Stands fr.now out.now work.now st → admission_of result ≡ admit (job_in fr.now.job) st (held_of held) (row_use fr.now work.now k) }
 {
-    let u = conflict_piece::turned_use(job, lay, work, wl.turned, k);
-    constraints::admit(job, lay, out, ol, work, wl, held, u)
+    let u = conflict_piece::turned_use(fr, work, k);
+    constraints::admit(fr, out, work, held, u)
 }
 
 // "From the top class, the turned uses are tried in the order turned; one not admitted trades places with the last untried one": rows a to b - 1.
-pub fn try_rows(
-    job: &[u8],
-    lay: Layout,
-    out: &[u8],
-    ol: OutLayout,
-    work: &mut [u8],
-    wl: WorkLayout,
-    top: RegClass,
-    a: usize,
-    b: usize,
-) -> Round
-    requires { Ready (word_count job.now) (word_count work.old) (words_of job.now) (words_of work.old) lay wl × (tables_end ol ≤ word_count out.now) × TurnedApart lay wl × RowsOk (word_count work.old) (words_of work.old) wl.turned lay a b × (0 < lay.segments.n) }
-    ensures parted { (a ≤ result.end) × (result.end ≤ b) × Elsewhere wl.turned a b (words_of work.old) (words_of work.new) × RowsOk (word_count work.new) (words_of work.new) wl.turned lay a b }
-    ensures tried { (st : State) → Stands ol (words_of out.now) (words_of job.now) (words_of work.old) lay wl st → Tried (words_of work.new) wl.turned (words_of job.now) lay a b result (try_all (job_of (words_of job.now) lay) st top (turned_rows_of (words_of work.old) wl.turned (words_of job.now) lay a b)) }
+pub fn try_rows(fr: &Frame, out: &[u8], work: &mut [u8], top: RegClass, a: usize, b: usize) -> Round
+    requires { Ready fr.now work.old × (tables_end fr.now.ol ≤ word_count out.now) × TurnedApart fr.now.job.lay fr.now.wl × RowsOk fr.now work.old a b × (0 < fr.now.job.lay.segments.n) }
+    ensures parted { (a ≤ result.end) × (result.end ≤ b) × Elsewhere fr.now.wl.turned a b (words_of work.old) (words_of work.new) × RowsOk fr.now work.new a b }
+    ensures tried { (st : State) → Stands fr.now out.now work.old st → Tried (words_of work.new) fr.now.wl.turned (words_in fr.now.job) fr.now.job.lay a b result (try_all (job_in fr.now.job) st top (turned_rows_of fr.now work.old a b)) }
 {
+    let wl = &fr.wl;
     let turned = wl.turned;
     let mut held = scans::fresh_held(top);
     // Both ends move, so no range gives the rows in turn.
     let mut i = a;
     let mut j = b;
     while i < j {
-        match admit_row(job, lay, out, ol, work, wl, held, i) {
+        match admit_row(fr, out, work, held, i) {
             Some(next) => {
                 held = next;
                 i += 1;
@@ -117,13 +100,13 @@ pub fn try_rows(
 }
 
 // The end of the run of rows, of those before row n, with the instruction of row a.
-pub fn run_end(job: &[u8], lay: Layout, work: &[u8], turned: usize, a: usize, n: usize) -> usize
-    requires { Fits (word_count job.now) lay × RowsOk (word_count work.now) (words_of work.now) turned lay a n × (a < n) }
-    ensures { (a < result) × (result ≤ n) × (runs same_inst (turned_rows_of (words_of work.now) turned (words_of job.now) lay a n) ≡ turned_rows_of (words_of work.now) turned (words_of job.now) lay a result ∷ runs same_inst (turned_rows_of (words_of work.now) turned (words_of job.now) lay result n)) }
+pub fn run_end(fr: &Frame, work: &[u8], a: usize, n: usize) -> usize
+    requires { RowsOk fr.now work.now a n × (a < n) }
+    ensures { (a < result) × (result ≤ n) × (runs same_inst (turned_rows_of fr.now work.now a n) ≡ turned_rows_of fr.now work.now a result ∷ runs same_inst (turned_rows_of fr.now work.now result n)) }
 {
-    let first = conflict_piece::turned_use(job, lay, work, turned, a);
+    let first = conflict_piece::turned_use(fr, work, a);
     for e in a + 1..n {
-        let u = conflict_piece::turned_use(job, lay, work, turned, e);
+        let u = conflict_piece::turned_use(fr, work, e);
         if u.pos != first.pos {
             return e;
         }
@@ -134,7 +117,7 @@ pub fn run_end(job: &[u8], lay: Layout, work: &[u8], turned: usize, a: usize, n:
 // Whether rows a + 1 to b - 1 have the value of row a.
 pub fn one_value(work: &[u8], turned: usize, a: usize, b: usize) -> bool
     requires { (a < b) × (turned + b * 4 ≤ word_count work.now) }
-    ensures { (W : List ℕ) (lay : Layout) → result ≡ all_of (turned_row_at (words_of work.now) turned W lay a).value (turned_rows_of (words_of work.now) turned W lay (a + 1) b) }
+    ensures { (W : List ℕ) (lay : Layout) → result ≡ all_of (turned_row_at (words_of work.now) turned W lay a).value (conflict.turned_rows_of (words_of work.now) turned W lay (a + 1) b) }
 {
     let value = words::word_at(work, turned + a * 4);
     (a + 1..b).all(|i| words::word_at(work, turned + i * 4) == value)

@@ -27,7 +27,7 @@ use Rattle.conflict_round.proofs.Kept.{rows_more, rows_long}
 use Rattle.place_end.specs.declared.NotPlaced.TheVariants as not_placed
 use Rattle.place_end.specs.Ends.{Placed}
 use Rattle.std.specs.Prelude.{Err}
-use Rattle.conflicts.specs.declared.First.{First}
+use Rattle.conflict_piece.specs.declared.First.{First}
 use Rattle.conflicts.specs.Conflicts.{EndsAs, IsFirst}
 
 abbrev param_of : ℕ → ℕ → Option ℕ

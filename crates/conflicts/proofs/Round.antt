@@ -49,7 +49,7 @@ use Rattle.build_state.specs.Builds.{Builds}
 use Rattle.build_state.specs.Fits.{StandsAs}
 use Rattle.build_state.specs.Held.{held_fits}
 use Rattle.build_state.specs.Rounds.{try_scan, conflict_fits}
-use Rattle.conflicts.specs.declared.First.{First}
+use Rattle.conflict_piece.specs.declared.First.{First}
 use Rattle.conflicts.specs.declared.RoundEnd.{RoundEnd}
 use Rattle.conflicts.specs.Conflicts.{Rounded, EndsAs, Given, IsFirst, RoundAs}
 use Rattle.conflicts.proofs.Kept.{turned_apart, rounded_then, rounded_tried, rounded_placed}

@@ -20,7 +20,7 @@ use Rattle.std.specs.Prelude.{Result, Ok, Err}
 use Rattle.place_end.specs.declared.NotPlaced.{NotPlaced}
 use Rattle.place_end.specs.Ends.{Placed}
 use Rattle.build_state.specs.Fits.{StandsAs}
-use Rattle.conflicts.specs.declared.First.{First}
+use Rattle.conflict_piece.specs.declared.First.{First}
 use Rattle.conflicts.specs.declared.RoundEnd.{RoundEnd}
 use Rattle.conflicts.specs.Conflicts.{Rounded, EndsAs, Given, IsFirst, RoundAs}
 use Rattle.conflicts.proofs.Kept.{rounded_none, rounded_then, between_ready}

@@ -17,7 +17,7 @@ use Rattle.place_end.specs.Ends.{Placed, end_of}
 use Rattle.steps.specs.Turns.{TurnRoom}
 use Rattle.build_state.specs.Builds.{Builds}
 use Rattle.build_state.specs.Fits.{StandsAs}
-use Rattle.conflicts.specs.declared.First.{First}
+use Rattle.conflict_piece.specs.declared.First.{First}
 use Rattle.conflicts.specs.declared.RoundEnd.{RoundEnd}
 
 -- K' is K but for the words of the mapping and those from the turned rows on

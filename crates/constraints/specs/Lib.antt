@@ -1,3 +1,4 @@
 pub mod Held
 pub mod Asks
 pub mod Ready
+pub mod InFrame

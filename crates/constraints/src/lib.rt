@@ -6,18 +6,17 @@ ghost use Rattle.words.specs.Words.{word_count, words_of};
 ghost use Rattle.definition.specs.Types.{State};
 ghost use Rattle.definition.specs.Admit.{mapping_fits, group_fits, admit_class, admit_group};
 ghost use Rattle.definition.specs.Admit as admission;
-ghost use Rattle.layout.specs.Layout.{Fits};
-ghost use Rattle.job.specs.Job.{job_of};
+ghost use Rattle.job.specs.Job.{job_in};
 ghost use Rattle.virt_regs.specs.Encoding.{tables_end, Holds};
 ghost use Rattle.members.specs.Places.{group_of};
 ghost use Rattle.constraints.specs.Held.{held_of, admission_of, into_group};
 ghost use Rattle.constraints.specs.Asks.{ask_of};
-ghost use Rattle.constraints.specs.Ready.{Ready, Stands, Backed, HasOperand, OperandIs, Said};
+ghost use Rattle.constraints.specs.Ready.{Backed, HasOperand};
+ghost use Rattle.constraints.specs.InFrame.{Ready, Stands, OperandIs, Said};
 
 use definition::{Inst, RegClass, Use, UseKind, ValueSet};
-use layout::Layout;
-use virt_regs::OutLayout;
-use work_layout::WorkLayout;
+use frame::Frame;
+use layout::Job;
 
 // What is held: the class; if `grouped`, the index, group and value sets of the group uses before; the register to merge into. `mapped` and `target` are a number + 1, 0 for none.
 #[derive(Clone, Copy)]
@@ -82,13 +81,13 @@ pub fn ask_of(kind: UseKind) -> Ask
 }
 
 // A class use needs a common subclass of the class held and its own.
-fn admit_class(job: &[u8], lay: Layout, held: Held, c: RegClass) -> Option<Held>
-    requires { Fits (word_count job.now) lay }
-    ensures { admission_of result ≡ admit_class (job_of (words_of job.now) lay) (held_of held) c }
+fn admit_class(job: &Job, held: Held, c: RegClass) -> Option<Held>
+    ensures { admission_of result ≡ admit_class (job_in job.now) (held_of held) c }
 {
+    let lay = &job.lay;
     let at = lay.classes.at;
     let count = lay.classes.n;
-    let class = reginfo::common_subclass(job, at, count, held.class, c)?;
+    let class = reginfo::common_subclass(job.bytes, at, count, held.class, c)?;
     Some(Held { class, ..held })
 }
 
@@ -111,12 +110,15 @@ fn group_fits(held: Held, index: u32, mapped: u32, sets: [ValueSet; 8]) -> bool
 }
 
 // What operand k says.
-fn operand_group(job: &[u8], lay: Layout, work: &[u8], wl: WorkLayout, k: usize) -> OperandGroup
-    requires { Ready (word_count job.now) (word_count work.now) (words_of job.now) (words_of work.now) lay wl × (k < lay.operands.n) }
-    ensures { OperandIs (words_of job.now) (words_of work.now) lay wl k result }
+fn operand_group(fr: &Frame, work: &[u8], k: usize) -> OperandGroup
+    requires { Ready fr.now work.now × (k < fr.now.job.lay.operands.n) }
+    ensures { OperandIs fr.now work.now k result }
 {
+    let job = &fr.job;
+    let wl = &fr.wl;
+    let lay = &job.lay;
     let at = lay.operands.at;
-    let o = operands::operand_at(job, at + k * 4);
+    let o = operands::operand_at(job.bytes, at + k * 4);
     let g = o.vgroup.0 as usize;
     let row = lay.vgroups.at + g * 9;
     let mapping = wl.mapping;
@@ -125,50 +127,43 @@ fn operand_group(job: &[u8], lay: Layout, work: &[u8], wl: WorkLayout, k: usize)
     let count = lay.values.n;
     OperandGroup {
         mapped,
-        sets: coalescing::value_sets(job, values, count, row),
+        sets: coalescing::value_sets(job.bytes, values, count, row),
     }
 }
 
 // What the operand at an instruction and slot says. An accepted job has an operand for each of its group uses.
-fn find_group(
-    job: &[u8],
-    lay: Layout,
-    work: &[u8],
-    wl: WorkLayout,
-    p: Inst,
-    slot: u32,
-) -> Option<OperandGroup>
-    requires { Ready (word_count job.now) (word_count work.now) (words_of job.now) (words_of work.now) lay wl }
-    ensures { HasOperand (job_of (words_of job.now) lay) p slot → Said (words_of job.now) (words_of work.now) lay wl p slot result }
+fn find_group(fr: &Frame, work: &[u8], p: Inst, slot: u32) -> Option<OperandGroup>
+    requires { Ready fr.now work.now }
+    ensures { HasOperand (job_in fr.now.job) p slot → Said fr.now work.now p slot result }
 {
-    let c = work_layout::chains_in(lay, wl);
+    let job = &fr.job;
+    let lay = &job.lay;
+    let c = work_layout::chains_in(lay, fr.wl);
     if c.insts <= p.0 as usize {
         return None;
     }
-    let k = operands::find_operand(job, work, c, p, slot)?;
-    Some(operand_group(job, lay, work, wl, k))
+    let k = operands::find_operand(job.bytes, work, c, p, slot)?;
+    Some(operand_group(fr, work, k))
 }
 
 // A group use with index i, whose operand says g; k is the common subclass of the class held and its own.
 fn admit_into(
-    job: &[u8],
-    lay: Layout,
+    fr: &Frame,
     out: &[u8],
-    ol: OutLayout,
     held: Held,
     k: RegClass,
     i: u32,
     g: OperandGroup,
 ) -> Option<Held>
-    requires { Fits (word_count job.now) lay × (tables_end ol ≤ word_count out.now) }
-    ensures { (st : State) → Holds ol (words_of out.now) st → admission_of result ≡ into_group (job_of (words_of job.now) lay) st (held_of held) k i (group_of g.mapped) g.sets }
+    requires { tables_end fr.now.ol ≤ word_count out.now }
+    ensures { (st : State) → Holds fr.now.ol (words_of out.now) st → admission_of result ≡ into_group (job_in fr.now.job) st (held_of held) k i (group_of g.mapped) g.sets }
 {
     let mapped = g.mapped;
     let sets = g.sets;
     if !group_fits(held, i, mapped, sets) {
         return None;
     }
-    let n = members::in_group(job, lay, out, ol, held.class, held.target, k, mapped, i)?;
+    let n = members::in_group(fr, out, held.class, held.target, k, mapped, i)?;
     Some(Held {
         class: n.class,
         grouped: true,
@@ -181,44 +176,35 @@ fn admit_into(
 
 // A group use needs its operand's group, index and value sets to fit besides.
 fn admit_group(
-    job: &[u8],
-    lay: Layout,
+    fr: &Frame,
     out: &[u8],
-    ol: OutLayout,
     work: &[u8],
-    wl: WorkLayout,
     held: Held,
     p: Inst,
     u: GroupUse,
 ) -> Option<Held>
-    requires { Ready (word_count job.now) (word_count work.now) (words_of job.now) (words_of work.now) lay wl × (tables_end ol ≤ word_count out.now) }
-    ensures { (st : State) → Stands ol (words_of out.now) (words_of job.now) (words_of work.now) lay wl st → HasOperand (job_of (words_of job.now) lay) p u.slot → admission_of result ≡ admit_group (job_of (words_of job.now) lay) st (held_of held) p u.slot u.class u.index }
+    requires { Ready fr.now work.now × (tables_end fr.now.ol ≤ word_count out.now) }
+    ensures { (st : State) → Stands fr.now out.now work.now st → HasOperand (job_in fr.now.job) p u.slot → admission_of result ≡ admit_group (job_in fr.now.job) st (held_of held) p u.slot u.class u.index }
 {
-    let g = find_group(job, lay, work, wl, p, u.slot)?;
+    let job = &fr.job;
+    let lay = &job.lay;
+    let g = find_group(fr, work, p, u.slot)?;
     let at = lay.classes.at;
     let count = lay.classes.n;
-    let k = reginfo::common_subclass(job, at, count, held.class, u.class)?;
-    admit_into(job, lay, out, ol, held, k, u.index, g)
+    let k = reginfo::common_subclass(job.bytes, at, count, held.class, u.class)?;
+    admit_into(fr, out, held, k, u.index, g)
 }
 
 // Whether a use is admitted, and what is then held. Kinds other than class uses are always admitted.
-pub fn admit(
-    job: &[u8],
-    lay: Layout,
-    out: &[u8],
-    ol: OutLayout,
-    work: &[u8],
-    wl: WorkLayout,
-    held: Held,
-    u: Use,
-) -> Option<Held>
-    requires { Ready (word_count job.now) (word_count work.now) (words_of job.now) (words_of work.now) lay wl × (tables_end ol ≤ word_count out.now) }
-    ensures { (st : State) → Stands ol (words_of out.now) (words_of job.now) (words_of work.now) lay wl st → Backed (job_of (words_of job.now) lay) u → admission_of result ≡ admission.admit (job_of (words_of job.now) lay) st (held_of held) u }
+pub fn admit(fr: &Frame, out: &[u8], work: &[u8], held: Held, u: Use) -> Option<Held>
+    requires { Ready fr.now work.now × (tables_end fr.now.ol ≤ word_count out.now) }
+    ensures { (st : State) → Stands fr.now out.now work.now st → Backed (job_in fr.now.job) u → admission_of result ≡ admission.admit (job_in fr.now.job) st (held_of held) u }
 {
+    let job = &fr.job;
     let p = u.pos;
     match ask_of(u.kind) {
         Ask::Any => Some(held),
-        Ask::Class(c) => admit_class(job, lay, held, c),
-        Ask::Group(g) => admit_group(job, lay, out, ol, work, wl, held, p, g),
+        Ask::Class(c) => admit_class(job, held, c),
+        Ask::Group(g) => admit_group(fr, out, work, held, p, g),
     }
 }

@@ -8,14 +8,13 @@ ghost use Rattle.definition.specs.Types.{State};
 ghost use Rattle.definition.specs.Types as types;
 ghost use Rattle.definition.specs.RegInfo.{common_subclass};
 ghost use Rattle.definition.specs.Admit.{register_at, members_at, narrowed, at_place, in_group};
-ghost use Rattle.layout.specs.Layout.{Fits};
-ghost use Rattle.job.specs.Job.{job_of};
+ghost use Rattle.job.specs.Job.{job_in};
 ghost use Rattle.reginfo.specs.Rows.{found_of};
 ghost use Rattle.virt_regs.specs.Encoding.{tables_end, place_word, Holds};
 ghost use Rattle.members.specs.Places.{reg_of, group_of, narrowed_at, joined_of};
 
 use definition::{RegClass, VirtReg, VirtRegGroup};
-use layout::Layout;
+use frame::Frame;
 use virt_regs::OutLayout;
 
 // What a group use is to hold: the class, and the register to merge into + 1 (0: none).
@@ -41,17 +40,13 @@ pub fn place_word(out: &[u8], ol: OutLayout, g: VirtRegGroup, i: usize) -> u32
 }
 
 // The common subclass of class k and register v's.
-pub fn shared_class(
-    job: &[u8],
-    lay: Layout,
-    out: &[u8],
-    ol: OutLayout,
-    k: RegClass,
-    v: VirtReg,
-) -> Option<RegClass>
-    requires { Fits (word_count job.now) lay × (tables_end ol ≤ word_count out.now) }
-    ensures { (st : State) → Holds ol (words_of out.now) st → v.0 < length st.registers → result ≡ found_of (common_subclass (job_of (words_of job.now) lay) k (register_at st v).class) }
+pub fn shared_class(fr: &Frame, out: &[u8], k: RegClass, v: VirtReg) -> Option<RegClass>
+    requires { tables_end fr.now.ol ≤ word_count out.now }
+    ensures { (st : State) → Holds fr.now.ol (words_of out.now) st → v.0 < length st.registers → result ≡ found_of (common_subclass (job_in fr.now.job) k (register_at st v).class) }
 {
+    let job = &fr.job;
+    let ol = &fr.ol;
+    let lay = &job.lay;
     let n = v.0 as usize;
     if ol.regs <= n {
         return None;
@@ -59,43 +54,29 @@ pub fn shared_class(
     let c = virt_regs::class_of(out, v);
     let at = lay.classes.at;
     let count = lay.classes.n;
-    reginfo::common_subclass(job, at, count, k, c)
+    reginfo::common_subclass(job.bytes, at, count, k, c)
 }
 
 // Class k narrowed by the member whose number + 1 is w, if w is not 0.
-fn narrow(
-    job: &[u8],
-    lay: Layout,
-    out: &[u8],
-    ol: OutLayout,
-    k: RegClass,
-    w: u32,
-) -> Option<RegClass>
-    requires { Fits (word_count job.now) lay × (tables_end ol ≤ word_count out.now) }
-    ensures { (st : State) → Holds ol (words_of out.now) st → w ≤ length st.registers → result ≡ found_of (narrowed_at (job_of (words_of job.now) lay) st (reg_of w) k) }
+fn narrow(fr: &Frame, out: &[u8], k: RegClass, w: u32) -> Option<RegClass>
+    requires { tables_end fr.now.ol ≤ word_count out.now }
+    ensures { (st : State) → Holds fr.now.ol (words_of out.now) st → w ≤ length st.registers → result ≡ found_of (narrowed_at (job_in fr.now.job) st (reg_of w) k) }
 {
     if w == 0 {
         return Some(k);
     }
-    shared_class(job, lay, out, ol, k, VirtReg(w - 1))
+    shared_class(fr, out, k, VirtReg(w - 1))
 }
 
 // Class k narrowed by the class of each member of group g in turn.
-pub fn narrowed_by(
-    job: &[u8],
-    lay: Layout,
-    out: &[u8],
-    ol: OutLayout,
-    g: VirtRegGroup,
-    k: RegClass,
-) -> Option<RegClass>
-    requires { Fits (word_count job.now) lay × (tables_end ol ≤ word_count out.now) }
-    ensures { (st : State) → Holds ol (words_of out.now) st → result ≡ found_of (narrowed (job_of (words_of job.now) lay) st (members_at st g) k) }
+pub fn narrowed_by(fr: &Frame, out: &[u8], g: VirtRegGroup, k: RegClass) -> Option<RegClass>
+    requires { tables_end fr.now.ol ≤ word_count out.now }
+    ensures { (st : State) → Holds fr.now.ol (words_of out.now) st → result ≡ found_of (narrowed (job_in fr.now.job) st (members_at st g) k) }
 {
     let mut class = k;
     for i in 0..8 {
-        let w = place_word(out, ol, g, i);
-        class = narrow(job, lay, out, ol, class, w)?;
+        let w = place_word(out, fr.ol, g, i);
+        class = narrow(fr, out, class, w)?;
     }
     Some(class)
 }
@@ -103,45 +84,41 @@ pub fn narrowed_by(
 // A use at index i of group g, where class and target were held and k is the candidate: the register at that place is merged into,
 // with the common subclass of the class held before the use and its own; at an empty place the candidate is narrowed by every member.
 pub fn at_place(
-    job: &[u8],
-    lay: Layout,
+    fr: &Frame,
     out: &[u8],
-    ol: OutLayout,
     class: RegClass,
     target: u32,
     k: RegClass,
     g: VirtRegGroup,
     i: u32,
 ) -> Option<Joined>
-    requires { Fits (word_count job.now) lay × (tables_end ol ≤ word_count out.now) }
-    ensures { (st : State) (h : types.Held) → Holds ol (words_of out.now) st → h.class ≡ class → h.target ≡ reg_of target → joined_of result ≡ at_place (job_of (words_of job.now) lay) st h k (members_at st g) (get_or (members_at st g) i none) }
+    requires { tables_end fr.now.ol ≤ word_count out.now }
+    ensures { (st : State) (h : types.Held) → Holds fr.now.ol (words_of out.now) st → h.class ≡ class → h.target ≡ reg_of target → joined_of result ≡ at_place (job_in fr.now.job) st h k (members_at st g) (get_or (members_at st g) i none) }
 {
-    let w = place_word(out, ol, g, i as usize);
+    let w = place_word(out, fr.ol, g, i as usize);
     if w == 0 {
-        let class = narrowed_by(job, lay, out, ol, g, k)?;
+        let class = narrowed_by(fr, out, g, k)?;
         return Some(Joined { class, target });
     }
-    let class = shared_class(job, lay, out, ol, class, VirtReg(w - 1))?;
+    let class = shared_class(fr, out, class, VirtReg(w - 1))?;
     Some(Joined { class, target: w })
 }
 
 // The same with the group's number + 1 as m; where m is 0 the operand is not mapped and the candidate stays.
 pub fn in_group(
-    job: &[u8],
-    lay: Layout,
+    fr: &Frame,
     out: &[u8],
-    ol: OutLayout,
     class: RegClass,
     target: u32,
     k: RegClass,
     m: u32,
     i: u32,
 ) -> Option<Joined>
-    requires { Fits (word_count job.now) lay × (tables_end ol ≤ word_count out.now) }
-    ensures { (st : State) (h : types.Held) → Holds ol (words_of out.now) st → h.class ≡ class → h.target ≡ reg_of target → joined_of result ≡ in_group (job_of (words_of job.now) lay) st h k i (group_of m) }
+    requires { tables_end fr.now.ol ≤ word_count out.now }
+    ensures { (st : State) (h : types.Held) → Holds fr.now.ol (words_of out.now) st → h.class ≡ class → h.target ≡ reg_of target → joined_of result ≡ in_group (job_in fr.now.job) st h k i (group_of m) }
 {
     if m == 0 {
         return Some(Joined { class: k, target });
     }
-    at_place(job, lay, out, ol, class, target, k, VirtRegGroup(m - 1), i)
+    at_place(fr, out, class, target, k, VirtRegGroup(m - 1), i)
 }

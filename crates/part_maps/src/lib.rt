@@ -4,16 +4,19 @@
 ghost use Rattle.std.specs.Prelude.{◌≡◌, ◌+◌, ◌<◌};
 ghost use Rattle.std.proofs.Math.Option.{some};
 ghost use Rattle.words.specs.Words.{word_count, words_of};
+ghost use Rattle.layout.specs.JobWords.{words_in};
 ghost use Rattle.definition.specs.Types.{vrgroup};
 ghost use Rattle.definition.specs.Uses.{slot_of};
 ghost use Rattle.definition.specs.Place.{map_one, map_uses, uses_of};
-ghost use Rattle.job.specs.Job.{job_of};
-ghost use Rattle.set_part.specs.Part.{PartOk, part_segs};
-ghost use Rattle.constraints.specs.Ready.{Ready, Backed, HasOperand};
-ghost use Rattle.part_maps.specs.Maps.{slot_given, MapApart, PutAt, Maps, map_use};
+ghost use Rattle.job.specs.Job.{job_in};
+ghost use Rattle.constraints.specs.Ready.{Backed, HasOperand};
+ghost use Rattle.part_maps.specs.Maps.{slot_given, PutAt, Maps, map_use};
+ghost use Rattle.frame.specs.InFrame.{part_segs, PartOk};
+ghost use Rattle.constraints.specs.InFrame.{Ready};
+ghost use Rattle.part_maps.specs.InFrame.{MapApart};
 
 use definition::{Inst, Use, UseKind};
-use layout::Layout;
+use frame::Frame;
 use set_part::SetPart;
 use work_layout::WorkLayout;
 
@@ -50,51 +53,40 @@ fn map_at(work: &mut [u8], wl: WorkLayout, k: usize, g: u32) -> bool
 }
 
 // Maps the operand at an instruction and slot to group g; not if it is mapped. An accepted job has an operand for each of its group uses.
-fn map_operand(
-    job: &[u8],
-    lay: Layout,
-    work: &mut [u8],
-    wl: WorkLayout,
-    p: Inst,
-    slot: u32,
-    g: u32,
-) -> bool
-    requires { Ready (word_count job.now) (word_count work.old) (words_of job.now) (words_of work.old) lay wl × HasOperand (job_of (words_of job.now) lay) p slot × (g < 4294967295) }
-    ensures { Maps (words_of job.now) (words_of work.old) lay wl (map_one p (some slot) (vrgroup g)) result (words_of work.new) }
+fn map_operand(fr: &Frame, work: &mut [u8], p: Inst, slot: u32, g: u32) -> bool
+    requires { Ready fr.now work.old × HasOperand (job_in fr.now.job) p slot × (g < 4294967295) }
+    ensures { Maps (words_in fr.now.job) (words_of work.old) fr.now.job.lay fr.now.wl (map_one p (some slot) (vrgroup g)) result (words_of work.new) }
 {
-    let c = work_layout::chains_in(lay, wl);
-    match operands::find_operand(job, work, c, p, slot) {
-        Some(k) => map_at(work, wl, k, g),
+    let job = &fr.job;
+    let lay = &job.lay;
+    let c = work_layout::chains_in(lay, fr.wl);
+    match operands::find_operand(job.bytes, work, c, p, slot) {
+        Some(k) => map_at(work, fr.wl, k, g),
         None => false,
     }
 }
 
 // Maps the operand of a use, if it is a group use.
-pub fn map_use(job: &[u8], lay: Layout, work: &mut [u8], wl: WorkLayout, u: Use, g: u32) -> bool
-    requires { Ready (word_count job.now) (word_count work.old) (words_of job.now) (words_of work.old) lay wl × Backed (job_of (words_of job.now) lay) u × (g < 4294967295) }
-    ensures { Maps (words_of job.now) (words_of work.old) lay wl (map_use (vrgroup g) u) result (words_of work.new) }
+pub fn map_use(fr: &Frame, work: &mut [u8], u: Use, g: u32) -> bool
+    requires { Ready fr.now work.old × Backed (job_in fr.now.job) u × (g < 4294967295) }
+    ensures { Maps (words_in fr.now.job) (words_of work.old) fr.now.job.lay fr.now.wl (map_use (vrgroup g) u) result (words_of work.new) }
 {
     match group_slot(u.kind) {
-        Some(slot) => map_operand(job, lay, work, wl, u.pos, slot, g),
+        Some(slot) => map_operand(fr, work, u.pos, slot, g),
         None => true,
     }
 }
 
 // "A new group maps every group operand of its register": of a part. Not if one is mapped already.
-pub fn map_part(
-    job: &[u8],
-    lay: Layout,
-    work: &mut [u8],
-    wl: WorkLayout,
-    sp: SetPart,
-    g: u32,
-) -> bool
-    requires { Ready (word_count job.now) (word_count work.old) (words_of job.now) (words_of work.old) lay wl × MapApart lay wl × PartOk (words_of job.now) lay sp × (g < 4294967295) }
-    ensures { Maps (words_of job.now) (words_of work.old) lay wl (map_uses (vrgroup g) (uses_of (part_segs (words_of work.old) wl.marks (words_of job.now) lay sp))) result (words_of work.new) }
+pub fn map_part(fr: &Frame, work: &mut [u8], sp: SetPart, g: u32) -> bool
+    requires { Ready fr.now work.old × MapApart fr.now × PartOk fr.now sp × (g < 4294967295) }
+    ensures { Maps (words_in fr.now.job) (words_of work.old) fr.now.job.lay fr.now.wl (map_uses (vrgroup g) (uses_of (part_segs fr.now work.old sp))) result (words_of work.new) }
 {
+    let job = &fr.job;
+    let wl = &fr.wl;
     for i in sp.first..sp.end {
-        let u = turned::marked_use(job, lay, work, wl.marks, i);
-        if !map_use(job, lay, work, wl, u, g) {
+        let u = turned::marked_use(job, work, wl.marks, i);
+        if !map_use(fr, work, u, g) {
             return false;
         }
     }

@@ -4,23 +4,25 @@
 ghost use Rattle.std.specs.Prelude.{◌≡◌, List, ℕ, ◌+◌, ◌*◌, ◌^◌, ◌≤◌, ◌<◌, length, get_or};
 ghost use Rattle.rows.specs.Parts.{splice};
 ghost use Rattle.words.specs.Words.{word_count, words_of};
+ghost use Rattle.job.specs.Job.{job_in};
 ghost use Rattle.definition.specs.Types.{HeldGroup, Held, Mapped, Piece, State};
 ghost use Rattle.definition.specs.RegInfo.{class_at};
 ghost use Rattle.definition.specs.Admit.{members_at};
 ghost use Rattle.definition.specs.Place.{alone_state, lead_state, join_state, merge_state};
 ghost use Rattle.virt_regs.specs.Encoding.{tables_end, register_words};
 ghost use Rattle.vreg_change.specs.Flat.{Spreadable};
-ghost use Rattle.vreg_weight.specs.Weighed.{job_in, Weighable};
 ghost use Rattle.place.specs.Ready.{Space, Ready, Filled, Left, row_of, one_more, group_more, pieces_more};
+ghost use Rattle.vreg_weight.specs.InFrame.{Weighable};
 
 use definition::{RegClass, ValueSet, VirtReg, VirtRegGroup};
-use layout::Layout;
+use frame::Frame;
 use use_costs::class_data;
-use virt_regs::{Counts, OutLayout, RegisterRow, pieces_of};
+use virt_regs::{Counts, RegisterRow, pieces_of};
 use vreg_change::{add_group, set_member, spread};
 use vreg_weight::{least_weight, weight_of_pieces};
 
 // The row of a register behind those held. Its np pieces with nu uses stand behind the pieces and uses held.
+// The weight is a word and no `WeightBits`, since the row takes any word.
 pub fn add_register(
     out: &mut [u8],
     c: Counts,
@@ -57,12 +59,9 @@ pub fn add_register(
 
 // A register of no group.
 pub fn finish_alone(
-    job: &[u8],
-    lay: Layout,
+    fr: &Frame,
     out: &mut [u8],
-    ol: OutLayout,
     work: &[u8],
-    starts: usize,
     c: Counts,
     set: ValueSet,
     class: RegClass,
@@ -70,22 +69,19 @@ pub fn finish_alone(
     nu: usize,
     hint: bool,
 ) -> Counts
-    requires { Weighable job.now lay work.now starts × (tables_end ol ≤ word_count out.old) × Space ol c np nu }
-    ensures { (result ≡ one_more c np nu) × ((O : List ℕ) (st : State) (ps : List Piece) (h : Held) → Ready (job_in job.now lay) ol O c np nu hint st ps (words_of out.old) → h.class ≡ class
-        → Left ol (words_of out.new) result (alone_state (job_in job.now lay) set h ps st)) }
+    requires { Weighable fr.now work.now × (tables_end fr.now.ol ≤ word_count out.old) × Space fr.now.ol c np nu }
+    ensures { (result ≡ one_more c np nu) × ((O : List ℕ) (st : State) (ps : List Piece) (h : Held) → Ready (job_in fr.now.job) fr.now.ol O c np nu hint st ps (words_of out.old) → h.class ≡ class
+        → Left fr.now.ol (words_of out.new) result (alone_state (job_in fr.now.job) set h ps st)) }
 {
-    let w = weight_of_pieces(job, lay, out, ol, work, starts, c.segs, np, class);
-    add_register(out, c, set, class, w, 0, 0, np, nu, hint)
+    let w = weight_of_pieces(fr, out, work, c.segs, np, class);
+    add_register(out, c, set, class, w.value, 0, 0, np, nu, hint)
 }
 
 // A register that leads a new group, at place `index` of as many as its class says.
 pub fn finish_lead(
-    job: &[u8],
-    lay: Layout,
+    fr: &Frame,
     out: &mut [u8],
-    ol: OutLayout,
     work: &[u8],
-    starts: usize,
     c: Counts,
     set: ValueSet,
     class: RegClass,
@@ -94,19 +90,20 @@ pub fn finish_lead(
     nu: usize,
     hint: bool,
 ) -> Counts
-    requires { Weighable job.now lay work.now starts × (tables_end ol ≤ word_count out.old) × Space ol c np nu × (c.groups < ol.groups) × (c.groups + 1 < 2 ^ 32) × (index < 8) }
-    ensures { (result ≡ group_more (one_more c np nu)) × ((O : List ℕ) (st : State) (ps : List Piece) (h : Held) (hg : HeldGroup) (ms : List Mapped) → Ready (job_in job.now lay) ol O c np nu hint st ps (words_of out.old) → h.class ≡ class
-        → hg.index ≡ index → index < (class_at (job_in job.now lay) class).size → (class_at (job_in job.now lay) class).size ≤ 8
-        → Left ol (words_of out.new) result (lead_state (job_in job.now lay) set h hg ps st ms)) }
+    requires { Weighable fr.now work.now × (tables_end fr.now.ol ≤ word_count out.old) × Space fr.now.ol c np nu × (c.groups < fr.now.ol.groups) × (c.groups + 1 < 2 ^ 32) × (index < 8) }
+    ensures { (result ≡ group_more (one_more c np nu)) × ((O : List ℕ) (st : State) (ps : List Piece) (h : Held) (hg : HeldGroup) (ms : List Mapped) → Ready (job_in fr.now.job) fr.now.ol O c np nu hint st ps (words_of out.old) → h.class ≡ class
+        → hg.index ≡ index → index < (class_at (job_in fr.now.job) class).size → (class_at (job_in fr.now.job) class).size ≤ 8
+        → Left fr.now.ol (words_of out.new) result (lead_state (job_in fr.now.job) set h hg ps st ms)) }
 {
-    let w = weight_of_pieces(job, lay, out, ol, work, starts, c.segs, np, class);
+    let job = &fr.job;
+    let w = weight_of_pieces(fr, out, work, c.segs, np, class);
     let g = c.groups as u32;
     let v = c.regs as u32;
-    let n = add_register(out, c, set, class, w, g + 1, index, np, nu, hint);
-    let data = class_data(job, lay, class);
+    let n = add_register(out, c, set, class, w.value, g + 1, index, np, nu, hint);
+    let data = class_data(job, class);
     add_group(
         out,
-        ol,
+        fr.ol,
         VirtRegGroup(g),
         data.size,
         index as usize,
@@ -120,12 +117,9 @@ pub fn finish_lead(
 
 // A register that joins group g at place `index`. All members get its class and the least of the weights.
 pub fn finish_join(
-    job: &[u8],
-    lay: Layout,
+    fr: &Frame,
     out: &mut [u8],
-    ol: OutLayout,
     work: &[u8],
-    starts: usize,
     c: Counts,
     set: ValueSet,
     class: RegClass,
@@ -135,28 +129,25 @@ pub fn finish_join(
     nu: usize,
     hint: bool,
 ) -> Counts
-    requires { Weighable job.now lay work.now starts × (tables_end ol ≤ word_count out.old) × Space ol c np nu × Spreadable ol g (words_of out.old) × (g.0 + 1 < 2 ^ 32) × (index < 8) }
-    ensures { (result ≡ one_more c np nu) × ((O : List ℕ) (st : State) (ps : List Piece) (h : Held) (hg : HeldGroup) → Ready (job_in job.now lay) ol O c np nu hint st ps (words_of out.old) → h.class ≡ class
+    requires { Weighable fr.now work.now × (tables_end fr.now.ol ≤ word_count out.old) × Space fr.now.ol c np nu × Spreadable fr.now.ol g (words_of out.old) × (g.0 + 1 < 2 ^ 32) × (index < 8) }
+    ensures { (result ≡ one_more c np nu) × ((O : List ℕ) (st : State) (ps : List Piece) (h : Held) (hg : HeldGroup) → Ready (job_in fr.now.job) fr.now.ol O c np nu hint st ps (words_of out.old) → h.class ≡ class
         → hg.index ≡ index → g.0 < length st.groups → index < length (members_at st g)
-        → Left ol (words_of out.new) result (join_state (job_in job.now lay) set h hg g ps st)) }
+        → Left fr.now.ol (words_of out.new) result (join_state (job_in fr.now.job) set h hg g ps st)) }
 {
-    let w = weight_of_pieces(job, lay, out, ol, work, starts, c.segs, np, class);
-    let least = least_weight(out, ol, g, index as usize, w);
+    let w = weight_of_pieces(fr, out, work, c.segs, np, class);
+    let least = least_weight(out, fr.ol, g, index as usize, w).value;
     let v = c.regs as u32;
     let n = add_register(out, c, set, class, least, g.0 + 1, index, np, nu, hint);
-    spread(out, ol, g, class, least);
-    set_member(out, ol, g, index as usize, VirtReg(v));
+    spread(out, fr.ol, g, class, least);
+    set_member(out, fr.ol, g, index as usize, VirtReg(v));
     n
 }
 
 // Pieces that stand among those of register v, at place `index` of group g. All members get the class and the least of the weights.
 pub fn finish_merge(
-    job: &[u8],
-    lay: Layout,
+    fr: &Frame,
     out: &mut [u8],
-    ol: OutLayout,
     work: &[u8],
-    starts: usize,
     c: Counts,
     class: RegClass,
     g: VirtRegGroup,
@@ -165,16 +156,16 @@ pub fn finish_merge(
     np: usize,
     nu: usize,
 ) -> Counts
-    requires weighable { Weighable job.now lay work.now starts × (tables_end ol ≤ word_count out.old) × Spreadable ol g (words_of out.old) × (v.0 < ol.regs) × (c.segs + np < 2 ^ 32) × (c.uses + nu < 2 ^ 32) }
-    requires pieces_room { get_or (words_of out.old) (v.0 * 8 + 6) 0 + get_or (words_of out.old) (v.0 * 8 + 7) 0 ≤ ol.segs }
-    ensures { (result ≡ pieces_more c np nu) × ((st : State) (new : List Piece) (h : Held) (hg : HeldGroup) → Filled (job_in job.now lay) ol c np nu v st new (words_of out.old) → h.class ≡ class
+    requires weighable { Weighable fr.now work.now × (tables_end fr.now.ol ≤ word_count out.old) × Spreadable fr.now.ol g (words_of out.old) × (v.0 < fr.now.ol.regs) × (c.segs + np < 2 ^ 32) × (c.uses + nu < 2 ^ 32) }
+    requires pieces_room { get_or (words_of out.old) (v.0 * 8 + 6) 0 + get_or (words_of out.old) (v.0 * 8 + 7) 0 ≤ fr.now.ol.segs }
+    ensures { (result ≡ pieces_more c np nu) × ((st : State) (new : List Piece) (h : Held) (hg : HeldGroup) → Filled (job_in fr.now.job) fr.now.ol c np nu v st new (words_of out.old) → h.class ≡ class
         → hg.index ≡ index → g.0 < length st.groups
-        → Left ol (words_of out.new) result (merge_state (job_in job.now lay) h hg g v new st)) }
+        → Left fr.now.ol (words_of out.new) result (merge_state (job_in fr.now.job) h hg g v new st)) }
 {
     let s = pieces_of(out, v);
-    let w = weight_of_pieces(job, lay, out, ol, work, starts, s.first, s.count, class);
-    let weight = least_weight(out, ol, g, index as usize, w);
-    spread(out, ol, g, class, weight);
+    let w = weight_of_pieces(fr, out, work, s.first, s.count, class);
+    let weight = least_weight(out, fr.ol, g, index as usize, w).value;
+    spread(out, fr.ol, g, class, weight);
     Counts {
         segs: c.segs + np,
         uses: c.uses + nu,

@@ -1,3 +1,4 @@
 pub mod Turns
 pub mod Laid
 pub mod Built
+pub mod InFrame

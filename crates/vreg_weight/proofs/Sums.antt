@@ -3,7 +3,6 @@ use mathlib.Core.Path.{◌≡◌, refl, sym, ap, ◌∙◌, subst}
 use mathlib.Core.List.{List, ◌∷◌}
 use Prim.Native.Nat.{ℕ, ◌+◌, ◌-◌, ◌*◌, ◌≤◌, ◌<◌}
 use native.Mathlib.Omega.{arith}
-use lib.Dec.{T}
 use lib.ListN.{length, get_or}
 use lib.Ieee.{Float, binary32, of_bits}
 use Rattle.rows.specs.RowsAt.{rows_at, rows_at_start, rows_at_more, rows_at_done, length_rows_at}
@@ -16,7 +15,6 @@ use Rattle.definition.specs.Uses.{cost_of}
 use Rattle.definition.specs.Entry.{insts_of}
 use Rattle.definition.specs.SplitPlacement.{freq_at}
 use Rattle.definition.specs.Weights.{scaled, add_cost, sum_uses}
-use Rattle.floats.specs.Nonneg.{nonneg}
 use Rattle.spill_weight.specs.Costs.{SmallScales}
 use Rattle.function.specs.Blocks.{Starts, block_row, blocks_at, block_of}
 use Rattle.function.specs.BlockLaws.{block_holds, starts_frequency}
@@ -58,17 +56,15 @@ block_finite W K lay at b s h = s.finite b (omega (arith, blocks_long W lay))
 -- ---- the uses behind the first i
 
 pub record Summing (J : Job) (r : Remat) (O : List ℕ) (at n blocks : ℕ) (sum total : Float) (b i : ℕ) : Type 0 where
-  pub right : T (nonneg total)
   pub there : b < blocks
   pub within : i ≤ n
   pub inside : Inside J (uses_at O at n) → Inside J (uses_at O (at + i * 6) (n - i))
   pub is : Inside J (uses_at O at n) → sum_uses J r sum (uses_at O at n) ≡ sum_uses J r total (uses_at O (at + i * 6) (n - i))
 
-pub summing_start : (J : Job) (r : Remat) (O : List ℕ) (at n blocks : ℕ) (sum : Float) → T (nonneg sum) → 0 < blocks → Summing J r O at n blocks sum sum 0 0
+pub summing_start : (J : Job) (r : Remat) (O : List ℕ) (at n blocks : ℕ) (sum : Float) → 0 < blocks → Summing J r O at n blocks sum sum 0 0
 unfolding uses_at
-summing_start J r O at n blocks sum h l =
+summing_start J r O at n blocks sum l =
     record {
-      right = h;
       there = l;
       within = omega arith;
       inside = λ p. subst (λ (us : List Use). Inside J us) (sym (rows_at_start use_row O at 6 n)) p;
@@ -89,21 +85,20 @@ module _ {J : Job} {r : Remat} {O : List ℕ} {at n blocks : ℕ} {sum total : F
   pub summing_next : (K : List ℕ) (starts : ℕ) {u : Use} {b' : ℕ} {x w total' : Float} {o : Options} → i < n → Starts K starts J.blocks → length J.blocks ≡ blocks → o ≡ J.options
       → u ≡ use_row O (at + i * 6)
       → (b' < blocks) × ((cs : List BlockData) → Starts K starts cs → length cs ≡ blocks → u.pos.0 < insts_of cs → b' ≡ block_of cs u.pos.0)
-      → x ≡ cost_of J u.kind → w ≡ of_bits binary32 (get_or K (starts + b' * 2 + 1) 0) → (total' ≡ add_cost total (scaled o r x) w) × T (nonneg total')
+      → x ≡ cost_of J u.kind → w ≡ of_bits binary32 (get_or K (starts + b' * 2 + 1) 0) → total' ≡ add_cost total (scaled o r x) w
       → Summing J r O at n blocks sum total' b' (i + 1)
   unfolding Inside Each sum_uses
   summing_next K starts {u} {b'} {x} {w} {total'} {o} h t l eo eu near ex ew added =
       let go : Inside J (uses_at O at n) → (u.pos.0 < insts_of J.blocks) × Inside J (uses_at O (at + (i + 1) * 6) (n - (i + 1))) =
       λ p. subst (λ (us : List Use). Inside J us) (more O at n i u h eu) (s.inside p) in
       record {
-        right = added.1;
         there = near.0;
         within = omega arith;
         inside = λ p. (go p).1;
         is = λ p.
             let f : w ≡ freq_at J.blocks u.pos.0 = ew ∙ sym (found_frequency K starts blocks b' u.pos.0 J.blocks t l (go p).0 near.1) in
             let a : total' ≡ add_cost total (scaled J.options r (cost_of J u.kind)) (freq_at J.blocks u.pos.0) =
-            added.0
+            added
             ∙ ap (λ (y : Options). add_cost total (scaled y r x) w) eo
             ∙ ap (λ (y : Float). add_cost total (scaled J.options r y) w) ex
             ∙ ap (λ (y : Float). add_cost total (scaled J.options r (cost_of J u.kind)) y) f in
@@ -112,6 +107,6 @@ module _ {J : Job} {r : Remat} {O : List ℕ} {at n blocks : ℕ} {sum total : F
             ∙ ap (λ (y : Float). sum_uses J r y (uses_at O (at + (i + 1) * 6) (n - (i + 1)))) (sym a);
       }
 
-  pub summing_end : n ≤ i → T (nonneg total) × (Inside J (uses_at O at n) → total ≡ sum_uses J r sum (uses_at O at n))
+  pub summing_end : n ≤ i → Inside J (uses_at O at n) → total ≡ sum_uses J r sum (uses_at O at n)
   unfolding uses_at sum_uses
-  summing_end h = (s.right, λ p. sym (s.is p ∙ ap (λ (us : List Use). sum_uses J r total us) (rows_at_done use_row O at 6 n i h)))
+  summing_end h p = sym (s.is p ∙ ap (λ (us : List Use). sum_uses J r total us) (rows_at_done use_row O at 6 n i h))

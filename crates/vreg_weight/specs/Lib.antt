@@ -5,3 +5,5 @@ pub mod Weighed
 pub mod Members
 pub mod Sound
 pub mod Fair
+pub mod InFrame
+pub mod InWeighing

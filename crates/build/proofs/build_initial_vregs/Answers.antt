@@ -7,7 +7,7 @@ use Rattle.build.proofs.Whole.{part_long, part_cleared, answered_whole, shaped_f
 use Rattle.build.proofs.build_initial_vregs.Goals as goal
 
 pub returns-in_default : goal.returns-in_default
-returns-in_default c = answered_as (c.refuse.ensures ∙ ap refused_end c.number_of.ensures) (answered_off _ _ _ _ _ _ _ _ _ _ c.clear.ensures.zeroed c.out_layout-ol.ensures refl c.find_layout.ensures c.in_default.is)
+returns-in_default c = answered_as (c.refuse.ensures ∙ ap refused_end c.number.ensures) (answered_off _ _ _ _ _ _ _ _ _ _ c.clear.ensures.zeroed c.out_layout-ol.ensures refl c.find_layout.ensures c.in_default.is)
 
 pub slice_bounds-build_shaped-end-2 : goal.slice_bounds-build_shaped-end-2
 slice_bounds-build_shaped-end-2 c = sym (part_long (length c.args.out.now) _ _ _ _ _ _ _ _ c.clear.ensures.zeroed c.out_layout-ol.ensures refl c.tables_bytes-end.ensures)

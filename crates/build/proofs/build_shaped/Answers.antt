@@ -3,7 +3,7 @@ use Rattle.build.proofs.Shaped.{answered_as, refused_entry, answered_entry}
 use Rattle.build.proofs.build_shaped.Goals as goal
 
 pub returns-in-Err : goal.returns-in-Err
-returns-in-Err c = answered_as c.refuse.ensures (refused_entry _ _ _ _ _ _ _ c.number_of.ensures c.in-Err.ensures.refused c.requires.2.zeros)
+returns-in-Err c = answered_as c.refuse.ensures (refused_entry _ _ _ _ _ _ _ c.number.ensures c.in-Err.ensures.refused c.requires.2.zeros)
 
 pub build_entered-requires : goal.build_entered-requires
 build_entered-requires c = let p = c.requires in

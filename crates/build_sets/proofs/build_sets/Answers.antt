@@ -7,7 +7,7 @@ pub loop-a-init : goal.loop-a-init
 loop-a-init c = (setting_start _ _ _ _ _ _ _ _ _ c.requires, refl, refl)
 
 pub set_end-b-requires : goal.set_end-b-requires
-set_end-b-requires c = let t = c.loop-a-test.true in ((c.loop-a.invariant.0.onward t).ready.fits, t)
+set_end-b-requires c = c.loop-a-test.true
 
 pub build_set-requires : goal.build_set-requires
 build_set-requires c = let l = c.loop-a in

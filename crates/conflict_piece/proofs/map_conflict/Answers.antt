@@ -10,7 +10,7 @@ loop-i-init c = (run_start _ _ _ _ _ _ _ _, refl)
 pub turned_use-u-requires : goal.turned_use-u-requires
 turned_use-u-requires c = let t = c.loop-i-test.true in
     let o = run_outside _ _ _ _ _ _ _ _ _ _ c.loop-i.invariant.0 in
-    (c.requires.0.fits, omega (arith, t, c.requires.2.within, c.loop-i.invariant.1), known_kept _ _ _ _ o c.requires.1 _ _ _ _ c.requires.2 (omega arith) t)
+    (omega (arith, t, c.requires.2.within, c.loop-i.invariant.1), known_kept _ _ _ _ o c.requires.1 _ _ _ _ c.requires.2 (omega arith) t)
 
 pub map_use-requires : goal.map_use-requires
 map_use-requires c = let o = run_outside _ _ _ _ _ _ _ _ _ _ c.loop-i.invariant.0 in

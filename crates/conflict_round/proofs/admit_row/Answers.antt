@@ -2,7 +2,7 @@ use Rattle.conflict_round.proofs.Trying.{admit_is}
 use Rattle.conflict_round.proofs.admit_row.Goals as goal
 
 pub turned_use-u-requires : goal.turned_use-u-requires
-turned_use-u-requires c = (c.requires.0.fits, c.requires.2, c.requires.3)
+turned_use-u-requires c = (c.requires.2, c.requires.3)
 
 pub admit-requires : goal.admit-requires
 admit-requires c = (c.requires.0, c.requires.1)

@@ -9,7 +9,7 @@ use Rattle.conflict_round.proofs.Trying.{Trying}
 use Rattle.conflict_round.proofs.try_rows.Given as goal
 
 abbrev pub invariant-loop-i : goal.invariant-loop-i
-invariant-loop-i l = Trying (λ st. Stands l.ol (words_of l.out) (words_of l.job) (words_of l.initial.work) l.lay l.wl st) (job_of (words_of l.job) l.lay) (held_of l.initial.held) (word_count l.initial.work) (words_of l.initial.work) l.wl.turned (words_of l.job) l.lay l.a l.b (words_of l.work) l.i l.j (held_of l.held)
+invariant-loop-i l = Trying (λ st. Stands l.fr.ol (words_of l.out) (words_of l.fr.job.bytes.now) (words_of l.initial.work) l.fr.job.lay l.fr.wl st) (job_of (words_of l.fr.job.bytes.now) l.fr.job.lay) (held_of l.initial.held) (word_count l.initial.work) (words_of l.initial.work) l.fr.wl.turned (words_of l.fr.job.bytes.now) l.fr.job.lay l.a l.b (words_of l.work) l.i l.j (held_of l.held)
     × (length l.work ≡ length l.initial.work)
 
 abbrev pub decreases-loop-i : goal.decreases-loop-i

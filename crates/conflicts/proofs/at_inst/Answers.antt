@@ -10,7 +10,7 @@ returns-then-not-one_value c = record { rounded = rounded_none _ _ _ _; ends_as 
 
 pub first_at-x-requires : goal.first_at-x-requires
 first_at-x-requires c = let g = c.requires.0 in
-    (g.ready.fits, omega (arith, g.rows.within, c.requires.1), g.rows.known c.args.a (omega arith) c.requires.1)
+    (omega (arith, g.rows.within, c.requires.1), g.rows.known c.args.a (omega arith) c.requires.1)
 
 pub place_rounds-requires : goal.place_rounds-requires
 place_rounds-requires c = let g = c.requires.0 in

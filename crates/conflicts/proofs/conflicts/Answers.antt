@@ -12,7 +12,7 @@ loop-i-init c = let p = c.requires in
 
 pub run_end-e-requires : goal.run_end-e-requires
 run_end-e-requires c = let l = c.loop-i in
-    (l.invariant.0.given.ready.fits, rows_now c.args.work.now l.work _ _ _ _ _ l.invariant.1 l.invariant.0.given.rows, c.loop-i-test.true)
+    (rows_now c.args.work.now l.work _ _ _ _ _ l.invariant.1 l.invariant.0.given.rows, c.loop-i-test.true)
 
 pub at_inst-requires : goal.at_inst-requires
 at_inst-requires c = let l = c.loop-i in

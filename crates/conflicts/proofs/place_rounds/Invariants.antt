@@ -6,7 +6,7 @@ use Rattle.conflicts.proofs.Rounding.{Rounding}
 use Rattle.conflicts.proofs.place_rounds.Given as goal
 
 abbrev pub invariant-loop-i : goal.invariant-loop-i
-invariant-loop-i l = Rounding (word_count l.job) (word_count l.initial.work) (word_count l.initial.out) (words_of l.job) l.lay l.wl l.ol l.set l.top l.x l.a l.b l.initial.n (words_of l.initial.work) (words_of l.initial.out) (words_of l.work) (words_of l.out) l.i l.n
+invariant-loop-i l = Rounding (word_count l.fr.job.bytes.now) (word_count l.initial.work) (word_count l.initial.out) (words_of l.fr.job.bytes.now) l.fr.job.lay l.fr.wl l.fr.ol l.set l.top l.x l.a l.b l.initial.n (words_of l.initial.work) (words_of l.initial.out) (words_of l.work) (words_of l.out) l.i l.n
     × (length l.work ≡ length l.initial.work)
     × (length l.out ≡ length l.initial.out)
 

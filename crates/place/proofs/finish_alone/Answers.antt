@@ -3,5 +3,5 @@ use Rattle.place.proofs.finish_alone.Goals as goal
 
 pub returns : goal.returns
 returns c = let p = c.add_register.ensures in
-    let w = c.weight_of_pieces-w.ensures in
-    (p.0, λ O st ps h r e. left_alone _ _ O _ _ _ _ _ st ps r c.requires.2 _ _ h _ _ _ w.1 w.0 e p.0 p.1)
+    let w = c.weight_of_pieces-w in
+    (p.0, λ O st ps h r e. left_alone _ _ O _ _ _ _ _ st ps r c.requires.2 _ _ h _ _ _ w.ensures w.result.weighs e p.0 p.1)

@@ -13,9 +13,9 @@ set_member-requires c = (search rules, c.requires.3.here, search rules, omega (a
 
 pub returns : goal.returns
 returns c = let p = c.add_register-n.ensures in
-    let l = c.least_weight-least.ensures in
-    let w = c.weight_of_pieces-w.ensures in (
+    let l = c.least_weight-least in
+    let w = c.weight_of_pieces-w in (
       p.0,
       λ O st ps h hg r ek ei here hi.
-          left_join _ _ O _ _ _ _ _ st ps r c.requires.2 _ _ h hg _ _ _ _ _ _ _ _ w.1 l.1 l.0 ek ei here hi p.0 p.1 c.spread.ensures c.set_member.ensures,
+          left_join _ _ O _ _ _ _ _ st ps r c.requires.2 _ _ h hg _ _ _ _ _ _ _ _ w.ensures l.ensures l.result.weighs ek ei here hi p.0 p.1 c.spread.ensures c.set_member.ensures,
     )

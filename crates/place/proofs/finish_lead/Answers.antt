@@ -15,8 +15,8 @@ overflow_add-result c = let p = c.add_register-n.ensures in
 
 pub returns : goal.returns
 returns c = let p = c.add_register-n.ensures in
-    let w = c.weight_of_pieces-w.ensures in (
+    let w = c.weight_of_pieces-w in (
       ap group_more p.0,
       λ O st ps h hg ms r ek ei hi hs.
-          left_lead _ _ O _ _ _ _ _ st ps r c.requires.2 _ _ h hg ms _ _ _ _ _ _ _ w.1 w.0 ek ei c.requires.3 hi hs p.0 p.1 c.class_data-data.ensures.0 refl c.add_group.ensures,
+          left_lead _ _ O _ _ _ _ _ st ps r c.requires.2 _ _ h hg ms _ _ _ _ _ _ _ w.ensures w.result.weighs ek ei c.requires.3 hi hs p.0 p.1 c.class_data-data.ensures.0 refl c.add_group.ensures,
     )

@@ -9,20 +9,20 @@ use Rattle.place_conflict.proofs.conflict_join.Goals as goal
 pub returns-then-not-has_room : goal.returns-then-not-has_room
 returns-then-not-has_room c = λ st h hg sd ec sane eh ei ig.
     join_full _ _ _ _ _ _ _ st _ h _ _ hg _
-    (asks_full _ _ _ _ _ _ _ _ _ _ _ _ _ _ c.requires.1 c.args.value c.args.param _ _ _ _ c.has_room.ensures c.use_count-nu.ensures c.if-not-has_room.true-raw st ec) refl
+    (asks_full _ _ _ _ _ _ _ _ _ _ _ _ _ _ c.requires.1 c.args.x.value c.args.x.param _ _ _ _ c.has_room.ensures c.use_count-nu.ensures c.if-not-has_room.true-raw st ec) refl
 
 pub write_conflict-requires : goal.write_conflict-requires
 write_conflict-requires c = let k = c.requires.1 in
     let e = c.use_count-nu.ensures in
-    let f = asks_fit _ _ _ _ _ _ _ _ _ _ _ _ _ _ k c.args.value c.args.param _ _ _ _ c.has_room.ensures e c.if-not-has_room.false-raw in
-    let i = asks_inst _ _ _ _ _ _ _ _ _ _ _ _ _ _ k c.args.value c.args.param in
-    record { fits = (k.ready.fits, k.rows, k.long); room = (omega (arith, f.1), omega (arith, e, f.2), omega (arith, e, f.2, k.small.2), omega (arith, i)) }
+    let f = asks_fit _ _ _ _ _ _ _ _ _ _ _ _ _ _ k c.args.x.value c.args.x.param _ _ _ _ c.has_room.ensures e c.if-not-has_room.false-raw in
+    let i = asks_inst _ _ _ _ _ _ _ _ _ _ _ _ _ _ k c.args.x.value c.args.x.param in
+    record { fits = (k.rows, k.long); room = (omega (arith, f.1), omega (arith, e, f.2), omega (arith, e, f.2, k.small.2), omega (arith, i)) }
 
 pub finish_join-n-requires : goal.finish_join-n-requires
 finish_join-n-requires c = let k = c.requires.1 in (
   c.requires.0,
   omega (arith, c.write_conflict, k.long),
-  asks_space _ _ _ _ _ _ _ _ _ _ _ _ _ _ k c.args.value c.args.param _ _ _ c.has_room.ensures c.use_count-nu.ensures c.if-not-has_room.false-raw,
+  asks_space _ _ _ _ _ _ _ _ _ _ _ _ _ _ k c.args.x.value c.args.x.param _ _ _ c.has_room.ensures c.use_count-nu.ensures c.if-not-has_room.false-raw,
   spreadable_written _ _ _ k.st c.args.g _ _ _ _ k.holds (c.write_conflict.ensures _ refl) k.more.0,
   omega (arith, k.more.0, k.holds.fit_groups, k.small.3),
   omega (arith, k.more.1, size_le _ _ k.st k.holds c.args.g k.more.0),
@@ -32,6 +32,6 @@ pub returns : goal.returns
 returns c = let k = c.requires.1 in
     let e = c.use_count-nu.ensures in
     λ st h hg sd ec sane eh ei ig.
-    join_done _ _ _ _ _ _ _ st _ h _ _ hg _ _ _ sd sane (asks_fair _ _ _ _ _ _ _ _ _ _ _ _ _ _ k c.args.value c.args.param)
-    (asks_room _ _ _ _ _ _ _ _ _ _ _ _ _ _ k c.args.value c.args.param _ _ _ _ c.has_room.ensures e c.if-not-has_room.false-raw st ec)
-    (c.finish_join-n.ensures.1 _ st _ h hg (asks_ready _ _ _ _ _ _ _ _ _ _ _ _ _ _ k c.args.value c.args.param _ _ st sd.tables ec (c.write_conflict.ensures _ refl) e) eh ei ig.0 ig.1) refl
+    join_done _ _ _ _ _ _ _ st _ h _ _ hg _ _ _ sd sane (asks_fair _ _ _ _ _ _ _ _ _ _ _ _ _ _ k c.args.x.value c.args.x.param)
+    (asks_room _ _ _ _ _ _ _ _ _ _ _ _ _ _ k c.args.x.value c.args.x.param _ _ _ _ c.has_room.ensures e c.if-not-has_room.false-raw st ec)
+    (c.finish_join-n.ensures.1 _ st _ h hg (asks_ready _ _ _ _ _ _ _ _ _ _ _ _ _ _ k c.args.x.value c.args.x.param _ _ st sd.tables ec (c.write_conflict.ensures _ refl) e) eh ei ig.0 ig.1) refl

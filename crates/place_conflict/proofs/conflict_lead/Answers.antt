@@ -10,48 +10,48 @@ use Rattle.place_conflict.specs.Asks.{asks_fair, asks_inst, asks_groups, asks_fu
 use Rattle.place_conflict.proofs.conflict_lead.Goals as goal
 
 pub overflow_cast-g : goal.overflow_cast-g
-overflow_cast-g c = omega (arith, asks_groups _ _ _ _ _ _ _ _ _ _ _ _ _ _ c.requires.1 c.args.value c.args.param)
+overflow_cast-g c = omega (arith, asks_groups _ _ _ _ _ _ _ _ _ _ _ _ _ _ c.requires.1 c.args.x.value c.args.x.param)
 
 pub map_conflict-requires : goal.map_conflict-requires
 map_conflict-requires c = let k = c.requires.1 in
-    (k.ready, k.apart, k.rows, omega (arith, asks_groups _ _ _ _ _ _ _ _ _ _ _ _ _ _ k c.args.value c.args.param), k.segments)
+    (k.ready, k.apart, k.rows, omega (arith, asks_groups _ _ _ _ _ _ _ _ _ _ _ _ _ _ k c.args.x.value c.args.x.param), k.segments)
 
 pub returns-then-not-map_conflict : goal.returns-then-not-map_conflict
 returns-then-not-map_conflict c = λ st h hg sd ec sane eh ei.
-    lead_stopped _ _ _ _ _ _ _ st _ h _ _ hg _ _ _ (ap (λ (x : Counts). x.groups) ec) (c.map_conflict.ensures c.args.value c.args.pos (param_by c.args.param)) sd.mapped (not-true _ c.if-not-map_conflict.true-raw) refl
+    lead_stopped _ _ _ _ _ _ _ st _ h _ _ hg _ _ _ (ap (λ (x : Counts). x.groups) ec) (c.map_conflict.ensures c.args.x.value c.args.x.pos (param_by c.args.x.param)) sd.mapped (not-true _ c.if-not-map_conflict.true-raw) refl
 
 pub returns-then-not-has_room : goal.returns-then-not-has_room
 returns-then-not-has_room c = λ st h hg sd ec sane eh ei.
-    lead_full _ _ _ _ _ _ _ st _ h _ _ hg _ _ _ (ap (λ (x : Counts). x.groups) ec) (c.map_conflict.ensures c.args.value c.args.pos (param_by c.args.param)) sd.mapped (not-false _ c.if-not-map_conflict.false-raw)
-    (asks_full _ _ _ _ _ _ _ _ _ _ _ _ _ _ c.requires.1 c.args.value c.args.param _ _ _ _ c.has_room.ensures c.use_count-nu.ensures c.if-not-has_room.true-raw st ec) refl
+    lead_full _ _ _ _ _ _ _ st _ h _ _ hg _ _ _ (ap (λ (x : Counts). x.groups) ec) (c.map_conflict.ensures c.args.x.value c.args.x.pos (param_by c.args.x.param)) sd.mapped (not-false _ c.if-not-map_conflict.false-raw)
+    (asks_full _ _ _ _ _ _ _ _ _ _ _ _ _ _ c.requires.1 c.args.x.value c.args.x.param _ _ _ _ c.has_room.ensures c.use_count-nu.ensures c.if-not-has_room.true-raw st ec) refl
 
 pub write_conflict-requires : goal.write_conflict-requires
 write_conflict-requires c = let k = c.requires.1 in
     let e = c.use_count-nu.ensures in
-    let f = asks_fit _ _ _ _ _ _ _ _ _ _ _ _ _ _ k c.args.value c.args.param _ _ _ _ c.has_room.ensures e c.if-not-has_room.false-raw in
-    let i = asks_inst _ _ _ _ _ _ _ _ _ _ _ _ _ _ k c.args.value c.args.param in
-    let o = (c.map_conflict.ensures c.args.value c.args.pos (param_by c.args.param)).outside in
-    record { fits = (k.ready.fits, rows_ok _ _ _ _ o k.apart _ _ _ _ (omega (arith, c.map_conflict)) k.rows, k.long); room = (omega (arith, f.1), omega (arith, e, f.2), omega (arith, e, f.2, k.small.2), omega (arith, i)) }
+    let f = asks_fit _ _ _ _ _ _ _ _ _ _ _ _ _ _ k c.args.x.value c.args.x.param _ _ _ _ c.has_room.ensures e c.if-not-has_room.false-raw in
+    let i = asks_inst _ _ _ _ _ _ _ _ _ _ _ _ _ _ k c.args.x.value c.args.x.param in
+    let o = (c.map_conflict.ensures c.args.x.value c.args.x.pos (param_by c.args.x.param)).outside in
+    record { fits = (rows_ok _ _ _ _ o k.apart _ _ _ _ (omega (arith, c.map_conflict)) k.rows, k.long); room = (omega (arith, f.1), omega (arith, e, f.2), omega (arith, e, f.2, k.small.2), omega (arith, i)) }
 
 pub finish_lead-n-requires : goal.finish_lead-n-requires
 finish_lead-n-requires c = let k = c.requires.1 in
     let e = c.use_count-nu.ensures in
-    let f = asks_fit _ _ _ _ _ _ _ _ _ _ _ _ _ _ k c.args.value c.args.param _ _ _ _ c.has_room.ensures e c.if-not-has_room.false-raw in
-    let o = (c.map_conflict.ensures c.args.value c.args.pos (param_by c.args.param)).outside in (
+    let f = asks_fit _ _ _ _ _ _ _ _ _ _ _ _ _ _ k c.args.x.value c.args.x.param _ _ _ _ c.has_room.ensures e c.if-not-has_room.false-raw in
+    let o = (c.map_conflict.ensures c.args.x.value c.args.x.pos (param_by c.args.x.param)).outside in (
       weighable_kept _ _ _ _ _ _ _ c.requires.0 (ready_kept _ _ _ _ o k.apart _ _ _ k.ready) (omega (arith, c.map_conflict)),
       omega (arith, c.write_conflict, k.long),
-      asks_space _ _ _ _ _ _ _ _ _ _ _ _ _ _ k c.args.value c.args.param _ _ _ c.has_room.ensures e c.if-not-has_room.false-raw,
+      asks_space _ _ _ _ _ _ _ _ _ _ _ _ _ _ k c.args.x.value c.args.x.param _ _ _ c.has_room.ensures e c.if-not-has_room.false-raw,
       omega (arith, f.3),
-      asks_groups _ _ _ _ _ _ _ _ _ _ _ _ _ _ k c.args.value c.args.param,
+      asks_groups _ _ _ _ _ _ _ _ _ _ _ _ _ _ k c.args.x.value c.args.x.param,
       omega (arith, c.requires.2, c.requires.3),
     )
 
 pub returns : goal.returns
 returns c = let k = c.requires.1 in
     let e = c.use_count-nu.ensures in
-    let m = c.map_conflict.ensures c.args.value c.args.pos (param_by c.args.param) in
+    let m = c.map_conflict.ensures c.args.x.value c.args.x.pos (param_by c.args.x.param) in
     λ st h hg sd ec sane eh ei.
-    lead_done _ _ _ _ _ _ _ st _ h _ _ hg _ _ _ (ap (λ (x : Counts). x.groups) ec) m sd.mapped _ (not-false _ c.if-not-map_conflict.false-raw) sane (asks_fair _ _ _ _ _ _ _ _ _ _ _ _ _ _ k c.args.value c.args.param)
-    (asks_room _ _ _ _ _ _ _ _ _ _ _ _ _ _ k c.args.value c.args.param _ _ _ _ c.has_room.ensures e c.if-not-has_room.false-raw st ec)
+    lead_done _ _ _ _ _ _ _ st _ h _ _ hg _ _ _ (ap (λ (x : Counts). x.groups) ec) m sd.mapped _ (not-false _ c.if-not-map_conflict.false-raw) sane (asks_fair _ _ _ _ _ _ _ _ _ _ _ _ _ _ k c.args.x.value c.args.x.param)
+    (asks_room _ _ _ _ _ _ _ _ _ _ _ _ _ _ k c.args.x.value c.args.x.param _ _ _ _ c.has_room.ensures e c.if-not-has_room.false-raw st ec)
     (λ ms.
-    c.finish_lead-n.ensures.1 _ st _ h hg ms (asks_ready _ _ _ _ _ _ _ _ _ _ _ _ _ _ k c.args.value c.args.param _ _ st sd.tables ec (c.write_conflict.ensures _ (rows_kept _ _ _ _ m.outside k.apart _ _ _)) e) eh ei c.requires.2 c.requires.3) refl
+    c.finish_lead-n.ensures.1 _ st _ h hg ms (asks_ready _ _ _ _ _ _ _ _ _ _ _ _ _ _ k c.args.x.value c.args.x.param _ _ st sd.tables ec (c.write_conflict.ensures _ (rows_kept _ _ _ _ m.outside k.apart _ _ _)) e) eh ei c.requires.2 c.requires.3) refl

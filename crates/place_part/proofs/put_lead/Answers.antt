@@ -6,6 +6,9 @@ use Rattle.place_part.proofs.Parts.{not-true, not-false, part_ready, said_at, as
 use Rattle.place_part.proofs.Groups.{asked_index, asked_groups, room_ends_full, room_ends_done}
 use Rattle.place_part.proofs.put_lead.Goals as goal
 
+pub overflow_add-np : goal.overflow_add-np
+overflow_add-np c = omega (arith, c.requires.0.part.within, c.args.fr.now.job.fits.segments, c.args.fr.now.short)
+
 pub overflow_sub-nu : goal.overflow_sub-nu
 overflow_sub-nu c = first_le_end _ _ _ c.requires.0.part
 
@@ -15,7 +18,7 @@ returns-then-not-has_room c = let a = c.requires.0 in
 
 pub write_part-requires : goal.write_part-requires
 write_part-requires c = let a = c.requires.0 in
-    record { fits = (a.ready.fits, a.part, a.ready.marks, a.long); room = asked_write _ _ _ _ _ _ _ _ _ _ _ _ a _ _ c.has_room.ensures (not-false c.has_room.result c.if-not-has_room.false-raw) }
+    record { fits = (a.part, a.ready.marks, a.long); room = asked_write _ _ _ _ _ _ _ _ _ _ _ _ a _ _ c.has_room.ensures (not-false c.has_room.result c.if-not-has_room.false-raw) }
 
 pub finish_lead-n-requires : goal.finish_lead-n-requires
 finish_lead-n-requires c = let p = c.requires in

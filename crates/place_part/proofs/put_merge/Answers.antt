@@ -8,6 +8,9 @@ use Rattle.place_part.proofs.Groups.{room_ends_full, room_ends_done}
 use Rattle.place_part.proofs.Merges.{placed_before, gap_asks, gap_room, part_filled}
 use Rattle.place_part.proofs.put_merge.Goals as goal
 
+pub overflow_add-np : goal.overflow_add-np
+overflow_add-np c = omega (arith, c.requires.0.part.within, c.args.fr.now.job.fits.segments, c.args.fr.now.short)
+
 pub overflow_sub-nu : goal.overflow_sub-nu
 overflow_sub-nu c = first_le_end _ _ _ c.requires.0.part
 
@@ -23,7 +26,7 @@ pub write_part-requires : goal.write_part-requires
 write_part-requires c = let p = c.requires in
     let a = p.0 in
     let here = a.fits.target p.1 _ p.3 in record {
-      fits = (a.ready.fits, a.part, a.ready.marks, omega (arith, a.long, c.open_gaps-gaps));
+      fits = (a.part, a.ready.marks, omega (arith, a.long, c.open_gaps-gaps));
       room = gap_room _ _ _ _ _ _ _ _ _ _ _ _ a _ p.1 p.3 _ p.4 _ c.has_room.ensures (not-false c.has_room.result c.if-not-has_room.false-raw) _ _ _ _
           (c.open_gaps-gaps.ensures a.st a.holds a.counts here (placed_before _ _ _ _ _ _ p.4 a.st a.holds here));
     }

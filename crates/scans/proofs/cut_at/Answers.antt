@@ -5,7 +5,7 @@ use Rattle.scans.proofs.Steps.{by_side}
 use Rattle.scans.proofs.cut_at.Goals as goal
 
 pub cut_side-requires : goal.cut_side-requires
-cut_side-requires c = (c.requires.0.fits, c.requires.1)
+cut_side-requires c = c.requires.1
 
 pub early_at-requires : goal.early_at-requires
 early_at-requires c = let r = c.requires.0 in

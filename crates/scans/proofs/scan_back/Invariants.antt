@@ -6,4 +6,4 @@ use Rattle.scans.proofs.Scanning.{Backward}
 use Rattle.scans.proofs.scan_back.Given as goal
 
 abbrev pub invariant-loop-n : goal.invariant-loop-n
-invariant-loop-n l = Backward (λ st. Stands l.ol (words_of l.out) (words_of l.job) (words_of l.work) l.lay l.wl st) (job_of (words_of l.job) l.lay) (marked_use (words_of l.work) l.wl.marks (words_of l.job) l.lay) l.fn.a l.fn.e l.initial.held l.n l.held
+invariant-loop-n l = Backward (λ st. Stands l.fr.ol (words_of l.out) (words_of l.fr.job.bytes.now) (words_of l.work) l.fr.job.lay l.fr.wl st) (job_of (words_of l.fr.job.bytes.now) l.fr.job.lay) (marked_use (words_of l.work) l.fr.wl.marks (words_of l.fr.job.bytes.now) l.fr.job.lay) l.fn.a l.fn.e l.initial.held l.n l.held

@@ -1,0 +1,8 @@
+-- The same by the frame and the slices that are lent. Assumes nothing.
+use Rattle.std.specs.Prelude.{}
+use Rattle.frame.specs.declared.lent.Frame.{Frame}
+use Rattle.part_maps.specs.Maps as maps
+
+-- the mapping stands apart from the operands' index
+abbrev pub MapApart : Frame → Type 0
+MapApart fr = maps.MapApart fr.job.lay fr.wl

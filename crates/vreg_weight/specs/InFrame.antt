@@ -1,0 +1,8 @@
+-- The same by the frame and the slices that are lent. Assumes nothing.
+use Rattle.std.specs.Prelude.{ℕ, List}
+use Rattle.frame.specs.declared.lent.Frame.{Frame}
+use Rattle.vreg_weight.specs.Weighed as weighed
+
+-- what a weight is made from stands there
+abbrev pub Weighable : Frame → List ℕ → Type 0
+Weighable fr work = weighed.Weighable fr.job.bytes.now fr.job.lay work fr.wl.starts
