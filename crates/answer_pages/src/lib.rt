@@ -26,6 +26,7 @@ fn refused_page(number: u32, cur: Cursor, buf: &mut [u8]) -> Page<Cursor>
 }
 
 // The next page of the sheet of an answer that stands in the tables. Its number is 0 or a refusal's: C reads it so.
+// The buffer has 256 bytes or more, by a clause: an array would refuse a longer one.
 pub fn page(
     end: BuildEnd,
     tables: &[u8],

@@ -5,7 +5,7 @@ use Rattle.std.proofs.Math.Option.{Option, none, some}
 use Rattle.definition.specs.Text.{◌>>=◌, Fields, fields_of, end_field as field_ended, onto_field, read_number}
 use Rattle.numeral.specs.Bytes.{num, take_byte, closed_of, Took}
 use Rattle.numeral.specs.declared.Num.{Num}
-use Rattle.sheet_fields.specs.declared.St.{St}
+use Rattle.sheet_fields.specs.State.{St}
 use Rattle.sheet_form.specs.Front.{Keeping, keep_of}
 use Rattle.agree.specs.Fields.{onward as took_on, take_all, closing, number_field}
 use Rattle.agree.specs.Split.{Seen, gone, at, on, step_l, close_l, run_l as run_s, line_s, step_b, run_b, close_f, field_s}

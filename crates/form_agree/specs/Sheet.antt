@@ -10,11 +10,11 @@ use Rattle.definition.specs.SheetForms.{form_line, is_second, behind_form, secon
 use Rattle.numeral.specs.Bytes.{num, closed_of}
 use Rattle.sheet_rules.specs.Rules.{form_at, low_of, more_after}
 use Rattle.sheet_places.specs.Places.{limit_of, count_at, place_of, tail_at, tail_of}
-use Rattle.sheet_fields.specs.declared.St.{St}
+use Rattle.sheet_fields.specs.State.{St}
 use Rattle.sheet_fields.specs.Fields.{Next, Fed, fed, begin_of, start_of, next_of, byte_of, end_field, close_record}
 use Rattle.sheet.specs.Machine.{on_field, end_line, step_of, on_next, push_of, run_of, open_of, answer_of}
-use Rattle.sheet_form.specs.declared.Front.{Front}
-use Rattle.sheet_form.specs.declared.Front.TheVariants.{Opening, First, Word, Plain, Before, Written}
+use Rattle.sheet_form.specs.Fronts.{Front}
+use Rattle.sheet_form.specs.Fronts.{Opening, First, Word, Plain, Before, Written}
 use Rattle.sheet_form.specs.Front.{stands, opening_of, Keeping, keeping, counts, Formed, onward}
 use Rattle.sheet_form.specs.Front.{push_form, run_form, open_form, second_of, finish_of}
 use Rattle.agree.specs.Words.{Bytes}

@@ -4,8 +4,11 @@
 ghost use Rattle.std.specs.Prelude.{◌≡◌, ◌∷◌, ◌+◌, ◌*◌, ◌≤◌, length, take, drop};
 ghost use Rattle.words.specs.Words.{word_count, words_of};
 ghost use Rattle.definition.specs.SheetForms.{form_line};
+ghost use Rattle.sheet_rules.specs.Kinds.{number_of};
 ghost use Rattle.lines.specs.Wrote.{Wrote};
 ghost use Rattle.job_lines.specs.Rows.{word_text, bits_at, value_text, row_text, more_text, line_text};
+
+use sheet_rules::Kind;
 
 // The words that the records of each kind begin with, in the order of a sheet.
 const WORDS: [&[u8]; 12] = [
@@ -13,24 +16,24 @@ const WORDS: [&[u8]; 12] = [
     b"use", b"end",
 ];
 
-// The word of a kind; what is no kind counts as the end.
+// The word of a kind.
 #[tactic(auto, unfolding(crate::specs::Rows::word_text))]
-fn word(key: u32) -> &'static [u8]
-    ensures is { result.now ≡ word_text key }
+fn word(key: Kind) -> &'static [u8]
+    ensures is { result.now ≡ word_text (number_of key) }
     ensures short { length result.now ≤ 7 }
 {
-    WORDS[key.min(11) as usize]
+    WORDS[key as usize]
 }
 
 // Whether field j of a record is a mask or a float: the scales of opt, mask and cost of a class, the frequency of a block.
 #[tactic(auto, unfolding(crate::specs::Rows::bits_at))]
-fn is_bits(key: u32, j: usize) -> bool
-    ensures { result ≡ bits_at key j }
+fn is_bits(key: Kind, j: usize) -> bool
+    ensures { result ≡ bits_at (number_of key) j }
 {
     match key {
-        0 => 0 < j,
-        2 => j < 2,
-        4 => j == 1,
+        Kind::Opt => 0 < j,
+        Kind::Class => j < 2,
+        Kind::Block => j == 1,
         _ => false,
     }
 }
@@ -48,9 +51,9 @@ fn put_value(out: &mut [u8], at: usize, bits: bool, v: u32) -> usize
 }
 
 // The fields of a record: n words from word a on, each behind a tab.
-fn put_row(out: &mut [u8], at: usize, key: u32, table: &[u8], a: usize, n: usize) -> usize
+fn put_row(out: &mut [u8], at: usize, key: Kind, table: &[u8], a: usize, n: usize) -> usize
     requires { (at + n * 21 ≤ length out.old) × (a + n ≤ word_count table.now) }
-    ensures { Wrote (n * 21) at out.old result out.new (row_text key (take n (drop a (words_of table.now)))) }
+    ensures { Wrote (n * 21) at out.old result out.new (row_text (number_of key) (take n (drop a (words_of table.now)))) }
 {
     let mut end = at;
     for j in 0..n {
@@ -77,14 +80,14 @@ fn put_tail(out: &mut [u8], at: usize, more: Option<u32>) -> usize
 pub fn put_record(
     out: &mut [u8],
     at: usize,
-    key: u32,
+    key: Kind,
     table: &[u8],
     a: usize,
     n: usize,
     more: Option<u32>,
 ) -> usize
     requires { (at + 248 ≤ length out.old) × (a + n ≤ word_count table.now) × (n ≤ 8) }
-    ensures { Wrote (248) at out.old result out.new (line_text key (take n (drop a (words_of table.now))) more) }
+    ensures { Wrote (248) at out.old result out.new (line_text (number_of key) (take n (drop a (words_of table.now))) more) }
 {
     let w = lines::put_bytes(out, at, word(key));
     let end = put_row(out, w, key, table, a, n);

@@ -9,7 +9,7 @@ use lib.Dec.{eqb}
 use lib.ListN.{length}
 use lib.Seq.{length-take-le}
 use Rattle.words.specs.Words.{words_of}
-use Rattle.job_pages.specs.declared.Cursor.{Cursor}
+use Rattle.job_pages.specs.Cursors.{Cursor}
 use Rattle.lines.specs.declared.Page.{Page}
 use Rattle.job_pages.specs.Cursors.{steps_left}
 use Rattle.job_pages.specs.Pages.{Shows, Goes, Stepped, Filled}

@@ -1,12 +1,46 @@
 -- The cursor in a table of job records: what it stands at, and where it goes. Assumes nothing.
-use Rattle.std.specs.Prelude.{Bool, true, cond, ◌||◌, List, [], ℕ, ◌+◌, ◌-◌, ◌*◌, ltb, eqb, get_or, Option, Some, None}
+use Rattle.std.specs.Prelude.{◌≡◌, refl, Bool, true, false, cond, ◌||◌, List, [], ℕ, ◌+◌, ◌-◌, ◌*◌, ltb, eqb, get_or, Option, Some, None, is_some}
 use Rattle.definition.specs.Types.{Job, val}
 use Rattle.definition.specs.RegInfo.{set_of}
 use Rattle.definition.specs.SheetForms.{form_line}
 use Rattle.sheet_places.specs.Places.{stored_of}
 use Rattle.sheet_job.specs.Segments.{next_first}
 use Rattle.register_sheet.specs.Typed.{use_length}
-use Rattle.job_pages.specs.declared.Cursor.{Cursor}
+use Rattle.sheet_rules.specs.declared.Kind.{Kind}
+use Rattle.sheet_rules.specs.declared.Kind.TheVariants.{Opt, Bank, Class, Reg, Block, Value, Vgroup, Operand, Hint, Seg, Use, End}
+use Rattle.sheet_rules.specs.Kinds.{key_number}
+use Rattle.job_pages.specs.declared.Cursor.{Cursor as Held}
+
+-- a cursor with its kind as a number, 12 behind the end
+pub record Cursor : Type 0 where
+  pub key : ℕ
+  pub row : ℕ
+  pub segs : ℕ
+  pub uses : ℕ
+  pub insts : ℕ
+
+abbrev pub cursor_of : Held → Cursor
+cursor_of c = record { key = key_number c.key; row = c.row; segs = c.segs; uses = c.uses; insts = c.insts }
+
+-- a kind's number is not 12
+pub some_key : (k : Option Kind) → is_some k ≡ true → eqb (key_number k) 12 ≡ false
+some_key None e = cc
+some_key (Some Opt) e = refl
+some_key (Some Bank) e = refl
+some_key (Some Class) e = refl
+some_key (Some Reg) e = refl
+some_key (Some Block) e = refl
+some_key (Some Value) e = refl
+some_key (Some Vgroup) e = refl
+some_key (Some Operand) e = refl
+some_key (Some Hint) e = refl
+some_key (Some Seg) e = refl
+some_key (Some Use) e = refl
+some_key (Some End) e = refl
+
+pub none_key : (k : Option Kind) → is_some k ≡ false → key_number k ≡ 12
+none_key None e = refl
+none_key (Some k) e = cc
 
 abbrev pub cursor : ℕ → ℕ → ℕ → ℕ → ℕ → Cursor
 cursor k r s u n = record { key = k; row = r; segs = s; uses = u; insts = n }

@@ -28,7 +28,7 @@ use Rattle.lines.specs.Wrote.{Wrote}
 use Rattle.lines.specs.Laws.{then}
 use Rattle.job_lines.specs.Rows.{line_text}
 use Rattle.job_lines.specs.Records.{written, fields_in, line_record}
-use Rattle.job_pages.specs.declared.Cursor.{Cursor}
+use Rattle.job_pages.specs.Cursors.{Cursor}
 use Rattle.job_pages.specs.Cursors.{shown_row, rows_in, has_row, passed_on, field_count, first_field, written_by}
 use Rattle.job_pages.specs.Cursors.{front_text, behind_row, steps_left}
 use Rattle.job_pages.specs.Left.{insts_in, Going, Over, Left, in_form, text_left}

@@ -4,9 +4,9 @@ use Rattle.words.specs.Words.{word_count, words_of}
 use Rattle.definition.specs.Types.{Job}
 use Rattle.definition.specs.JobSheet.{Record}
 use Rattle.sheet_places.specs.Places.{table_words}
-use Rattle.job_pages.specs.declared.Cursor.{Cursor}
+use Rattle.job_pages.specs.declared.Cursor.{Cursor as Held}
 use Rattle.lines.specs.declared.Page.{Page}
-use Rattle.job_pages.specs.Cursors.{steps_left}
+use Rattle.job_pages.specs.Cursors.{Cursor, cursor_of, steps_left}
 use Rattle.job_pages.specs.Left.{Left, text_left}
 
 -- the table of the bytes x has some records left at the cursor
@@ -28,6 +28,10 @@ pub record Went (second : Bool) (T : List ℕ) (job : Job) (c : Cursor) (rs : Li
 abbrev pub Goes : Bool → List ℕ → Cursor → ℕ → List ℕ → Cursor → ℕ → List ℕ → Type 0
 Goes second T c k B c' n B' =
     (job : Job) (rs : List Record) → Left T job c rs → Went second T job c rs k B c' n B'
+
+-- a page whose cursor has its kind as a number
+abbrev pub page_at : Page Held → Page Cursor
+page_at p = record { cur = cursor_of p.cur; n = p.n }
 
 -- a line, or none, is written behind the first `at` bytes
 pub record Stepped (second : Bool) (T : List ℕ) (c : Cursor) (at : ℕ) (B : List ℕ) (r : Page Cursor) (B' : List ℕ) :

@@ -5,20 +5,21 @@ ghost use Rattle.std.specs.Prelude.{◌≡◌, true, false, ◌+◌, ◌^◌, �
 ghost use Rattle.words.specs.Words.{word_count, words_of};
 ghost use Rattle.definition.specs.Types.{Job};
 ghost use Rattle.coalescing.specs.Rows.{values_at};
+ghost use Rattle.sheet_rules.specs.Kinds.{number_of};
 ghost use Rattle.sheet_places.specs.Places.{table_words, row_at};
 ghost use Rattle.sheet_job.specs.Segments.{next_first};
 ghost use Rattle.lines.specs.Wrote.{Wrote};
-ghost use Rattle.job_pages.specs.Cursors.{at_start, shown_row, rows_in, has_row, passed_on, field_count, first_field, behind_row, written_by, front_text};
-ghost use Rattle.job_pages.specs.Pages.{Shows, Stepped, Filled};
+ghost use Rattle.job_pages.specs.Cursors.{cursor_of, at_start, shown_row, rows_in, has_row, passed_on, field_count, first_field, behind_row, written_by, front_text};
+ghost use Rattle.job_pages.specs.Pages.{page_at, Shows, Stepped, Filled};
 
 use definition::Value;
 use lines::Page;
+use sheet_rules::Kind;
 
-// The kind of record that comes next, by its number, or 12 behind the end; how many rows of this kind, how many segments and how many uses are printed; how many instructions the printed blocks have.
-// A kind stays a number: it is what sheet_places finds a kind's rows by.
-#[derive(Clone, Copy, Default)]
+// The kind of record that comes next, or none behind the end; how many rows of this kind, how many segments and how many uses are printed; how many instructions the printed blocks have.
+#[derive(Clone, Copy)]
 pub struct Cursor {
-    pub key: u32,
+    pub key: Option<Kind>,
     pub row: usize,
     pub segs: usize,
     pub uses: usize,
@@ -27,27 +28,33 @@ pub struct Cursor {
 
 // Before the first line.
 pub fn start() -> Cursor
-    ensures { result ≡ at_start }
+    ensures { cursor_of result ≡ at_start }
 {
-    Cursor::default()
+    Cursor {
+        key: Some(Kind::Opt),
+        row: 0,
+        segs: 0,
+        uses: 0,
+        insts: 0,
+    }
 }
 
 // The row of its kind's table that the cursor stands at.
 #[tactic(auto, unfolding(crate::specs::Cursors::shown_row))]
 fn shown(cur: Cursor) -> usize
-    ensures { result ≡ shown_row cur }
+    ensures { result ≡ shown_row (cursor_of cur) }
 {
     match cur.key {
-        9 => cur.segs,
-        10 => cur.uses,
+        Some(Kind::Seg) => cur.segs,
+        Some(Kind::Use) => cur.uses,
         _ => cur.row,
     }
 }
 
 // How many records of a kind the table has.
-fn count(table: &[u8], key: u32) -> usize
-    requires { (word_count table.now ≡ table_words) × (1 ≤ key) × (key ≤ 10) }
-    ensures { result ≡ rows_in (words_of table.now) key }
+fn count(table: &[u8], key: Kind) -> usize
+    requires { (word_count table.now ≡ table_words) × (1 ≤ number_of key) × (number_of key ≤ 10) }
+    ensures { result ≡ rows_in (words_of table.now) (number_of key) }
 {
     words::word_at(table, key as usize - 1) as usize
 }
@@ -58,10 +65,10 @@ fn uses_end(table: &[u8], s: usize) -> usize
     requires { (word_count table.now ≡ table_words) × (s ≤ 1024) }
     ensures { result ≡ next_first (words_of table.now) s }
 {
-    if s < count(table, 9) {
+    if s < count(table, Kind::Seg) {
         words::word_at(table, 13974 + s * 5 + 4) as usize
     } else {
-        count(table, 10)
+        count(table, Kind::Use)
     }
 }
 
@@ -69,64 +76,78 @@ fn uses_end(table: &[u8], s: usize) -> usize
 #[tactic(auto, unfolding(crate::specs::Cursors::has_row))]
 fn has_row(table: &[u8], cur: Cursor) -> bool
     requires { (word_count table.now ≡ table_words) × (cur.segs ≤ 1024) }
-    ensures { result ≡ has_row (words_of table.now) cur }
+    ensures { result ≡ has_row (words_of table.now) (cursor_of cur) }
 {
     match cur.key {
-        0 | 11.. => true,
-        10 => cur.uses < uses_end(table, cur.segs),
-        key => shown(cur) < count(table, key),
+        None | Some(Kind::Opt | Kind::End) => true,
+        Some(Kind::Use) => cur.uses < uses_end(table, cur.segs),
+        Some(key) => shown(cur) < count(table, key),
     }
 }
 
 // The next kind; behind the uses of a segment come segments again, and behind all of these the end.
 #[tactic(auto, unfolding(crate::specs::Cursors::passed_on))]
 fn pass(cur: Cursor) -> Cursor
-    requires { cur.key ≤ 10 }
-    ensures { result ≡ passed_on cur }
+    requires { (cursor_of cur).key ≤ 10 }
+    ensures { cursor_of result ≡ passed_on (cursor_of cur) }
 {
     let key = match cur.key {
-        10 => 9,
-        9 => 11,
-        key => key + 1,
+        Some(Kind::Opt) => Kind::Bank,
+        Some(Kind::Bank) => Kind::Class,
+        Some(Kind::Class) => Kind::Reg,
+        Some(Kind::Reg) => Kind::Block,
+        Some(Kind::Block) => Kind::Value,
+        Some(Kind::Value) => Kind::Vgroup,
+        Some(Kind::Vgroup) => Kind::Operand,
+        Some(Kind::Operand) => Kind::Hint,
+        Some(Kind::Hint | Kind::Use) => Kind::Seg,
+        Some(Kind::Seg | Kind::End) | None => Kind::End,
     };
-    Cursor { key, row: 0, ..cur }
+    Cursor {
+        key: Some(key),
+        row: 0,
+        ..cur
+    }
 }
 
 // How many fields the record has whose row begins at word w.
 #[tactic(auto, unfolding(crate::specs::Cursors::field_count))]
-fn fields(table: &[u8], key: u32, w: usize) -> usize
-    requires { (eqb key 6 ≡ true → w < word_count table.now) × (eqb key 10 ≡ true → (w < word_count table.now) × (get_or (words_of table.now) w 0 < 10)) }
-    ensures { result ≡ field_count (words_of table.now) key w }
+fn fields(table: &[u8], key: Kind, w: usize) -> usize
+    requires { (eqb (number_of key) 6 ≡ true → w < word_count table.now) × (eqb (number_of key) 10 ≡ true → (w < word_count table.now) × (get_or (words_of table.now) w 0 < 10)) }
+    ensures { result ≡ field_count (words_of table.now) (number_of key) w }
 {
     match key {
-        6 => words::word_at(table, w) as usize,
-        10 => register_sheet::use_length(words::word_at(table, w)),
-        _ => sheet_places::stored(key) as usize,
+        Kind::Vgroup => words::word_at(table, w) as usize,
+        Kind::Use => register_sheet::use_length(words::word_at(table, w)),
+        _ => sheet_places::stored(Some(key)) as usize,
     }
 }
 
 // The word of its first field: a vgroup's row begins with the number of its members.
 #[tactic(auto, unfolding(crate::specs::Cursors::first_field))]
-fn first_field(key: u32, w: usize) -> usize
+fn first_field(key: Kind, w: usize) -> usize
     requires { w < 2 ^ 32 }
-    ensures { result ≡ first_field key w }
+    ensures { result ≡ first_field (number_of key) w }
 {
-    if key == 6 { w + 1 } else { w }
+    match key {
+        Kind::Vgroup => w + 1,
+        _ => w,
+    }
 }
 
 // The field that the second form has behind a record: the first instruction of a block, the set of a segment.
 #[tactic(auto, unfolding(crate::specs::Cursors::written_by))]
 fn written(second: bool, table: &[u8], cur: Cursor, w: usize) -> Option<u32>
-    requires { (word_count table.now ≡ table_words) × (rows_in (words_of table.now) 5 ≤ 1024) × (eqb cur.key 9 ≡ true → w < table_words) }
-    ensures { (job : Job) → job.values ≡ values_at (words_of table.now) 1430 (rows_in (words_of table.now) 5) → result ≡ written_by second (words_of table.now) job cur w }
+    requires { (word_count table.now ≡ table_words) × (rows_in (words_of table.now) 5 ≤ 1024) × (eqb (cursor_of cur).key 9 ≡ true → w < table_words) }
+    ensures { (job : Job) → job.values ≡ values_at (words_of table.now) 1430 (rows_in (words_of table.now) 5) → result ≡ written_by second (words_of table.now) job (cursor_of cur) w }
 {
     if !second {
         return None;
     }
     match cur.key {
-        4 => Some(cur.insts),
-        9 => {
-            let n = count(table, 5);
+        Some(Kind::Block) => Some(cur.insts),
+        Some(Kind::Seg) => {
+            let n = count(table, Kind::Value);
             let v = Value(words::word_at(table, w));
             let set = coalescing::set_for_value(table, 1430, n, v);
             Some(set.0)
@@ -137,11 +158,11 @@ fn written(second: bool, table: &[u8], cur: Cursor, w: usize) -> Option<u32>
 
 // The line of the form, before opt in the second form.
 #[tactic(auto, unfolding(crate::specs::Cursors::front_text))]
-fn open(second: bool, key: u32, buf: &mut [u8], at: usize) -> usize
+fn open(second: bool, key: Kind, buf: &mut [u8], at: usize) -> usize
     requires { at + 7 ≤ length buf.old }
-    ensures { Wrote (7) at buf.old result buf.new (front_text second key) }
+    ensures { Wrote (7) at buf.old result buf.new (front_text second (number_of key)) }
 {
-    if second && key == 0 {
+    if second && matches!(key, Kind::Opt) {
         job_lines::put_form(buf, at)
     } else {
         at
@@ -151,30 +172,30 @@ fn open(second: bool, key: u32, buf: &mut [u8], at: usize) -> usize
 // Behind the record whose row begins at word w.
 #[tactic(auto, unfolding(crate::specs::Cursors::behind_row))]
 fn behind(table: &[u8], cur: Cursor, w: usize) -> Cursor
-    requires { (cur.key ≤ 11) × (cur.row < 2 ^ 32) × (cur.segs < 2 ^ 32) × (cur.uses < 2 ^ 32) × (eqb cur.key 4 ≡ true → (w < word_count table.now) × (cur.insts + get_or (words_of table.now) w 0 < 2 ^ 32)) }
-    ensures { result ≡ behind_row (words_of table.now) cur w }
+    requires { ((cursor_of cur).key ≤ 11) × (cur.row < 2 ^ 32) × (cur.segs < 2 ^ 32) × (cur.uses < 2 ^ 32) × (eqb (cursor_of cur).key 4 ≡ true → (w < word_count table.now) × (cur.insts + get_or (words_of table.now) w 0 < 2 ^ 32)) }
+    ensures { cursor_of result ≡ behind_row (words_of table.now) (cursor_of cur) w }
 {
     match cur.key {
-        0 => Cursor {
-            key: 1,
+        Some(Kind::Opt) => Cursor {
+            key: Some(Kind::Bank),
             row: 0,
             ..cur
         },
-        4 => Cursor {
+        Some(Kind::Block) => Cursor {
             insts: cur.insts + words::word_at(table, w),
             row: cur.row + 1,
             ..cur
         },
-        9 => Cursor {
-            key: 10,
+        Some(Kind::Seg) => Cursor {
+            key: Some(Kind::Use),
             segs: cur.segs + 1,
             ..cur
         },
-        10 => Cursor {
+        Some(Kind::Use) => Cursor {
             uses: cur.uses + 1,
             ..cur
         },
-        11 => Cursor { key: 12, ..cur },
+        Some(Kind::End) => Cursor { key: None, ..cur },
         _ => Cursor {
             row: cur.row + 1,
             ..cur
@@ -184,10 +205,10 @@ fn behind(table: &[u8], cur: Cursor, w: usize) -> Cursor
 
 // The line of the record that the cursor stands at.
 fn next_line(second: bool, table: &[u8], cur: Cursor, buf: &mut [u8], at: usize) -> Page<Cursor>
-    requires { Shows table.now cur × (eqb cur.key 12 ≡ false) × (has_row (words_of table.now) cur ≡ true) × (at + 256 ≤ length buf.old) }
-    ensures { Stepped second (words_of table.now) cur at buf.old result buf.new }
+    requires { Shows table.now (cursor_of cur) × (eqb (cursor_of cur).key 12 ≡ false) × (has_row (words_of table.now) (cursor_of cur) ≡ true) × (at + 256 ≤ length buf.old) }
+    ensures { Stepped second (words_of table.now) (cursor_of cur) at buf.old (page_at result) buf.new }
 {
-    let key = cur.key;
+    let Some(key) = cur.key else { unreachable!() };
     let w = sheet_places::row_at(key, shown(cur) as u32);
     let n = fields(table, key, w);
     let a = first_field(key, w);
@@ -202,8 +223,8 @@ fn next_line(second: bool, table: &[u8], cur: Cursor, buf: &mut [u8], at: usize)
 
 // The next line, behind the first `at` bytes of the buffer; or nothing, where no record of this kind is left.
 fn put_next(second: bool, table: &[u8], cur: Cursor, buf: &mut [u8], at: usize) -> Page<Cursor>
-    requires { Shows table.now cur × (eqb cur.key 12 ≡ false) × (at + 256 ≤ length buf.old) }
-    ensures { Stepped second (words_of table.now) cur at buf.old result buf.new }
+    requires { Shows table.now (cursor_of cur) × (eqb (cursor_of cur).key 12 ≡ false) × (at + 256 ≤ length buf.old) }
+    ensures { Stepped second (words_of table.now) (cursor_of cur) at buf.old (page_at result) buf.new }
 {
     if has_row(table, cur) {
         next_line(second, table, cur, buf, at)
@@ -216,12 +237,13 @@ fn put_next(second: bool, table: &[u8], cur: Cursor, buf: &mut [u8], at: usize) 
 }
 
 // A page: lines from the cursor on, as long as the buffer has room for any line.
+// That the table holds what the cursor shows is a clause: a cursor is a value, and the table comes with each call.
 pub fn fill(second: bool, table: &[u8], cur: Cursor, buf: &mut [u8]) -> Page<Cursor>
-    requires { Shows table.now cur }
-    ensures { Filled second table.now cur result buf.new }
+    requires { Shows table.now (cursor_of cur) }
+    ensures { Filled second table.now (cursor_of cur) (page_at result) buf.new }
 {
     let mut page = Page { cur, n: 0 };
-    while page.n + 256 <= buf.len() && page.cur.key != 12 {
+    while page.n + 256 <= buf.len() && page.cur.key.is_some() {
         page = put_next(second, table, page.cur, buf, page.n);
     }
     page

@@ -51,6 +51,7 @@ fn put_tab(out: &mut [u8], at: usize) -> usize
 }
 
 // A tab and a number.
+// Room behind `at` is a clause, here and in all that writes lines, and no type: each call leaves less of it.
 pub fn put_field(out: &mut [u8], at: usize, v: u32) -> usize
     requires { at + 21 ≤ length out.old }
     ensures { Wrote (21) at out.old result out.new (9 ∷ decimal v) }

@@ -6,6 +6,8 @@ ghost use Rattle.std.specs.Prelude.{◌≡◌, List, [], ◌∷◌, ◌++◌, �
 ghost use Rattle.lines.specs.Wrote.{Wrote};
 ghost use Rattle.register_sheet.specs.Typed.{use_length, use_numbers_line, vreg_head, vreg_tail, origin_end, vreg_line, seg_line, use_line, group_line, end_line, refused_line};
 
+use definition::Origin;
+
 fn vreg_head(out: &mut [u8], at: usize, n: u32, set: u32, class: u32, weight: u32) -> usize
     requires { at + 90 ≤ length out.old }
     ensures { Wrote (84) at out.old result out.new (vreg_head n set class weight) }
@@ -45,18 +47,19 @@ pub fn put_vreg(
     vreg_tail(out, a, group, index, hint)
 }
 
+// The end of a piece's line.
 fn put_origin(out: &mut [u8], at: usize, origin: u32) -> usize
     requires { at + 10 ≤ length out.old }
     ensures { Wrote (10) at out.old result out.new (origin_end origin) }
 {
-    if origin == 1 {
+    if origin == Origin::Conflict as u32 {
         lines::put_bytes(out, at, b"\tconflict\n")
     } else {
         lines::put_bytes(out, at, b"\town\n")
     }
 }
 
-// A piece: the origin is a conflict if it is 1.
+// A piece: its origin is the number of an Origin, own if it is none.
 pub fn put_seg(
     out: &mut [u8],
     at: usize,

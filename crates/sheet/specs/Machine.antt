@@ -1,6 +1,6 @@
 -- The reader as a machine: lines, parts of a sheet, its start and its end. Assumes nothing.
 use Rattle.std.specs.Prelude.{List, [], ◌∷◌, false, cond, ℕ, replicate, eqb, None, Some, Result, Ok, Err, ⊤}
-use Rattle.sheet_fields.specs.declared.St.{St}
+use Rattle.sheet_fields.specs.State.{St}
 use Rattle.sheet_fields.specs.Fields.{Next, Fed, fed, begin_of, byte_of, end_field, close_record}
 use Rattle.sheet.specs.declared.SheetError.{SheetError}
 use Rattle.sheet.specs.declared.SheetError.TheVariants.{Malformed, TooMany}

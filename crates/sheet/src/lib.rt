@@ -3,10 +3,12 @@
 
 ghost use Rattle.std.specs.Prelude.{◌≡◌, ℕ, ◌+◌, ◌-◌, ◌*◌, ◌≤◌, ◌<◌};
 ghost use Rattle.words.specs.Words.{word_count, words_of};
+ghost use Rattle.sheet_fields.specs.State.{state_of, next_in};
 ghost use Rattle.sheet_fields.specs.Fields.{fed};
 ghost use Rattle.sheet.specs.Machine.{end_line, step_of, push_of, run_of, open_of, ended_of, answer_of};
 
 use sheet_fields::St;
+use sheet_rules::Kind;
 
 // Why a sheet is not a job's: it is none (number 1), or has more records of a kind than its limit (number 2).
 #[derive(Clone, Copy, PartialEq, Eq)]
@@ -17,15 +19,17 @@ pub enum SheetError {
 
 #[tactic(auto, unfolding(crate::specs::Machine::end_line))]
 fn end_line(s: St, out: &mut [u8]) -> Option<St>
-    ensures { fed result (words_of out.new) ≡ end_line s (words_of out.old) }
+    ensures { fed (next_in result) (words_of out.new) ≡ end_line (state_of s) (words_of out.old) }
 {
     let t = sheet_fields::end_field(s, out)?;
     sheet_fields::close_record(t, out)
 }
 
+// A byte. It and `push` are inlined: `feed` calls them for each byte, and the state goes by value.
 #[tactic(auto, unfolding(crate::specs::Machine::step_of))]
+#[inline(always)]
 fn step(s: St, b: u8, out: &mut [u8]) -> Option<St>
-    ensures { fed result (words_of out.new) ≡ step_of s b (words_of out.old) }
+    ensures { fed (next_in result) (words_of out.new) ≡ step_of (state_of s) b (words_of out.old) }
 {
     match b {
         b'\n' => end_line(s, out),
@@ -35,8 +39,9 @@ fn step(s: St, b: u8, out: &mut [u8]) -> Option<St>
 }
 
 #[tactic(auto, unfolding(crate::specs::Machine::push_of))]
+#[inline(always)]
 pub fn push(cur: Option<St>, b: u8, out: &mut [u8]) -> Option<St>
-    ensures { fed result (words_of out.new) ≡ push_of (fed cur (words_of out.old)) b }
+    ensures { fed (next_in result) (words_of out.new) ≡ push_of (fed (next_in cur) (words_of out.old)) b }
 {
     step(cur?, b, out)
 }
@@ -44,16 +49,16 @@ pub fn push(cur: Option<St>, b: u8, out: &mut [u8]) -> Option<St>
 // The start of a sheet: a table of zeros.
 #[tactic(auto, unfolding(crate::specs::Machine::open_of))]
 pub fn open(out: &mut [u8]) -> Option<St>
-    ensures { fed result (words_of out.new) ≡ open_of (word_count out.old) }
+    ensures { fed (next_in result) (words_of out.new) ≡ open_of (word_count out.old) }
 {
     cells::clear(out);
-    Some(sheet_fields::begin(12, false))
+    Some(sheet_fields::begin(None, false))
 }
 
 // Goes on over one more part of the sheet.
 #[tactic(auto, unfolding(crate::specs::Machine::run_of))]
 pub fn feed(cur: Option<St>, part: &[u8], out: &mut [u8]) -> Option<St>
-    ensures { fed result (words_of out.new) ≡ run_of (fed cur (words_of out.old)) part.now }
+    ensures { fed (next_in result) (words_of out.new) ≡ run_of (fed (next_in cur) (words_of out.old)) part.now }
 {
     let mut at = cur;
     for b in part {
@@ -64,9 +69,9 @@ pub fn feed(cur: Option<St>, part: &[u8], out: &mut [u8]) -> Option<St>
 
 #[tactic(auto, unfolding(crate::specs::Machine::ended_of))]
 fn ended(s: St) -> Result<(), SheetError>
-    ensures { result ≡ ended_of s }
+    ensures { result ≡ ended_of (state_of s) }
 {
-    if s.prev != 11 || s.n != 0 || s.len != 0 {
+    if !matches!(s.prev, Some(Kind::End)) || s.n != 0 || s.len != 0 {
         return Err(SheetError::Malformed);
     }
     if s.over {
@@ -78,7 +83,7 @@ fn ended(s: St) -> Result<(), SheetError>
 // The end of the sheet: whether it is a job's.
 #[tactic(auto, unfolding(crate::specs::Machine::answer_of))]
 pub fn finish(cur: Option<St>) -> Result<(), SheetError>
-    ensures { result ≡ answer_of cur }
+    ensures { result ≡ answer_of (next_in cur) }
 {
     ended(cur.ok_or(SheetError::Malformed)?)
 }

@@ -4,7 +4,7 @@ use Rattle.numeral.specs.Bytes.{num, take_byte, closed_of}
 use Rattle.numeral.specs.declared.Num.{Num}
 use Rattle.sheet_rules.specs.Rules.{form_at, key_of, follows_of, more_after, kind_after, low_of}
 use Rattle.sheet_places.specs.Places.{limit_of, count_at, row_at, place_of, tail_at, tail_of, up_of}
-use Rattle.sheet_fields.specs.declared.St.{St}
+use Rattle.sheet_fields.specs.State.{St}
 
 -- the state, or that the sheet is none
 abbrev pub Next : Type 0

@@ -3,36 +3,40 @@
 
 ghost use Rattle.std.specs.Prelude.{◌≡◌, ℕ, ◌+◌, ◌-◌, ◌*◌, ◌≤◌, ◌<◌};
 ghost use Rattle.words.specs.Words.{words_of};
+ghost use Rattle.sheet_rules.specs.Kinds.{key_number};
+ghost use Rattle.sheet_fields.specs.State.{state_of, next_in};
 ghost use Rattle.sheet_fields.specs.Fields.{fed, begin_of, byte_of, start_of, next_of, end_field, close_record};
 
 use numeral::Num;
+use sheet_rules::Kind;
 
-// Where the reader stands: the record before, the record of this line (12: its word is not read yet), its first field, how many fields
+// Where the reader stands: the record before, the record of this line (none: its word is not read yet), its first field, how many fields
 // it has so far, where its row goes, whether a table was full; and what was read of the field. A step gives None where the sheet is none.
+// It is copied with every byte, so the small fields stand together.
 #[derive(Clone, Copy)]
 pub struct St {
-    pub prev: u32,
-    pub key: u32,
+    pub prev: Option<Kind>,
+    pub key: Option<Kind>,
     pub kind: u32,
     pub n: u32,
-    pub row: usize,
     pub over: bool,
+    pub row: usize,
     pub value: u64,
     pub len: u64,
 }
 
 // The start of a line.
 #[tactic(auto, unfolding(crate::specs::Fields::begin_of))]
-pub fn begin(prev: u32, over: bool) -> St
-    ensures { result ≡ begin_of prev over }
+pub fn begin(prev: Option<Kind>, over: bool) -> St
+    ensures { state_of result ≡ begin_of (key_number prev) over }
 {
     St {
         prev,
-        key: 12,
+        key: None,
         kind: 0,
         n: 0,
-        row: 0,
         over,
+        row: 0,
         value: 0,
         len: 0,
     }
@@ -41,7 +45,7 @@ pub fn begin(prev: u32, over: bool) -> St
 // A byte of a field.
 #[tactic(auto, unfolding(crate::specs::Fields::byte_of))]
 pub fn byte(s: St, b: u8) -> Option<St>
-    ensures { result ≡ byte_of s b }
+    ensures { next_in result ≡ byte_of (state_of s) b }
 {
     let form = sheet_rules::form_at(s.key, s.kind, s.n);
     let so_far = Num {
@@ -53,18 +57,18 @@ pub fn byte(s: St, b: u8) -> Option<St>
 }
 
 // The word of a record was read.
-#[tactic(auto, unfolding(crate::specs::Fields::start_of, crate::specs::Fields::begin_of))]
+#[tactic(auto, unfolding(crate::specs::Fields::start_of, crate::specs::Fields::begin_of, sheet_rules::specs::Rules::follows_of))]
 fn start(s: St, out: &[u8]) -> Option<St>
-    ensures { result ≡ start_of s (words_of out.now) }
+    ensures { next_in result ≡ start_of (state_of s) (words_of out.now) }
 {
-    let key = sheet_rules::key_of(s.value);
+    let key = sheet_rules::key_of(s.value)?;
     if !sheet_rules::follows(s.prev, key) {
         return None;
     }
-    let c = cells::get(out, sheet_places::count_at(key));
+    let c = cells::get(out, sheet_places::count_at(Some(key)));
     let row = sheet_places::row_at(key, c);
     Some(St {
-        key,
+        key: Some(key),
         n: 1,
         row,
         ..begin(s.prev, s.over)
@@ -73,7 +77,7 @@ fn start(s: St, out: &[u8]) -> Option<St>
 
 #[tactic(auto, unfolding(crate::specs::Fields::next_of))]
 fn next_field(s: St) -> St
-    ensures { result ≡ next_of s }
+    ensures { state_of result ≡ next_of (state_of s) }
 {
     St {
         kind: sheet_rules::kind_after(s.n, s.kind, s.value),
@@ -87,7 +91,7 @@ fn next_field(s: St) -> St
 // A field ends.
 #[tactic(auto, unfolding(crate::specs::Fields::end_field))]
 pub fn end_field(s: St, out: &mut [u8]) -> Option<St>
-    ensures { fed result (words_of out.new) ≡ end_field s (words_of out.old) }
+    ensures { fed (next_in result) (words_of out.new) ≡ end_field (state_of s) (words_of out.old) }
 {
     let form = sheet_rules::form_at(s.key, s.kind, s.n);
     let so_far = Num {
@@ -111,7 +115,7 @@ pub fn end_field(s: St, out: &mut [u8]) -> Option<St>
 // A record ends: its last word, and its count, unless its table is full.
 #[tactic(auto, unfolding(crate::specs::Fields::close_record))]
 pub fn close_record(t: St, out: &mut [u8]) -> Option<St>
-    ensures { fed result (words_of out.new) ≡ close_record t (words_of out.old) }
+    ensures { fed (next_in result) (words_of out.new) ≡ close_record (state_of t) (words_of out.old) }
 {
     if sheet_rules::more_after(t.key, t.kind, t.n) {
         return None;

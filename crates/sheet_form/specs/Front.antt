@@ -6,13 +6,14 @@ use Rattle.numeral.specs.Bytes.{num, take_byte, closed_of}
 use Rattle.numeral.specs.declared.Form.TheVariants.{Number}
 use Rattle.numeral.specs.declared.Num.{Num}
 use Rattle.sheet_rules.specs.Rules.{low_of}
+use Rattle.sheet_fields.specs.State.{next_in}
 use Rattle.sheet_fields.specs.Fields.{Next, Fed, fed}
 use Rattle.sheet.specs.declared.SheetError.TheVariants.{Malformed}
 use Rattle.sheet.specs.Machine.{Answer, push_of, open_of, answer_of}
-use Rattle.sheet_form.specs.declared.Front.{Front}
-use Rattle.sheet_form.specs.declared.Front.TheVariants.{Opening, First, Word, Plain, Before, Written}
+use Rattle.sheet_form.specs.Fronts.{Front, front_at}
+use Rattle.sheet_form.specs.Fronts.{Opening, First, Word, Plain, Before, Written}
 use Rattle.sheet_form.specs.declared.Kept.{Kept}
-use Rattle.sheet_form.specs.declared.Stood.{Stood}
+use Rattle.sheet_form.specs.declared.Stood.{Stood as Standing}
 use Rattle.sheet_form.specs.declared.Reading.{Reading}
 
 -- ---- the form, and the reader of the first form
@@ -23,6 +24,18 @@ pub record Stands : Type 0 where
 
 abbrev pub stands : Front → Fed → Stands
 stands f g = record { front = f; fed = g }
+
+-- the same without the words
+pub record Stood : Type 0 where
+  pub front : Front
+  pub next : Next
+
+abbrev pub standing : Front → Next → Stood
+standing f r = record { front = f; next = r }
+
+-- the reader's
+abbrev pub stood_at : Standing → Stood
+stood_at s = standing (front_at s.front) (next_in s.next)
 
 abbrev pub stood : Stood → List ℕ → Stands
 stood s out = stands s.front (fed s.next out)
@@ -61,9 +74,6 @@ before_of key left g b =
     (cond (eqb b 9)
     (cond (ltb left 2) (stands (Written key (num 0 0)) g) (stands (Before key (left - 1)) (push_of g b)))
     (stands (Before key left) (push_of g b)))
-
-abbrev pub standing : Front → Next → Stood
-standing f r = record { front = f; next = r }
 
 abbrev pub on_digit : ℕ → Num → Next → Option Num → Stood
 on_digit key x r (Some y) = standing (Written key y) r
@@ -108,7 +118,7 @@ abbrev pub onward : Stands → Keeping → Formed
 onward s t = record { at = s; keeping = t }
 
 abbrev pub formed : Reading → List ℕ → List ℕ → Formed
-formed r out w = onward (stands r.front (fed r.next out)) (keeping r.kept w)
+formed r out w = onward (stands (front_at r.front) (fed (next_in r.next) out)) (keeping r.kept w)
 
 abbrev pub by_front : Front → Fed → Keeping → ℕ → Formed
 by_front (Opening k) g t b = onward (opening_of k g b) t

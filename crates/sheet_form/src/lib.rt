@@ -6,13 +6,17 @@
 ghost use Rattle.std.specs.Prelude.{◌≡◌, get_or, eqb};
 ghost use Rattle.words.specs.Words.{word_count, words_of};
 ghost use Rattle.definition.specs.SheetForms.{form_line};
+ghost use Rattle.sheet_fields.specs.State.{next_in};
 ghost use Rattle.sheet_fields.specs.Fields.{fed};
-ghost use Rattle.sheet_form.specs.Front.{stands, stood, opening_of, front_after, in_word, in_plain, before_of, written_of, close_of};
+ghost use Rattle.sheet_rules.specs.Kinds.{number_of};
+ghost use Rattle.sheet_form.specs.Fronts.{front_at};
+ghost use Rattle.sheet_form.specs.Front.{stands, stood, stood_at, opening_of, front_after, in_word, in_plain, before_of, written_of, close_of};
 ghost use Rattle.sheet_form.specs.Front.{keeping, keep_of, formed, open_form, push_form, run_form, first_of, second_of, finish_of};
 
 use numeral::{Form, Num};
 use sheet::SheetError;
 use sheet_fields::St;
+use sheet_rules::Kind;
 
 // Where a sheet stands: within the form line, behind so many of its bytes; in a sheet of the first form. In the second
 // form: in the word of a line; in a line that has no written field; in a field before the written one, with its record
@@ -23,8 +27,8 @@ pub enum Front {
     First,
     Word,
     Plain,
-    Before(u32, u32),
-    Written(u32, Num),
+    Before(Kind, u32),
+    Written(Kind, Num),
 }
 
 // The form, and the reader of the first form.
@@ -75,7 +79,7 @@ pub fn open(table: &mut [u8], written: &mut [u8]) -> Reading
 // Within the form line: the reader is fed each byte, and begins anew behind the last one.
 #[tactic(auto, unfolding(crate::specs::Front::opening_of), using(words::specs::Laws::length_words))]
 fn opening(k: u32, next: Option<St>, b: u8, table: &mut [u8]) -> Stood
-    ensures { stood result (words_of table.new) ≡ opening_of k (fed next (words_of table.old)) b }
+    ensures { stood (stood_at result) (words_of table.new) ≡ opening_of k (fed (next_in next) (words_of table.old)) b }
 {
     let more = sheet::push(next, b, table);
     if !is_form_byte(k, b) {
@@ -99,18 +103,19 @@ fn opening(k: u32, next: Option<St>, b: u8, table: &mut [u8]) -> Stood
 // Behind the word of a line: the records with a written field are block, with two fields before it, and seg, with four.
 #[tactic(auto, unfolding(crate::specs::Front::front_after))]
 fn front_after(next: Option<St>) -> Front
-    ensures { result ≡ front_after next }
+    ensures { front_at result ≡ front_after (next_in next) }
 {
-    match next {
-        Some(St { key: 4, .. }) => Front::Before(4, 2),
-        Some(St { key: 9, .. }) => Front::Before(9, 4),
+    let Some(s) = next else { return Front::Plain };
+    match s.key {
+        Some(Kind::Block) => Front::Before(Kind::Block, 2),
+        Some(Kind::Seg) => Front::Before(Kind::Seg, 4),
         _ => Front::Plain,
     }
 }
 
 #[tactic(auto, unfolding(crate::specs::Front::in_word))]
 fn in_word(next: Option<St>, b: u8, table: &mut [u8]) -> Stood
-    ensures { stood result (words_of table.new) ≡ in_word (fed next (words_of table.old)) b }
+    ensures { stood (stood_at result) (words_of table.new) ≡ in_word (fed (next_in next) (words_of table.old)) b }
 {
     let next = sheet::push(next, b, table);
     let front = if b == b'\t' {
@@ -123,7 +128,7 @@ fn in_word(next: Option<St>, b: u8, table: &mut [u8]) -> Stood
 
 #[tactic(auto, unfolding(crate::specs::Front::in_plain))]
 fn in_plain(next: Option<St>, b: u8, table: &mut [u8]) -> Stood
-    ensures { stood result (words_of table.new) ≡ in_plain (fed next (words_of table.old)) b }
+    ensures { stood (stood_at result) (words_of table.new) ≡ in_plain (fed (next_in next) (words_of table.old)) b }
 {
     let next = sheet::push(next, b, table);
     let front = if b == b'\n' {
@@ -137,8 +142,8 @@ fn in_plain(next: Option<St>, b: u8, table: &mut [u8]) -> Stood
 // In a field before the written one: the tab that ends the last of them is held back. A line that ends here lacks its
 // written field.
 #[tactic(auto, unfolding(crate::specs::Front::before_of))]
-fn before(key: u32, left: u32, next: Option<St>, b: u8, table: &mut [u8]) -> Stood
-    ensures { stood result (words_of table.new) ≡ before_of key left (fed next (words_of table.old)) b }
+fn before(key: Kind, left: u32, next: Option<St>, b: u8, table: &mut [u8]) -> Stood
+    ensures { stood (stood_at result) (words_of table.new) ≡ before_of (number_of key) left (fed (next_in next) (words_of table.old)) b }
 {
     match b {
         b'\n' => Stood {
@@ -162,8 +167,8 @@ fn before(key: u32, left: u32, next: Option<St>, b: u8, table: &mut [u8]) -> Sto
 
 // In the written field, another byte than a line feed: a digit, or none.
 #[tactic(auto, unfolding(crate::specs::Front::written_of))]
-fn in_written(key: u32, x: Num, next: Option<St>, b: u8) -> Stood
-    ensures { result ≡ written_of key x next b }
+fn in_written(key: Kind, x: Num, next: Option<St>, b: u8) -> Stood
+    ensures { stood_at result ≡ written_of (number_of key) x (next_in next) b }
 {
     match numeral::take_byte(Form::Number(4294967295), x, b) {
         Some(y) if b != b'\t' => Stood {
@@ -180,7 +185,7 @@ fn in_written(key: u32, x: Num, next: Option<St>, b: u8) -> Stood
 // The written field ends with its line.
 #[tactic(auto, unfolding(crate::specs::Front::close_of))]
 fn close_written(x: Num, next: Option<St>, table: &mut [u8]) -> Stood
-    ensures { stood result (words_of table.new) ≡ close_of x (fed next (words_of table.old)) }
+    ensures { stood (stood_at result) (words_of table.new) ≡ close_of x (fed (next_in next) (words_of table.old)) }
 {
     let front = Front::Word;
     if !numeral::closed(Form::Number(4294967295), x) {
@@ -192,18 +197,19 @@ fn close_written(x: Num, next: Option<St>, table: &mut [u8]) -> Stood
 
 // Keeps a first instruction or a set, where there is room.
 #[tactic(auto, unfolding(crate::specs::Front::keep_of))]
-fn keep(key: u32, v: u64, kept: Kept, written: &mut [u8]) -> Kept
-    ensures { keeping result (words_of written.new) ≡ keep_of key v (keeping kept (words_of written.old)) }
+fn keep(key: Kind, v: u64, kept: Kept, written: &mut [u8]) -> Kept
+    ensures { keeping result (words_of written.new) ≡ keep_of (number_of key) v (keeping kept (words_of written.old)) }
 {
     let Kept { firsts, sets } = kept;
-    if key == 4 && firsts < 512 {
+    let block = matches!(key, Kind::Block);
+    if block && firsts < 512 {
         cells::put(written, firsts as usize, sheet_rules::low(v));
         return Kept {
             firsts: firsts + 1,
             sets,
         };
     }
-    if key != 4 && sets < 1024 {
+    if !block && sets < 1024 {
         cells::put(written, 512 + sets as usize, sheet_rules::low(v));
         return Kept {
             firsts,
@@ -247,14 +253,14 @@ fn push(cur: Reading, b: u8, table: &mut [u8], written: &mut [u8]) -> Reading
 // Whether the sheet is of the second form.
 #[tactic(auto, unfolding(crate::specs::Front::second_of))]
 pub fn is_second(cur: Reading) -> bool
-    ensures { result ≡ second_of cur.front }
+    ensures { result ≡ second_of (front_at cur.front) }
 {
     !matches!(cur.front, Front::Opening(_) | Front::First)
 }
 
 // Whether the sheet is of the first form for sure.
 fn is_first(cur: Reading) -> bool
-    ensures { result ≡ first_of cur.front }
+    ensures { result ≡ first_of (front_at cur.front) }
 {
     matches!(cur.front, Front::First)
 }
@@ -278,7 +284,7 @@ pub fn feed(cur: Reading, part: &[u8], table: &mut [u8], written: &mut [u8]) -> 
 // The end of the sheet: within a line there is none.
 #[tactic(auto, unfolding(crate::specs::Front::finish_of))]
 pub fn finish(cur: Reading) -> Result<(), SheetError>
-    ensures { result ≡ finish_of cur.front cur.next }
+    ensures { result ≡ finish_of (front_at cur.front) (next_in cur.next) }
 {
     match cur.front {
         Front::Opening(_) | Front::First | Front::Word => sheet::finish(cur.next),

@@ -3,7 +3,10 @@
 #![tactic(auto)]
 
 ghost use Rattle.std.specs.Prelude.{◌≡◌, ℕ, ◌+◌, ◌-◌, ◌*◌, ◌≤◌, ◌<◌, cond, ltb, get_or};
+ghost use Rattle.sheet_rules.specs.Kinds.{number_of, key_number};
 ghost use Rattle.sheet_places.specs.Places.{limit_of, base_of, width_of, stored_of, count_at, row_at, place_of, tail_at, tail_of, up_of};
+
+use sheet_rules::Kind;
 
 // A number, and no Option: `cells` reads 0 there and stores nothing, so that no caller has to ask.
 const NOWHERE: usize = 4294967295;
@@ -20,59 +23,62 @@ const WIDTHS: [u32; 12] = [4, 1, 4, 1, 2, 3, 9, 4, 3, 5, 6, 0];
 const STORED: [u32; 12] = [4, 1, 4, 1, 2, 3, 8, 4, 3, 4, 6, 0];
 
 // The entry of a kind of record; 0 for none.
-fn entry(table: &[u32; 12], key: u32) -> u32
-    ensures { result ≡ cond (ltb 11 key) 0 (get_or table.now key 0) }
+fn entry(table: &[u32; 12], key: Option<Kind>) -> u32
+    ensures { result ≡ cond (ltb 11 (key_number key)) 0 (get_or table.now (key_number key) 0) }
 {
-    if key < 12 { table[key as usize] } else { 0 }
+    match key {
+        Some(k) => table[k as usize],
+        None => 0,
+    }
 }
 
 // How many records of a kind have room.
 #[tactic(auto, unfolding(crate::specs::Places::limit_of, crate::specs::Places::limits))]
-pub fn limit(key: u32) -> u32
-    ensures { result ≡ limit_of key }
+pub fn limit(key: Option<Kind>) -> u32
+    ensures { result ≡ limit_of (key_number key) }
 {
     entry(&LIMITS, key)
 }
 
 #[tactic(auto, unfolding(crate::specs::Places::base_of, crate::specs::Places::bases))]
-fn base(key: u32) -> u32
-    ensures { result ≡ base_of key }
+fn base(key: Kind) -> u32
+    ensures { result ≡ base_of (number_of key) }
 {
-    entry(&BASES, key)
+    BASES[key as usize]
 }
 
 #[tactic(auto, unfolding(crate::specs::Places::width_of, crate::specs::Places::widths))]
-fn width(key: u32) -> u32
-    ensures { result ≡ width_of key }
+fn width(key: Kind) -> u32
+    ensures { result ≡ width_of (number_of key) }
 {
-    entry(&WIDTHS, key)
+    WIDTHS[key as usize]
 }
 
 // How many fields of a record are stored.
 #[tactic(auto, unfolding(crate::specs::Places::stored_of, crate::specs::Places::stored_fields))]
-pub fn stored(key: u32) -> u32
-    ensures { result ≡ stored_of key }
+pub fn stored(key: Option<Kind>) -> u32
+    ensures { result ≡ stored_of (key_number key) }
 {
     entry(&STORED, key)
 }
 
 // The word that counts the records of a kind; opt and end are not counted.
 #[tactic(auto, unfolding(crate::specs::Places::count_at))]
-pub fn count_at(key: u32) -> usize
-    ensures { result ≡ count_at key }
+pub fn count_at(key: Option<Kind>) -> usize
+    ensures { result ≡ count_at (key_number key) }
 {
     match key {
-        1..=10 => key as usize - 1,
-        _ => NOWHERE,
+        None | Some(Kind::Opt | Kind::End) => NOWHERE,
+        Some(k) => k as usize - 1,
     }
 }
 
 // The first word of row c of a kind of record; nowhere if its table is full.
 #[tactic(auto, unfolding(crate::specs::Places::row_at), using(crate::proofs::Bounds::within))]
-pub fn row_at(key: u32, c: u32) -> usize
-    ensures { result ≡ row_at key c }
+pub fn row_at(key: Kind, c: u32) -> usize
+    ensures { result ≡ row_at (number_of key) c }
 {
-    if c < limit(key) {
+    if c < limit(Some(key)) {
         base(key) as usize + c as usize * width(key) as usize
     } else {
         NOWHERE
@@ -81,37 +87,39 @@ pub fn row_at(key: u32, c: u32) -> usize
 
 // The word of field n of a row; a vgroup's row has the number of its members before them.
 #[tactic(auto, unfolding(crate::specs::Places::place_of))]
-pub fn place(key: u32, row: usize, n: u32) -> usize
-    ensures { result ≡ place_of key row n }
+pub fn place(key: Option<Kind>, row: usize, n: u32) -> usize
+    ensures { result ≡ place_of (key_number key) row n }
 {
     if NOWHERE <= row || stored(key) < n || n == 0 {
         return NOWHERE;
     }
-    if key == 6 {
-        row + n as usize
-    } else {
-        row + (n as usize - 1)
+    match key {
+        Some(Kind::Vgroup) => row + n as usize,
+        _ => row + (n as usize - 1),
     }
 }
 
 // The word of a row that is no field: a vgroup's number of members, the number of uses before a segment.
 #[tactic(auto, unfolding(crate::specs::Places::tail_at))]
-pub fn tail_at(key: u32, row: usize) -> usize
-    ensures { result ≡ tail_at key row }
+pub fn tail_at(key: Option<Kind>, row: usize) -> usize
+    ensures { result ≡ tail_at (key_number key) row }
 {
     match key {
-        6 if row < NOWHERE => row,
-        9 if row < NOWHERE => row + 4,
+        Some(Kind::Vgroup) if row < NOWHERE => row,
+        Some(Kind::Seg) if row < NOWHERE => row + 4,
         _ => NOWHERE,
     }
 }
 
 // What goes there, behind n - 1 fields.
 #[tactic(auto, unfolding(crate::specs::Places::tail_of))]
-pub fn tail(key: u32, n: u32, uses: u32) -> u32
-    ensures { result ≡ tail_of key n uses }
+pub fn tail(key: Option<Kind>, n: u32, uses: u32) -> u32
+    ensures { result ≡ tail_of (key_number key) n uses }
 {
-    if key == 9 { uses } else { n.saturating_sub(1) }
+    match key {
+        Some(Kind::Seg) => uses,
+        _ => n.saturating_sub(1),
+    }
 }
 
 // One field more; ten stands for ten or more.

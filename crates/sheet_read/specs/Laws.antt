@@ -21,6 +21,8 @@ use Rattle.sheet.specs.Machine.{Answer}
 use Rattle.sheet.specs.declared.SheetError.{SheetError}
 use Rattle.sheet.specs.declared.SheetError.TheVariants.{Malformed, TooMany}
 use Rattle.sheet_form.specs.declared.Reading.{Reading}
+use Rattle.sheet_fields.specs.State.{next_in}
+use Rattle.sheet_form.specs.Fronts.{front_at}
 use Rattle.sheet_form.specs.Front.{Keeping, Formed, formed, run_form, open_form, finish_of}
 use Rattle.agree.specs.Words.{Bytes, none_some}
 use Rattle.agree.specs.Table.{Filled, filled, fill, blank}
@@ -209,7 +211,7 @@ none_left sheet h = go (is_second sheet) (records_in sheet) h
 -- ---- the function's ways
 
 abbrev pub said_of : Reading → Answer
-said_of cur = finish_of cur.front cur.next
+said_of cur = finish_of (front_at cur.front) (next_in cur.next)
 
 -- the machine went over the whole sheet, and left the state cur, the table x and the written fields y
 pub record Went (n : ℕ) (sheet : List ℕ) (cur : Reading) (x y : List ℕ) : Type 0 where

@@ -5,8 +5,8 @@ use native.Mathlib.Omega.{arith}
 use Rattle.lines.specs.Laws.{as_text}
 use Rattle.register_sheet.proofs.put_origin.Goals as goal
 
-pub returns-then-origin-eq1 : goal.returns-then-origin-eq1
-returns-then-origin-eq1 c = as_text 10 _ c.put_bytes.ensures (omega arith) (origin_text _ true (eq-eqb _ _ c.if-origin-eq1.true))
+pub returns-then-origin : goal.returns-then-origin
+returns-then-origin c = as_text 10 _ c.put_bytes.ensures (omega arith) (origin_text _ true (eq-eqb _ _ c.if-origin.true))
 
-pub returns-else-origin-eq1 : goal.returns-else-origin-eq1
-returns-else-origin-eq1 c = as_text 10 _ c.put_bytes-else-origin-eq1.ensures (omega arith) (origin_text _ false (ne_eqb _ _ c.if-origin-eq1.false))
+pub returns-else-origin : goal.returns-else-origin
+returns-else-origin c = as_text 10 _ c.put_bytes-else-origin.ensures (omega arith) (origin_text _ false (ne_eqb _ _ c.if-origin.false))
