@@ -10,7 +10,7 @@ use Rattle.definition.specs.Types.{Job}
 use Rattle.definition.specs.JobSheet.{Record}
 use Rattle.lines.specs.Wrote.{Wrote}
 use Rattle.register_sheet.specs.Typed.{refused_line}
-use Rattle.job_pages.specs.declared.Cursor.{Cursor}
+use Rattle.job_pages.specs.Cursors.{Cursor}
 use Rattle.lines.specs.declared.Page.{Page}
 use Rattle.job_pages.specs.Cursors.{at_start}
 use Rattle.job_pages.specs.Left.{Left, text_left}
@@ -18,7 +18,7 @@ use Rattle.job_pages.specs.Pages.{Shows, Filled, Paged}
 use Rattle.job_pages.specs.Over.{over_text}
 use Rattle.streams.specs.declared.Stream.{Stream}
 use Rattle.streams.specs.declared.Cut.{Cut}
-use Rattle.streams.specs.Tape.{WroteAll}
+use Rattle.streams.specs.Tape.{at_of, WroteAll}
 use Rattle.streams.specs.Paper.{Writing, writing_start, writing_next, writing_failed, writing_end}
 use Rattle.convert_run.specs.Ran.{Shown, Refused}
 
@@ -31,12 +31,12 @@ pub record Kept (second : Bool) (T paper : List ℕ) (s cur : Stream) (c : Curso
 
 pub record Showing (second : Bool) (x paper : List ℕ) (s cur : Stream) (c : Cursor) (P : List ℕ) : Type 0 where
   pub shows : Shows x c
-  pub bound : cur.at ≤ length P
+  pub bound : at_of cur ≤ length P
   pub kept : (job : Job) (rs : List Record) → Left (words_of x) job at_start rs
       → Kept second (words_of x) paper s cur c P job rs
 
 pub showing_start : (second : Bool) (x paper : List ℕ) (s : Stream) (c : Cursor) → Shows x at_start → c ≡ at_start
-    → s.at ≤ length paper → Showing second x paper s s c paper
+    → at_of s ≤ length paper → Showing second x paper s s c paper
 showing_start second x paper s c y e h =
     subst (λ (k : Cursor). Showing second x paper s s k paper) (sym e) (record {
       shows = y;
@@ -83,7 +83,7 @@ showing_end second x paper tape s cur c P h e = λ job rs l y.
 -- ---- the refusal's line, as one page
 
 pub refused_line_lem : (n m : ℕ) (paper tape : List ℕ) (s : Stream) (O B : List ℕ) (w : Result Unit Cut) (t : Stream)
-    (Q : List ℕ) → s.at ≤ length paper → Wrote 256 0 O m B (refused_line n)
+    (Q : List ℕ) → at_of s ≤ length paper → Wrote 256 0 O m B (refused_line n)
     → WroteAll tape paper (take m B) s w t Q → Refused n tape paper s (is_err w) t Q
 refused_line_lem n m paper tape s O B w t Q h y a = go w a
   where

@@ -27,7 +27,7 @@ use Rattle.std.specs.Result.{result_or}
 use Rattle.streams.specs.declared.Cut.{Cut}
 use Rattle.streams.specs.declared.Broken.{Broken}
 use Rattle.streams.specs.declared.Broken.TheVariants.{Input, Output}
-use Rattle.streams.specs.Tape.{in_broken, out_broken}
+use Rattle.streams.specs.Tape.{at_of, in_broken, out_broken}
 use Rattle.streams.specs.Ends.{or_broken}
 use Rattle.convert_run.specs.Ran.{Written, Shown, Refused, Put, Ran}
 
@@ -80,11 +80,11 @@ module _ (second : Bool) (reads given : List ℕ) (input : Stream) (writes paper
         unread = λ q. absurd (false≢true (sym ei ∙ q));
         written = λ _ yi yo.
             let b : List ℕ = t.streamed.bytes in
-            let l : b ≡ drop input.at given = all_fed reads given b input next (t.on_tape yi) in
+            let l : b ≡ drop (at_of input) given = all_fed reads given b input next (t.on_tape yi) in
             let i : formed cur W Y ≡ run_form (open_form table_words 1536) b =
             t.streamed.is ∙ ap (λ (f : Formed). run_form f b) (both_open n m ew v) in
             let d : LeadsTo b cur W Y = record { bytes = all_bytes b t.streamed.small; is = i } in
-            subst (λ (f : Bool). OnPaper writes paper (moved_text (move_to second (drop input.at given))) output f to P) eo
+            subst (λ (f : Bool). OnPaper writes paper (moved_text (move_to second (drop (at_of input) given))) output f to P) eo
             (subst (λ (q : List ℕ). OnPaper writes paper (moved_text (move_to second q)) output (is_err w) to P) l
             (h b (a b d) yo));
       }

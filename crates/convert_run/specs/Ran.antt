@@ -11,13 +11,13 @@ use Rattle.move_verdict.specs.Settled.{Settled}
 use Rattle.streams.specs.declared.Stream.{Stream}
 use Rattle.streams.specs.Paper.{OnPaper}
 use Rattle.streams.specs.declared.Broken.{Broken}
-use Rattle.streams.specs.Tape.{in_broken, out_broken}
+use Rattle.streams.specs.Tape.{is_tape, call_of, at_of, in_broken, out_broken}
 
 -- ---- what is written from s on
 
 -- a text
 abbrev pub Written : List ℕ → List ℕ → List ℕ → Stream → Bool → Stream → List ℕ → Type 0
-Written tape paper text s failed t P = s.taped ≡ true → OnPaper tape paper text s failed t P
+Written tape paper text s failed t P = is_tape s ≡ true → OnPaper tape paper text s failed t P
 
 -- the text of all records that the words T have at the start
 abbrev pub Shown : Bool → List ℕ → List ℕ → List ℕ → Stream → Bool → Stream → List ℕ → Type 0
@@ -40,6 +40,6 @@ Put second v T tape paper s failed t P =
 pub record Ran (second : Bool) (reads given : List ℕ) (input at : Stream) (writes paper : List ℕ) (output : Stream)
     (r : Result Unit Broken) (to : Stream) (P : List ℕ) : Type 0 where
   pub nothing : in_broken r ≡ true → (P ≡ paper) × (to ≡ output)
-  pub unread : in_broken r ≡ true → input.taped ≡ true → get_or reads at.call 0 ≡ 0
-  pub written : in_broken r ≡ false → input.taped ≡ true → output.taped ≡ true
-      → OnPaper writes paper (moved_text (move_to second (drop input.at given))) output (out_broken r) to P
+  pub unread : in_broken r ≡ true → is_tape input ≡ true → get_or reads (call_of at) 0 ≡ 0
+  pub written : in_broken r ≡ false → is_tape input ≡ true → is_tape output ≡ true
+      → OnPaper writes paper (moved_text (move_to second (drop (at_of input) given))) output (out_broken r) to P

@@ -8,6 +8,7 @@ ghost use Rattle.definition.specs.SheetForms.{sheet_number_of};
 ghost use Rattle.sheet_places.specs.Places.{table_words};
 ghost use Rattle.job_pages.specs.Cursors.{at_start};
 ghost use Rattle.job_pages.specs.Pages.{Shows};
+ghost use Rattle.streams.specs.Tape.{at_of};
 ghost use Rattle.convert_run.specs.Ran.{Shown, Refused, Put, Ran};
 
 use definition::SheetRefusal;
@@ -17,6 +18,7 @@ use std::io::{Read, Write};
 use streams::{Broken, Cut, Noted, STDIN, STDOUT, Stream};
 
 // Writes the sheet of a table page by page, up to the first write that fails.
+// The buffer has 256 bytes or more, by a clause: an array would refuse a longer one.
 fn print<W: Write>(
     second: bool,
     table: &[u8],
@@ -26,12 +28,12 @@ fn print<W: Write>(
     buf: &mut [u8],
     sink: &mut W,
 ) -> Result<(), Cut>
-    requires { Shows table.now at_start × (256 ≤ length buf.old) × (s.old.at ≤ length paper.old) }
+    requires { Shows table.now at_start × (256 ≤ length buf.old) × (at_of s.old ≤ length paper.old) }
     ensures { Shown second (words_of table.now) tape.now paper.old s.old (is_err result) s.new paper.new }
 {
     let mut cur = job_pages::start();
     // Page by page, and how many lines a page takes is known behind it: no index counts here.
-    while cur.key != 12 {
+    while cur.key.is_some() {
         let page = job_pages::fill(second, table, cur, buf);
         let n = page.n;
         streams::write_all(s, tape, paper, &buf[..n], sink)?;
@@ -49,10 +51,10 @@ fn refuse<W: Write>(
     buf: &mut [u8],
     sink: &mut W,
 ) -> Result<(), Cut>
-    requires { (256 ≤ length buf.old) × (s.old.at ≤ length paper.old) }
+    requires { (256 ≤ length buf.old) × (at_of s.old ≤ length paper.old) }
     ensures { Refused (sheet_number_of r) tape.now paper.old s.old (is_err result) s.new paper.new }
 {
-    let n = register_sheet::put_refused(buf, 0, build_answer::sheet_number_of(r));
+    let n = register_sheet::put_refused(buf, 0, r.number());
     streams::write_all(s, tape, paper, &buf[..n], sink)
 }
 
@@ -67,7 +69,7 @@ fn put<W: Write>(
     buf: &mut [u8],
     sink: &mut W,
 ) -> Result<(), Cut>
-    requires { (IsOk verdict → Shows table.now at_start) × (256 ≤ length buf.old) × (s.old.at ≤ length paper.old) }
+    requires { (IsOk verdict → Shows table.now at_start) × (256 ≤ length buf.old) × (at_of s.old ≤ length paper.old) }
     ensures { Put second verdict (words_of table.now) tape.now paper.old s.old (is_err result) s.new paper.new }
 {
     match verdict {
@@ -94,7 +96,7 @@ pub fn convert<R: Read, W: Write>(
     source: &mut R,
     sink: &mut W,
 ) -> Result<(), Broken>
-    requires { (input.old.at ≤ length given.now) × (output.old.at ≤ length paper.old) × (256 ≤ length buf.old) × (word_count table.old ≡ table_words) × (word_count written.old ≡ 1536) × (max_work ≤ word_count work.old) }
+    requires { (at_of input.old ≤ length given.now) × (at_of output.old ≤ length paper.old) × (256 ≤ length buf.old) × (word_count table.old ≡ table_words) × (word_count written.old ≡ 1536) × (max_work ≤ word_count work.old) }
     ensures { Ran second reads.now given.now input.old input.new writes.now paper.old output.old result output.new paper.new }
 {
     let Ok(cur) = sheet_input::feed_all(input, reads, given, buf, table, written, source) else {
@@ -119,8 +121,8 @@ pub fn convert_input<R: Read, W: Write>(
     let tape = [0usize; 1];
     let given = [0u8; 1];
     let mut paper = [0u8; 1];
-    let mut input = streams::descriptor(STDIN);
-    let mut output = streams::descriptor(STDOUT);
+    let mut input = Stream::Descriptor(STDIN);
+    let mut output = Stream::Descriptor(STDOUT);
     convert(
         second,
         &mut input,

@@ -12,7 +12,7 @@ use Rattle.std.specs.Prelude.{Result, Ok, Err, is_err}
 use Rattle.definition.specs.Text.{digit_of}
 use Rattle.streams.specs.declared.Stream.{Stream}
 use Rattle.streams.specs.declared.Cut.{Cut}
-use Rattle.streams.specs.Tape.{AllPlayed, Filled}
+use Rattle.streams.specs.Tape.{is_tape, at_of, AllPlayed, Filled}
 use Rattle.frames.specs.declared.Frame.{Frame}
 use Rattle.frames.specs.declared.NoFrame.{NoFrame}
 use Rattle.frames.specs.declared.NoFrame.TheVariants.{Failed, Ended, Other}
@@ -70,13 +70,13 @@ spelled_front D at (suc k) v h =
 
 module _ (tape given : List ℕ) (s : Stream) (n : ℕ) (t : Stream) (H : List ℕ) (l : length H ≡ 18) (q : Filled tape given s (Ok n) t H) where
   abbrev D : List ℕ
-  D = drop s.at given
+  D = drop (at_of s) given
 
-  played : s.taped ≡ true → AllPlayed tape given s (Ok n) t H
+  played : is_tape s ≡ true → AllPlayed tape given s (Ok n) t H
   played y = q.played y
 
-  left : n < 18 → s.taped ≡ true → length D ≡ n
-  left g y = omega (arith, length-drop s.at given, (played y).at, (played y).end refl (omega (arith, g, l)))
+  left : n < 18 → is_tape s ≡ true → length D ≡ n
+  left g y = omega (arith, length-drop (at_of s) given, (played y).at, (played y).end refl (omega (arith, g, l)))
 
   -- the input ended before it, or within it
   pub head_ended : n ≡ 0 → HeadRead tape given s (Err Ended) t
@@ -111,20 +111,20 @@ module _ (tape given : List ℕ) (s : Stream) (n : ℕ) (t : Stream) (H : List �
     eighteen : n ≡ 18
     eighteen = omega (arith, g, l, q.within)
 
-    long : s.taped ≡ true → 18 ≤ length D
-    long y = omega (arith, length-drop s.at given, (played y).at, q.bound, g)
+    long : is_tape s ≡ true → 18 ≤ length D
+    long y = omega (arith, length-drop (at_of s) given, (played y).at, q.bound, g)
 
-    front : s.taped ≡ true → H ≡ take 18 D
+    front : is_tape s ≡ true → H ≡ take 18 D
     front y = sym (take_all 18 H (omega (arith, l))) ∙ subst (λ (m : ℕ). take m H ≡ take m D) eighteen (played y).bytes
 
-    number_is : (y : s.taped ≡ true) (at : ℕ) → at + 8 ≤ 18 → spelled H at 8 0 ≡ spelled D at 8 0
+    number_is : (y : is_tape s ≡ true) (at : ℕ) → at + 8 ≤ 18 → spelled H at 8 0 ≡ spelled D at 8 0
     number_is y at p = ap (λ (b : List ℕ). spelled b at 8 0) (front y) ∙ spelled_front D at 8 0 p
 
-    byte_is : (y : s.taped ≡ true) (i : ℕ) → i < 18 → get_or H i 0 ≡ get_or D i 0
+    byte_is : (y : is_tape s ≡ true) (i : ℕ) → i < 18 → get_or H i 0 ≡ get_or D i 0
     byte_is y i p = ap (λ (b : List ℕ). get_or b i 0) (front y) ∙ get_or-take 18 D i 0 p
 
     module _ (k m : ℕ) (ek : k ≡ spelled H 0 8 0) (em : m ≡ spelled H 9 8 0) where
-      head_is : (b : Bool) → b ≡ (eqb (get_or H 8 0) 9 && eqb (get_or H 17 0) 10 && leb k 262144 && leb m 524288) → s.taped ≡ true → b ≡ is_head D
+      head_is : (b : Bool) → b ≡ (eqb (get_or H 8 0) 9 && eqb (get_or H 17 0) 10 && leb k 262144 && leb m 524288) → is_tape s ≡ true → b ≡ is_head D
       head_is b e y = e ∙ rw (byte_is y 8 (omega arith), byte_is y 17 (omega arith), ek, em, number_is y 0 (omega arith), number_is y 9 (omega arith)) refl
 
       -- another line
@@ -172,11 +172,11 @@ pub no_frame_read : (tape given : List ℕ) (s : Stream) (e : NoFrame) (t : Stre
 no_frame_read tape given s e t S A q = record { taped = q.taped; bound = q.bound; sheet = tt; answer = tt; whole = tt; missing = q.missing }
 
 module _ (tape given : List ℕ) (s : Stream) (f : Frame) (u : Stream) (q : HeadRead tape given s (Ok f) u) where
-  headed : s.taped ≡ true → Headed (drop s.at given) s f u
+  headed : is_tape s ≡ true → Headed (drop (at_of s) given) s f u
   headed y = q.whole y
 
   -- a call failed within a part
-  failed_behind : (a : Result ℕ Cut) (v t : Stream) (X S A : List ℕ) → is_err a ≡ true → v.taped ≡ s.taped → Filled tape given v a t X → FrameRead tape given s (Err Failed) t S A
+  failed_behind : (a : Result ℕ Cut) (v t : Stream) (X S A : List ℕ) → is_err a ≡ true → is_tape v ≡ is_tape s → Filled tape given v a t X → FrameRead tape given s (Err Failed) t S A
   failed_behind a v t X S A e w p =
       record {
         taped = p.taped ∙ w;
@@ -191,7 +191,7 @@ module _ (tape given : List ℕ) (s : Stream) (f : Frame) (u : Stream) (q : Head
   sheet_failed d t X S A p = failed_behind (Err d) u t X S A refl q.taped p
 
   module _ (n : ℕ) (v : Stream) (X : List ℕ) (lx : length X ≡ f.sheet) (p : Filled tape given u (Ok n) v X) where
-    sheet_played : s.taped ≡ true → AllPlayed tape given u (Ok n) v X
+    sheet_played : is_tape s ≡ true → AllPlayed tape given u (Ok n) v X
     sheet_played y = p.played (q.taped ∙ y)
 
     -- the input ended within the sheet
@@ -205,19 +205,19 @@ module _ (tape given : List ℕ) (s : Stream) (f : Frame) (u : Stream) (q : Head
           whole = tt;
           missing = λ y. record {
             stopped = λ z. never z;
-            none = λ _. too_few (drop s.at given) (omega (arith, h, (headed y).sheet, left y));
-            empty = λ _. some_left (drop s.at given) (omega (arith, (headed y).long));
+            none = λ _. too_few (drop (at_of s) given) (omega (arith, h, (headed y).sheet, left y));
+            empty = λ _. some_left (drop (at_of s) given) (omega (arith, (headed y).long));
           };
         }
       where
-        left : s.taped ≡ true → length (drop s.at given) ≡ 18 + n
-        left y = omega (arith, length-drop s.at given, (headed y).at, (sheet_played y).at, (sheet_played y).end refl (omega (arith, h, lx)))
+        left : is_tape s ≡ true → length (drop (at_of s) given) ≡ 18 + n
+        left y = omega (arith, length-drop (at_of s) given, (headed y).at, (sheet_played y).at, (sheet_played y).end refl (omega (arith, h, lx)))
 
     pub answer_failed : (d : Cut) (t : Stream) (Y S A : List ℕ) → Filled tape given v (Err d) t Y → FrameRead tape given s (Err Failed) t S A
     answer_failed d t Y S A r = failed_behind (Err d) v t Y S A refl (p.taped ∙ q.taped) r
 
     module _ (h : f.sheet ≤ n) (m : ℕ) (t : Stream) (Y : List ℕ) (ly : length Y ≡ f.answer) (r : Filled tape given v (Ok m) t Y) where
-      answer_played : s.taped ≡ true → AllPlayed tape given v (Ok m) t Y
+      answer_played : is_tape s ≡ true → AllPlayed tape given v (Ok m) t Y
       answer_played y = r.played (p.taped ∙ q.taped ∙ y)
 
       all_sheet : n ≡ f.sheet
@@ -234,22 +234,22 @@ module _ (tape given : List ℕ) (s : Stream) (f : Frame) (u : Stream) (q : Head
             whole = tt;
             missing = λ y. record {
               stopped = λ z. never z;
-              none = λ _. too_few (drop s.at given) (omega (arith, k, (headed y).sheet, (headed y).answer, left y));
-              empty = λ _. some_left (drop s.at given) (omega (arith, (headed y).long));
+              none = λ _. too_few (drop (at_of s) given) (omega (arith, k, (headed y).sheet, (headed y).answer, left y));
+              empty = λ _. some_left (drop (at_of s) given) (omega (arith, (headed y).long));
             };
           }
         where
-          left : s.taped ≡ true → length (drop s.at given) ≡ 18 + f.sheet + m
-          left y = omega (arith, length-drop s.at given, (headed y).at, (sheet_played y).at, all_sheet, (answer_played y).at, (answer_played y).end refl (omega (arith, k, ly)))
+          left : is_tape s ≡ true → length (drop (at_of s) given) ≡ 18 + f.sheet + m
+          left y = omega (arith, length-drop (at_of s) given, (headed y).at, (sheet_played y).at, all_sheet, (answer_played y).at, (answer_played y).end refl (omega (arith, k, ly)))
 
       -- a front of a buffer that is full
       full : (i : ℕ) (Z R : List ℕ) → length Z ≡ i → (i ≤ length (Z ++ R)) × (i ≡ length (take i (Z ++ R)))
       full i Z R e = let g : i ≤ length (Z ++ R) = omega (arith, e, length-append Z R) in (g, sym (length-take-le i (Z ++ R) g))
 
-      filled_with : (i k j : ℕ) (Z R : List ℕ) (x : Stream) → length Z ≡ i → j ≡ i → take j Z ≡ take j (drop x.at given) → x.at ≡ s.at + k → take i (Z ++ R) ≡ take i (drop k (drop s.at given))
+      filled_with : (i k j : ℕ) (Z R : List ℕ) (x : Stream) → length Z ≡ i → j ≡ i → take j Z ≡ take j (drop (at_of x) given) → at_of x ≡ at_of s + k → take i (Z ++ R) ≡ take i (drop k (drop (at_of s) given))
       filled_with i k j Z R x e w y z =
-          take_at Z R i e ∙ sym (take_all i Z (omega (arith, e))) ∙ subst (λ (a : ℕ). take a Z ≡ take a (drop x.at given)) w y
-          ∙ ap (λ (a : ℕ). take i (drop a given)) z ∙ ap (take i) (sym (drop-drop k s.at given))
+          take_at Z R i e ∙ sym (take_all i Z (omega (arith, e))) ∙ subst (λ (a : ℕ). take a Z ≡ take a (drop (at_of x) given)) w y
+          ∙ ap (λ (a : ℕ). take i (drop a given)) z ∙ ap (take i) (sym (drop-drop k (at_of s) given))
 
       pub frame_whole : (SR AR : List ℕ) → f.answer ≤ m → FrameRead tape given s (Ok f) t (X ++ SR) (Y ++ AR)
       frame_whole SR AR k =
@@ -259,13 +259,13 @@ module _ (tape given : List ℕ) (s : Stream) (f : Frame) (u : Stream) (q : Head
             sheet = full f.sheet X SR lx;
             answer = full f.answer Y AR ly;
             whole = λ y.
-                let hd : Headed (drop s.at given) s f u = headed y in
+                let hd : Headed (drop (at_of s) given) s f u = headed y in
                 record {
-                  frame = ap (λ (c : Bool). c && leb (frame_size (drop s.at given)) (length (drop s.at given))) hd.head ∙ le-leb (frame_size (drop s.at given)) (length (drop s.at given)) (omega (arith, end y, r.bound, length-drop s.at given, hd.sheet, hd.answer));
-                  sheet = filled_with f.sheet 18 n X SR u lx all_sheet (sheet_played y).bytes hd.at ∙ ap (λ (j : ℕ). take j (drop 18 (drop s.at given))) hd.sheet;
+                  frame = ap (λ (c : Bool). c && leb (frame_size (drop (at_of s) given)) (length (drop (at_of s) given))) hd.head ∙ le-leb (frame_size (drop (at_of s) given)) (length (drop (at_of s) given)) (omega (arith, end y, r.bound, length-drop (at_of s) given, hd.sheet, hd.answer));
+                  sheet = filled_with f.sheet 18 n X SR u lx all_sheet (sheet_played y).bytes hd.at ∙ ap (λ (j : ℕ). take j (drop 18 (drop (at_of s) given))) hd.sheet;
                   answer =
-                      filled_with f.answer (18 + sheet_size (drop s.at given)) m Y AR v ly all_answer (answer_played y).bytes (omega (arith, (sheet_played y).at, hd.at, all_sheet, hd.sheet))
-                      ∙ ap (λ (j : ℕ). take j (drop (18 + sheet_size (drop s.at given)) (drop s.at given))) hd.answer;
+                      filled_with f.answer (18 + sheet_size (drop (at_of s) given)) m Y AR v ly all_answer (answer_played y).bytes (omega (arith, (sheet_played y).at, hd.at, all_sheet, hd.sheet))
+                      ∙ ap (λ (j : ℕ). take j (drop (18 + sheet_size (drop (at_of s) given)) (drop (at_of s) given))) hd.answer;
                   at = omega (arith, end y, hd.sheet, hd.answer);
                   onward = omega (arith, hd.onward, (sheet_played y).call refl, (answer_played y).call refl);
                 };
@@ -275,5 +275,5 @@ module _ (tape given : List ℕ) (s : Stream) (f : Frame) (u : Stream) (q : Head
           all_answer : m ≡ f.answer
           all_answer = omega (arith, k, ly, r.within)
 
-          end : s.taped ≡ true → t.at ≡ s.at + 18 + f.sheet + f.answer
+          end : is_tape s ≡ true → at_of t ≡ at_of s + 18 + f.sheet + f.answer
           end y = omega (arith, (headed y).at, (sheet_played y).at, (answer_played y).at, all_sheet, all_answer)

@@ -5,7 +5,7 @@
 ghost use Rattle.std.specs.Prelude.{◌≡◌, ◌&&◌, ◌+◌, ◌≤◌, eqb, leb, length, get_or, unwrap_or};
 ghost use Rattle.definition.specs.Text.{decimal};
 ghost use Rattle.lines.specs.Wrote.{Wrote};
-ghost use Rattle.streams.specs.Tape.{WroteAll};
+ghost use Rattle.streams.specs.Tape.{at_of, WroteAll};
 ghost use Rattle.frames.specs.Frames.{spelled};
 ghost use Rattle.frames.specs.Report.{differs_line, summary};
 ghost use Rattle.frames.specs.Read.{HeadRead, FrameRead};
@@ -56,6 +56,7 @@ fn number(head: &[u8], at: usize) -> Option<u64>
 }
 
 // Whether the line is a head, of parts that have room.
+// How long the parts are is a clause, here and in what reads and tells them: arrays would refuse longer ones.
 fn is_head(head: &[u8], sheet: u64, answer: u64) -> bool
     requires { 18 ≤ length head.now }
     ensures { result ≡ (eqb (get_or head.now 8 0) 9 && eqb (get_or head.now 17 0) 10 && leb sheet 262144 && leb answer 524288) }
@@ -79,7 +80,7 @@ fn read_head<R: Read>(
     given: &[u8],
     source: &mut R,
 ) -> Result<Frame, NoFrame>
-    requires { s.old.at ≤ length given.now }
+    requires { at_of s.old ≤ length given.now }
     ensures { HeadRead tape.now given.now s.old result s.new }
 {
     let mut head = [0u8; 18];
@@ -114,7 +115,7 @@ pub fn read_frame<R: Read>(
     answer: &mut [u8],
     source: &mut R,
 ) -> Result<Frame, NoFrame>
-    requires { (s.old.at ≤ length given.now) × (262144 ≤ length sheet.old) × (524288 ≤ length answer.old) }
+    requires { (at_of s.old ≤ length given.now) × (262144 ≤ length sheet.old) × (524288 ≤ length answer.old) }
     ensures { FrameRead tape.now given.now s.old result s.new sheet.new answer.new }
 {
     let f = read_head(s, tape, given, source)?;
@@ -179,7 +180,7 @@ pub fn tell<W: Write>(
     paper: &mut [u8],
     sink: &mut W,
 ) -> Result<(), Cut>
-    requires { s.old.at ≤ length paper.old }
+    requires { at_of s.old ≤ length paper.old }
     ensures { WroteAll tape.now paper.old (differs_line same k) s.old result s.new paper.new }
 {
     let mut line = [0u8; 64];
@@ -197,7 +198,7 @@ pub fn sum_up<W: Write>(
     paper: &mut [u8],
     sink: &mut W,
 ) -> Result<(), Cut>
-    requires { s.old.at ≤ length paper.old }
+    requires { at_of s.old ≤ length paper.old }
     ensures { WroteAll tape.now paper.old (summary whole answers differ) s.old result s.new paper.new }
 {
     let mut line = [0u8; 64];

@@ -9,7 +9,7 @@ ghost use Rattle.home.specs.Tallies.{differs_line, tally_line, broken_line};
 use frames::NoFrame;
 use std::io;
 use std::io::{Error, Stdout};
-use streams::{Noted, STDIN};
+use streams::{Noted, STDIN, Stream};
 
 // A sheet that was moved and came home, one that is refused as its stored answer says, or one that differs.
 #[derive(Clone, Copy)]
@@ -52,6 +52,7 @@ fn tell(number: u64, sink: &mut Noted<Stdout>) -> bool {
 }
 
 // One more sheet.
+// That one more fits is a clause and no ghost field of the tally: it comes from the bound of the loop that counts.
 fn count(t: &mut Tally, w: Way, sink: &mut Noted<Stdout>)
     requires { t.old.home + t.old.refused + t.old.differ + 1 < 2 ^ 64 }
     ensures { t.new.home + t.new.refused + t.new.differ ≡ t.old.home + t.old.refused + t.old.differ + 1 }
@@ -216,7 +217,7 @@ fn run(
     let mut sink = Noted::new(rt.stdout());
     let tape = [0usize; 1];
     let given = [0u8; 1];
-    let mut at = streams::descriptor(STDIN);
+    let mut at = Stream::Descriptor(STDIN);
     let mut t = Tally::default();
     for _ in 0..u64::MAX {
         match frames::read_frame(&mut at, &tape, &given, sheet, answer, &mut source) {

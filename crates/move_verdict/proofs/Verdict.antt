@@ -16,6 +16,7 @@ use Rattle.entry.specs.declared.Entered.{Entered}
 use Rattle.entry.specs.Number.{refusal_in}
 use Rattle.sheet_places.specs.Places.{table_words}
 use Rattle.sheet_form.specs.declared.Reading.{Reading}
+use Rattle.sheet_form.specs.Fronts.{front_at}
 use Rattle.sheet_form.specs.Front.{Formed, second_of}
 use Rattle.form_agree.specs.Read.{forms_front}
 use Rattle.sheet_verdict.specs.Leads.{table_read}
@@ -65,7 +66,7 @@ same_verdict asked sheet e =
 
 -- ---- the sheets that lead here
 
-module _ (second : Bool) (cur : Reading) (b : Bool) (i : b ≡ already second (second_of cur.front)) where
+module _ (second : Bool) (cur : Reading) (b : Bool) (i : b ≡ already second (second_of (front_at cur.front))) where
   front : (sheet W Y : List ℕ) → LeadsTo sheet cur W Y → b ≡ already second (is_second sheet)
   front sheet W Y s =
       i

@@ -6,6 +6,7 @@ ghost use Rattle.words.specs.Words.{word_count, words_of};
 ghost use Rattle.work_layout.specs.Regions.{max_work};
 ghost use Rattle.definition.specs.Conversion.{already};
 ghost use Rattle.sheet_places.specs.Places.{table_words};
+ghost use Rattle.sheet_form.specs.Fronts.{front_at};
 ghost use Rattle.sheet_form.specs.Front.{formed, open_form, second_of};
 ghost use Rattle.sheet_form.specs.Stream.{Streamed};
 ghost use Rattle.move_verdict.specs.Settled.{Settles};
@@ -15,7 +16,7 @@ use sheet_form::Reading;
 
 // Whether the sheet that was read has the form that is asked for, the second or the first.
 fn is_already(second: bool, cur: Reading) -> bool
-    ensures { result ≡ already second (second_of cur.front) }
+    ensures { result ≡ already second (second_of (front_at cur.front)) }
 {
     second == sheet_form::is_second(cur)
 }

@@ -16,7 +16,7 @@ use Rattle.streams.specs.declared.Stream.{Stream}
 use Rattle.streams.specs.declared.Cut.{Cut}
 use Rattle.streams.specs.declared.Broken.{Broken}
 use Rattle.streams.specs.declared.Broken.TheVariants.{Input, Output}
-use Rattle.streams.specs.Tape.{AllMarked, WroteAll, written as moved, in_broken, out_broken}
+use Rattle.streams.specs.Tape.{is_tape, call_of, at_of, AllMarked, WroteAll, written as moved, in_broken, out_broken}
 use Rattle.streams.specs.Ends.{or_broken}
 use Rattle.frames.specs.declared.Frame.{Frame}
 use Rattle.frames.specs.Frames.{is_head, is_frame, frame_size, frame_answer, agrees, past_frame}
@@ -44,10 +44,10 @@ found_some tape given s f t S A b q i =
       taped = q.taped;
       bound = q.bound;
       whole = λ y.
-          let w : Framed (drop s.at given) s f t S A = q.whole y in
+          let w : Framed (drop (at_of s) given) s f t S A = q.whole y in
           record {
             frame = w.frame;
-            is = i ∙ ap (λ (l : List ℕ). same l (vregs_of (take f.sheet S))) w.answer ∙ ap (λ (l : List ℕ). same (frame_answer (drop s.at given)) (vregs_of l)) w.sheet;
+            is = i ∙ ap (λ (l : List ℕ). same l (vregs_of (take f.sheet S))) w.answer ∙ ap (λ (l : List ℕ). same (frame_answer (drop (at_of s) given)) (vregs_of l)) w.sheet;
             at = w.at;
             onward = w.onward;
           };
@@ -82,20 +82,20 @@ missed_one false = omega arith
 
 pub record Kept (given : List ℕ) (input : Stream) (paper : List ℕ) (output at to : Stream) (answers differ turn : ℕ) (P : List ℕ) : Type 0 where
   pub fuel : ℕ
-  pub enough : length (drop at.at given) ≤ fuel
-  pub text : take to.at P ++ report_from fuel answers differ (drop at.at given) ≡ take output.at paper ++ report (drop input.at given)
-  pub made : turn ≤ at.call
+  pub enough : length (drop (at_of at) given) ≤ fuel
+  pub text : take (at_of to) P ++ report_from fuel answers differ (drop (at_of at) given) ≡ take (at_of output) paper ++ report (drop (at_of input) given)
+  pub made : turn ≤ call_of at
 
 pub record Replaying (given : List ℕ) (input : Stream) (paper : List ℕ) (output at to : Stream) (answers differ turn : ℕ) (P : List ℕ) : Type 0 where
-  pub in_taped : at.taped ≡ input.taped
-  pub out_taped : to.taped ≡ output.taped
-  pub in_bound : at.at ≤ length given
-  pub out_bound : to.at ≤ length P
+  pub in_taped : is_tape at ≡ is_tape input
+  pub out_taped : is_tape to ≡ is_tape output
+  pub in_bound : at_of at ≤ length given
+  pub out_bound : at_of to ≤ length P
   pub few : answers ≤ turn
   pub less : differ ≤ answers
-  pub kept : input.taped ≡ true → output.taped ≡ true → Kept given input paper output at to answers differ turn P
+  pub kept : is_tape input ≡ true → is_tape output ≡ true → Kept given input paper output at to answers differ turn P
 
-pub replaying_start : (given : List ℕ) (input : Stream) (paper : List ℕ) (output : Stream) → input.at ≤ length given → output.at ≤ length paper → Replaying given input paper output input output 0 0 0 paper
+pub replaying_start : (given : List ℕ) (input : Stream) (paper : List ℕ) (output : Stream) → at_of input ≤ length given → at_of output ≤ length paper → Replaying given input paper output input output 0 0 0 paper
 replaying_start given input paper output h g =
     record {
       in_taped = refl;
@@ -104,16 +104,16 @@ replaying_start given input paper output h g =
       out_bound = g;
       few = omega arith;
       less = omega arith;
-      kept = λ _ _. record { fuel = length (drop input.at given); enough = omega arith; text = refl; made = omega arith };
+      kept = λ _ _. record { fuel = length (drop (at_of input) given); enough = omega arith; text = refl; made = omega arith };
     }
 
 -- what was written of a text, and what is left of it
-written : (tape P text : List ℕ) (to : Stream) (w : Result Unit Cut) (t : Stream) (Q R : List ℕ) → AllMarked tape P text to w t Q → take t.at Q ++ (drop (moved text w) text ++ R) ≡ take to.at P ++ (text ++ R)
+written : (tape P text : List ℕ) (to : Stream) (w : Result Unit Cut) (t : Stream) (Q R : List ℕ) → AllMarked tape P text to w t Q → take (at_of t) Q ++ (drop (moved text w) text ++ R) ≡ take (at_of to) P ++ (text ++ R)
 written tape P text to w t Q R m =
     let n : ℕ = moved text w in
     ap (λ (l : List ℕ). l ++ (drop n text ++ R)) m.text
-    ∙ append_assoc (take to.at P) (take n text) (drop n text ++ R)
-    ∙ ap (λ (l : List ℕ). take to.at P ++ l) (sym (append_assoc (take n text) (drop n text) R) ∙ ap (λ (l : List ℕ). l ++ R) (take-append-drop n text))
+    ∙ append_assoc (take (at_of to) P) (take n text) (drop n text ++ R)
+    ∙ ap (λ (l : List ℕ). take (at_of to) P ++ l) (sym (append_assoc (take n text) (drop n text) R) ∙ ap (λ (l : List ℕ). l ++ R) (take-append-drop n text))
 
 nothing_left : (text : List ℕ) (n : ℕ) → n ≡ length text → drop n text ≡ []
 nothing_left text n e = let h : length text ≤ n = omega (arith, e) in drop_of_length-le text h
@@ -126,7 +126,7 @@ module _ (reads given : List ℕ) (input : Stream) (writes paper : List ℕ) (ou
         on_tapes = λ ti tw.
             let k : Kept given input paper output at to answers differ turn P = h.kept ti tw in
             record {
-              rest = report_from k.fuel answers differ (drop at.at given);
+              rest = report_from k.fuel answers differ (drop (at_of at) given);
               is = k.text;
               whole = λ y _. never (sym y);
               unread = λ _. get_or-eq_default reads 0 (omega (arith, k.made, z));
@@ -135,7 +135,7 @@ module _ (reads given : List ℕ) (input : Stream) (writes paper : List ℕ) (ou
       }
 
   module _ (e : NoFrame) (next : Stream) (q : AnswerRead reads given at (Err e) next) where
-    missing : input.taped ≡ true → Missing reads (drop at.at given) e next
+    missing : is_tape input ≡ true → Missing reads (drop (at_of at) given) e next
     missing t = q.missing (h.in_taped ∙ t)
 
     -- a read failed
@@ -145,7 +145,7 @@ module _ (reads given : List ℕ) (input : Stream) (writes paper : List ℕ) (ou
           on_tapes = λ ti tw.
               let k : Kept given input paper output at to answers differ turn P = h.kept ti tw in
               record {
-                rest = report_from k.fuel answers differ (drop at.at given);
+                rest = report_from k.fuel answers differ (drop (at_of at) given);
                 is = k.text;
                 whole = λ y _. never (sym y);
                 unread = λ _. (missing ti).stopped z;
@@ -158,14 +158,14 @@ module _ (reads given : List ℕ) (input : Stream) (writes paper : List ℕ) (ou
       abbrev last : List ℕ
       last = summary b answers differ
 
-      marked : output.taped ≡ true → AllMarked writes P last to w t Q
+      marked : is_tape output ≡ true → AllMarked writes P last to w t Q
       marked tw = a.marked (h.out_taped ∙ tw)
 
-      all_but : input.taped ≡ true → output.taped ≡ true → take t.at Q ++ drop (moved last w) last ≡ take output.at paper ++ report (drop input.at given)
+      all_but : is_tape input ≡ true → is_tape output ≡ true → take (at_of t) Q ++ drop (moved last w) last ≡ take (at_of output) paper ++ report (drop (at_of input) given)
       all_but ti tw =
           let k : Kept given input paper output at to answers differ turn P = h.kept ti tw in
-          ap (λ (l : List ℕ). take t.at Q ++ l) (sym (append-nil (drop (moved last w) last))) ∙ written writes P last to w t Q [] (marked tw)
-          ∙ ap (λ (l : List ℕ). take to.at P ++ l) (append-nil last ∙ ap (λ (c : Bool). summary c answers differ) (eb ∙ (missing ti).empty z) ∙ sym (report_stop k.fuel answers differ (drop at.at given) ((missing ti).none z)))
+          ap (λ (l : List ℕ). take (at_of t) Q ++ l) (sym (append-nil (drop (moved last w) last))) ∙ written writes P last to w t Q [] (marked tw)
+          ∙ ap (λ (l : List ℕ). take (at_of to) P ++ l) (append-nil last ∙ ap (λ (c : Bool). summary c answers differ) (eb ∙ (missing ti).empty z) ∙ sym (report_stop k.fuel answers differ (drop (at_of at) given) ((missing ti).none z)))
           ∙ k.text
 
       pub replaying_end : (r : Result Unit Broken) → r ≡ result_or w (Err Output) → Ran reads given input next writes paper output r t Q
@@ -183,29 +183,29 @@ module _ (reads given : List ℕ) (input : Stream) (writes paper : List ℕ) (ou
           }
 
   module _ (b : Bool) (next : Stream) (q : AnswerRead reads given at (Ok b) next) (w : Result Unit Cut) (t : Stream) (Q : List ℕ) (a : WroteAll writes P (differs_line b (answers + 1)) to w t Q) where
-    compared : input.taped ≡ true → Compared (drop at.at given) at b next
+    compared : is_tape input ≡ true → Compared (drop (at_of at) given) at b next
     compared y = q.whole (h.in_taped ∙ y)
 
     -- what is left to report, its line first
     record Onward (k : Kept given input paper output at to answers differ turn P) : Type 0 where
       fuel : ℕ
-      enough : length (drop next.at given) ≤ fuel
-      is : report_from k.fuel answers differ (drop at.at given) ≡ differs_line b (answers + 1) ++ report_from fuel (answers + 1) (differ + missed b) (drop next.at given)
+      enough : length (drop (at_of next) given) ≤ fuel
+      is : report_from k.fuel answers differ (drop (at_of at) given) ≡ differs_line b (answers + 1) ++ report_from fuel (answers + 1) (differ + missed b) (drop (at_of next) given)
 
-    onward : (y : input.taped ≡ true) (k : Kept given input paper output at to answers differ turn P) → Onward k
+    onward : (y : is_tape input ≡ true) (k : Kept given input paper output at to answers differ turn P) → Onward k
     onward y k = go k.fuel refl
       where
         go : (n : ℕ) → k.fuel ≡ n → Onward k
-        go zero e = absurd (omega (arith, e, k.enough, frame_fits (drop at.at given) (compared y).frame))
+        go zero e = absurd (omega (arith, e, k.enough, frame_fits (drop (at_of at) given) (compared y).frame))
         go (suc n) e =
-            let p : drop next.at given ≡ past_frame (drop at.at given) = ap (λ (j : ℕ). drop j given) (compared y).at ∙ sym (drop-drop (frame_size (drop at.at given)) at.at given) in
+            let p : drop (at_of next) given ≡ past_frame (drop (at_of at) given) = ap (λ (j : ℕ). drop j given) (compared y).at ∙ sym (drop-drop (frame_size (drop (at_of at) given)) (at_of at) given) in
             record {
               fuel = n;
-              enough = omega (arith, e, k.enough, length-drop next.at given, length-drop at.at given, (compared y).at, frame_fits (drop at.at given) (compared y).frame);
+              enough = omega (arith, e, k.enough, length-drop (at_of next) given, length-drop (at_of at) given, (compared y).at, frame_fits (drop (at_of at) given) (compared y).frame);
               is =
-                  ap (λ (j : ℕ). report_from j answers differ (drop at.at given)) e
-                  ∙ report_next n answers differ (drop at.at given) (compared y).frame
-                  ∙ ap (λ (c : Bool). differs_line c (answers + 1) ++ report_from n (answers + 1) (differ + missed c) (past_frame (drop at.at given))) (sym (compared y).is)
+                  ap (λ (j : ℕ). report_from j answers differ (drop (at_of at) given)) e
+                  ∙ report_next n answers differ (drop (at_of at) given) (compared y).frame
+                  ∙ ap (λ (c : Bool). differs_line c (answers + 1) ++ report_from n (answers + 1) (differ + missed c) (past_frame (drop (at_of at) given))) (sym (compared y).is)
                   ∙ ap (λ (l : List ℕ). differs_line b (answers + 1) ++ report_from n (answers + 1) (differ + missed b) l) (sym p);
             }
 
@@ -220,10 +220,10 @@ module _ (reads given : List ℕ) (input : Stream) (writes paper : List ℕ) (ou
               let k : Kept given input paper output at to answers differ turn P = h.kept ti tw in
               let o : Onward k = onward ti k in
               let m : AllMarked writes P line to w t Q = a.marked (h.out_taped ∙ tw) in
-              let R : List ℕ = report_from o.fuel (answers + 1) (differ + missed b) (drop next.at given) in
+              let R : List ℕ = report_from o.fuel (answers + 1) (differ + missed b) (drop (at_of next) given) in
               record {
                 rest = drop (moved line w) line ++ R;
-                is = written writes P line to w t Q R m ∙ ap (λ (l : List ℕ). take to.at P ++ l) (sym o.is) ∙ k.text;
+                is = written writes P line to w t Q R m ∙ ap (λ (l : List ℕ). take (at_of to) P ++ l) (sym o.is) ∙ k.text;
                 whole = λ _ y. never (sym y);
                 unread = λ y. never y;
                 unwritten = λ _. m.stopped z;
@@ -244,13 +244,13 @@ module _ (reads given : List ℕ) (input : Stream) (writes paper : List ℕ) (ou
               let k : Kept given input paper output at to answers differ turn P = h.kept ti tw in
               let o : Onward k = onward ti k in
               let m : AllMarked writes P line to w t Q = a.marked (h.out_taped ∙ tw) in
-              let R : List ℕ = report_from o.fuel (answers + 1) (differ + missed b) (drop next.at given) in
+              let R : List ℕ = report_from o.fuel (answers + 1) (differ + missed b) (drop (at_of next) given) in
               record {
                 fuel = o.fuel;
                 enough = o.enough;
                 text =
-                    ap (λ (l : List ℕ). take t.at Q ++ (l ++ R)) (sym (nothing_left line (moved line w) (a.whole (unbroken w z))))
-                    ∙ written writes P line to w t Q R m ∙ ap (λ (l : List ℕ). take to.at P ++ l) (sym o.is) ∙ k.text;
+                    ap (λ (l : List ℕ). take (at_of t) Q ++ (l ++ R)) (sym (nothing_left line (moved line w) (a.whole (unbroken w z))))
+                    ∙ written writes P line to w t Q R m ∙ ap (λ (l : List ℕ). take (at_of to) P ++ l) (sym o.is) ∙ k.text;
                 made = omega (arith, k.made, (compared ti).onward);
               };
         })

@@ -6,6 +6,7 @@ ghost use Rattle.words.specs.Words.{word_count};
 ghost use Rattle.work_layout.specs.Regions.{max_work};
 ghost use Rattle.sheet_places.specs.Places.{table_words};
 ghost use Rattle.frames.specs.Report.{missed as Report·missed};
+ghost use Rattle.streams.specs.Tape.{at_of};
 ghost use Rattle.replay_run.specs.Ran.{AnswerRead, Ran};
 
 use frames::NoFrame;
@@ -26,7 +27,7 @@ fn next_answer<R: Read>(
     work: &mut [u8],
     source: &mut R,
 ) -> Result<bool, NoFrame>
-    requires { (s.old.at ≤ length given.now) × (262144 ≤ length sheet.old) × (524288 ≤ length answer.old) × (256 ≤ length buf.old) × (word_count table.old ≡ table_words) × (word_count written.old ≡ 1536) × (length out.old ≡ 460800) × (max_work ≤ word_count work.old) }
+    requires { (at_of s.old ≤ length given.now) × (262144 ≤ length sheet.old) × (524288 ≤ length answer.old) × (256 ≤ length buf.old) × (word_count table.old ≡ table_words) × (word_count written.old ≡ 1536) × (length out.old ≡ 460800) × (max_work ≤ word_count work.old) }
     ensures { AnswerRead tape.now given.now s.old result s.new }
 {
     let f = frames::read_frame(s, tape, given, sheet, answer, source)?;
@@ -60,7 +61,7 @@ pub fn replay<R: Read, W: Write>(
     source: &mut R,
     sink: &mut W,
 ) -> Result<(), Broken>
-    requires { (input.old.at ≤ length given.now) × (output.old.at ≤ length paper.old) × (262144 ≤ length sheet.old) × (524288 ≤ length answer.old) × (256 ≤ length buf.old) × (word_count table.old ≡ table_words) × (word_count written.old ≡ 1536) × (length out.old ≡ 460800) × (max_work ≤ word_count work.old) }
+    requires { (at_of input.old ≤ length given.now) × (at_of output.old ≤ length paper.old) × (262144 ≤ length sheet.old) × (524288 ≤ length answer.old) × (256 ≤ length buf.old) × (word_count table.old ≡ table_words) × (word_count written.old ≡ 1536) × (length out.old ≡ 460800) × (max_work ≤ word_count work.old) }
     ensures { Ran reads.now given.now input.old input.new writes.now paper.old output.old result output.new paper.new }
 {
     let mut answers = 0;

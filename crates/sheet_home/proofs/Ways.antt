@@ -21,7 +21,7 @@ use Rattle.sheet_form.specs.Stream.{Streamed}
 use Rattle.agree.specs.Agree.{all_bytes}
 use Rattle.sheet_verdict.specs.Judged.{LeadsTo}
 use Rattle.sheet_verdict.specs.Fed.{both_open}
-use Rattle.job_pages.specs.declared.Cursor.{Cursor}
+use Rattle.job_pages.specs.Cursors.{Cursor}
 use Rattle.lines.specs.declared.Page.{Page}
 use Rattle.job_pages.specs.Cursors.{at_start}
 use Rattle.job_pages.specs.Left.{Left, text_left}

@@ -18,6 +18,7 @@ pub struct Moved {
 }
 
 // The answer of the program that asks for this form, in one page; none where it has no room.
+// The lent tables are slices of so many words, by clauses: an array would ask for just so many bytes.
 pub fn move_sheet(
     second: bool,
     sheet: &[u8],
@@ -32,14 +33,14 @@ pub fn move_sheet(
     let first = sheet_form::open(table, written);
     let cur = sheet_form::feed(first, sheet, table, written);
     if let Err(r) = move_verdict::verdict_on(second, cur, table, written, work) {
-        let n = register_sheet::put_refused(out, 0, build_answer::sheet_number_of(r));
+        let n = register_sheet::put_refused(out, 0, r.number());
         return Some(Moved {
             n,
             refused: Some(r),
         });
     }
     let page = job_pages::fill(second, table, job_pages::start(), out);
-    if page.cur.key != 12 {
+    if page.cur.key.is_some() {
         return None;
     }
     Some(Moved {

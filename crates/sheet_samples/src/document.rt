@@ -48,6 +48,7 @@ pub fn from_fence(doc: &[u8]) -> &[u8]
 }
 
 // The block that begins with the document's first line.
+// That the document is not empty is a clause: slices have no such type, and the loop asks for it.
 fn first_block(doc: &[u8]) -> Block<'_>
     requires { 0 < length doc.now }
     ensures { length result.rest.now < length doc.now }

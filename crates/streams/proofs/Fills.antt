@@ -9,7 +9,7 @@ use lib.Seq.{length-take-le, take-add, take-append-add, take-append-le, drop-dro
 use Rattle.std.specs.Prelude.{Result, Ok, Err, is_err}
 use Rattle.streams.specs.declared.Stream.{Stream}
 use Rattle.streams.specs.declared.Cut.{Cut}
-use Rattle.streams.specs.Tape.{Played, Read, Filled, got}
+use Rattle.streams.specs.Tape.{is_tape, fd_of, call_of, at_of, Played, Read, Filled, got}
 use Rattle.streams.proofs.Steps.{never}
 
 -- X with its elements from `done` on lent, and back as Y
@@ -33,44 +33,44 @@ length_back done k X Y h e g =
 
 -- on a tape, between two turns
 pub record Kept-filled (given : List ℕ) (s cur : Stream) (done : ℕ) (B : List ℕ) : Type 0 where
-  pub at : cur.at ≡ s.at + done
-  pub bytes : take done B ≡ take done (drop s.at given)
-  pub call : s.call ≤ cur.call
-  pub onward : 1 ≤ done → s.call + 1 ≤ cur.call
+  pub at : at_of cur ≡ at_of s + done
+  pub bytes : take done B ≡ take done (drop (at_of s) given)
+  pub call : call_of s ≤ call_of cur
+  pub onward : 1 ≤ done → call_of s + 1 ≤ call_of cur
 
 pub record Filling (given : List ℕ) (s cur : Stream) (done : ℕ) (B : List ℕ) : Type 0 where
   pub within : done ≤ length B
-  pub taped : cur.taped ≡ s.taped
-  pub fd : cur.fd ≡ s.fd
-  pub bound : cur.at ≤ length given
-  pub kept : s.taped ≡ true → Kept-filled given s cur done B
+  pub taped : is_tape cur ≡ is_tape s
+  pub fd : fd_of cur ≡ fd_of s
+  pub bound : at_of cur ≤ length given
+  pub kept : is_tape s ≡ true → Kept-filled given s cur done B
 
-pub filling_start : (given : List ℕ) (s : Stream) (B : List ℕ) → s.at ≤ length given → Filling given s s 0 B
+pub filling_start : (given : List ℕ) (s : Stream) (B : List ℕ) → at_of s ≤ length given → Filling given s s 0 B
 filling_start given s B h = record { within = omega arith; taped = refl; fd = refl; bound = h; kept = λ _. record { at = omega arith; bytes = refl; call = omega arith; onward = λ e. absurd (omega (arith, e)) } }
 
 module _ (tape given : List ℕ) (s cur : Stream) (done k : ℕ) (X : List ℕ) (t : Stream) (Y : List ℕ) (h : Filling given s cur done X) (e : k ≡ length X - done) (l : length Y ≡ k) where
   module _ (r : Result ℕ Cut) (q : Read tape given cur r t Y) where
-    played : s.taped ≡ true → Played tape given cur (got r) (is_err r) t Y
+    played : is_tape s ≡ true → Played tape given cur (got r) (is_err r) t Y
     played y = q.played (h.taped ∙ y)
 
     filled_within : done + got r ≤ length (back done k X Y)
     filled_within = omega (arith, h.within, q.within, length_back done k X Y h.within e l)
 
-    filled_bytes : (y : s.taped ≡ true) → take (done + got r) (back done k X Y) ≡ take (done + got r) (drop s.at given)
+    filled_bytes : (y : is_tape s ≡ true) → take (done + got r) (back done k X Y) ≡ take (done + got r) (drop (at_of s) given)
     filled_bytes y =
         let z : Kept-filled given s cur done X = h.kept y in
-        let D : List ℕ = drop s.at given in
+        let D : List ℕ = drop (at_of s) given in
         let n : ℕ = got r in
         take_back done k n X Y h.within q.within
         ∙ ap (λ (x : List ℕ). x ++ take n Y) z.bytes
-        ∙ ap (λ (x : List ℕ). take done D ++ x) ((played y).bytes ∙ ap (λ (m : ℕ). take n (drop m given)) z.at ∙ ap (take n) (sym (drop-drop done s.at given)))
+        ∙ ap (λ (x : List ℕ). take done D ++ x) ((played y).bytes ∙ ap (λ (m : ℕ). take n (drop m given)) z.at ∙ ap (take n) (sym (drop-drop done (at_of s) given)))
         ∙ sym (take-add done n D)
 
     -- nothing more was read: bytes and place are as they were
-    stands : got r ≡ 0 → (y : s.taped ≡ true) → (t.at ≡ s.at + done) × (take done (back done k X Y) ≡ take done (drop s.at given))
+    stands : got r ≡ 0 → (y : is_tape s ≡ true) → (at_of t ≡ at_of s + done) × (take done (back done k X Y) ≡ take done (drop (at_of s) given))
     stands e0 y =
         let i : done + got r ≡ done = omega (arith, e0) in
-        (omega (arith, (played y).at, (h.kept y).at, e0), subst (λ (j : ℕ). take j (back done k X Y) ≡ take j (drop s.at given)) i (filled_bytes y))
+        (omega (arith, (played y).at, (h.kept y).at, e0), subst (λ (j : ℕ). take j (back done k X Y) ≡ take j (drop (at_of s) given)) i (filled_bytes y))
 
   pub filling_next : (n : ℕ) → (n ≡ 0 → ⊥) → Read tape given cur (Ok n) t Y → Filling given s t (done + n) (back done k X Y)
   filling_next n p q =
@@ -82,7 +82,7 @@ module _ (tape given : List ℕ) (s cur : Stream) (done k : ℕ) (X : List ℕ) 
         kept = λ y.
             let z : Kept-filled given s cur done X = h.kept y in
             let w : Played tape given cur n false t Y = played (Ok n) q y in
-            let o : cur.call + 1 ≤ t.call = w.onward refl in
+            let o : call_of cur + 1 ≤ (call_of t) = w.onward refl in
             record { at = omega (arith, w.at, z.at); bytes = filled_bytes (Ok n) q y; call = omega (arith, o, z.call); onward = λ _. omega (arith, o, z.call) };
       }
 

@@ -4,40 +4,40 @@ use Rattle.std.proofs.Common.{sym, ap, ◌∙◌, append_assoc, arith, take-appe
 use Rattle.std.proofs.lemmas.Bool.{false≢true}
 use Rattle.streams.specs.declared.Stream.{Stream}
 use Rattle.streams.specs.declared.Cut.{Cut}
-use Rattle.streams.specs.Tape.{AllMarked, WroteAll, written}
+use Rattle.streams.specs.Tape.{is_tape, call_of, at_of, AllMarked, WroteAll, written}
 
 -- the text, behind what stood on the paper: all of it; or its first bytes, and then the tape fails there or the paper
 -- is full
 pub record OnPaper (tape paper text : List ℕ) (s : Stream) (failed : Bool) (next : Stream) (P : List ℕ) : Type 0 where
   pub rest : List ℕ
-  pub is : take next.at P ++ rest ≡ take s.at paper ++ text
+  pub is : take (at_of next) P ++ rest ≡ take (at_of s) paper ++ text
   pub whole : failed ≡ false → rest ≡ []
-  pub stopped : failed ≡ true → 0 < get_or tape next.call 0 → next.at ≡ length P
+  pub stopped : failed ≡ true → 0 < get_or tape (call_of next) 0 → at_of next ≡ length P
 
 -- ---- page after page
 
 -- from s on the stream stands at cur: what it has written and what is left are the text
 pub record Writing (paper text : List ℕ) (s cur : Stream) (left P : List ℕ) : Type 0 where
-  pub taped : cur.taped ≡ s.taped
-  pub bound : cur.at ≤ length P
-  pub text_left : s.taped ≡ true → take cur.at P ++ left ≡ take s.at paper ++ text
+  pub taped : is_tape cur ≡ is_tape s
+  pub bound : at_of cur ≤ length P
+  pub text_left : is_tape s ≡ true → take (at_of cur) P ++ left ≡ take (at_of s) paper ++ text
 
-pub writing_start : (paper text : List ℕ) (s : Stream) → s.at ≤ length paper → Writing paper text s s text paper
+pub writing_start : (paper text : List ℕ) (s : Stream) → at_of s ≤ length paper → Writing paper text s s text paper
 writing_start paper text s h = record { taped = refl; bound = h; text_left = λ y. refl }
 
 -- a page is handed to the stream, and L is left behind it
 module _ (paper text tape : List ℕ) (s cur : Stream) (page L P : List ℕ) (w : Result Unit Cut) (t : Stream)
     (Q : List ℕ) (h : Writing paper text s cur (page ++ L) P) (a : WroteAll tape P page cur w t Q) where
-  marked : s.taped ≡ true → AllMarked tape P page cur w t Q
+  marked : is_tape s ≡ true → AllMarked tape P page cur w t Q
   marked y = a.marked (h.taped ∙ y)
 
   -- behind the first bytes of the page that were written
-  parted : s.taped ≡ true → take t.at Q ++ (drop (written page w) page ++ L) ≡ take s.at paper ++ text
+  parted : is_tape s ≡ true → take (at_of t) Q ++ (drop (written page w) page ++ L) ≡ take (at_of s) paper ++ text
   parted y =
       ap (λ (l : List ℕ). l ++ (drop (written page w) page ++ L)) (marked y).text
-      ∙ append_assoc (take cur.at P) (take (written page w) page) (drop (written page w) page ++ L)
-      ∙ ap (λ (l : List ℕ). take cur.at P ++ l) (sym (append_assoc (take (written page w) page) (drop (written page w) page) L))
-      ∙ ap (λ (l : List ℕ). take cur.at P ++ (l ++ L)) (take-append-drop (written page w) page)
+      ∙ append_assoc (take (at_of cur) P) (take (written page w) page) (drop (written page w) page ++ L)
+      ∙ ap (λ (l : List ℕ). take (at_of cur) P ++ l) (sym (append_assoc (take (written page w) page) (drop (written page w) page) L))
+      ∙ ap (λ (l : List ℕ). take (at_of cur) P ++ (l ++ L)) (take-append-drop (written page w) page)
       ∙ h.text_left y
 
   pub writing_next : IsOk w → Writing paper text s t L Q
@@ -46,12 +46,12 @@ module _ (paper text tape : List ℕ) (s cur : Stream) (page L P : List ℕ) (w 
     bound = a.bound;
     text_left = λ y.
         ap (λ (l : List ℕ). l ++ L) ((marked y).text
-        ∙ ap (λ (l : List ℕ). take cur.at P ++ l) (take_all (written page w) page (omega (arith, a.whole f))))
-        ∙ append_assoc (take cur.at P) page L
+        ∙ ap (λ (l : List ℕ). take (at_of cur) P ++ l) (take_all (written page w) page (omega (arith, a.whole f))))
+        ∙ append_assoc (take (at_of cur) P) page L
         ∙ h.text_left y;
   }
 
-  pub writing_failed : IsErr w → s.taped ≡ true → OnPaper tape paper text s true t Q
+  pub writing_failed : IsErr w → is_tape s ≡ true → OnPaper tape paper text s true t Q
   writing_failed f y = record {
     rest = drop (written page w) page ++ L;
     is = parted y;
@@ -61,7 +61,7 @@ module _ (paper text tape : List ℕ) (s cur : Stream) (page L P : List ℕ) (w 
 
 -- nothing is left
 pub writing_end : (paper text tape : List ℕ) (s cur : Stream) (P : List ℕ) → Writing paper text s cur [] P
-    → s.taped ≡ true → OnPaper tape paper text s false cur P
+    → is_tape s ≡ true → OnPaper tape paper text s false cur P
 writing_end paper text tape s cur P h y = record {
   rest = [];
   is = h.text_left y;

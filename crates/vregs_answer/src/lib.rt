@@ -9,7 +9,7 @@ ghost use Rattle.sheet_form.specs.Front.{formed, open_form};
 ghost use Rattle.sheet_form.specs.Stream.{Streamed};
 ghost use Rattle.vregs_answer.specs.Sheet.{vregs_tables, Answers};
 
-use build_answer::{BuildEnd, refuse, sheet_number_of};
+use build_answer::{BuildEnd, refuse};
 use sheet_form::Reading;
 use virt_regs::OutLayout;
 
@@ -39,6 +39,6 @@ pub fn answer_table(
     spans::clear(out);
     match sheet_verdict::judge(cur, table, written, work) {
         Ok(e) => build::build_entered(table, e, out, vregs_tables(), work),
-        Err(r) => refuse(sheet_number_of(r)),
+        Err(r) => refuse(r.number()),
     }
 }

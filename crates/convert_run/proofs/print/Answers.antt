@@ -1,7 +1,7 @@
-use mathlib.Core.Path.{refl}
+use mathlib.Core.Path.{refl, sym, ◌∙◌}
 use native.Mathlib.Omega.{arith}
 use Rattle.convert_run.proofs.Pages.{showing_start, showing_next, showing_failed, showing_end}
-use borrow.Author.Tests.{ne_eqb}
+use Rattle.job_pages.specs.Cursors.{some_key, none_key}
 use borrow.Author.Rules.{rules}
 use Rattle.std.proofs.lemmas.Result.{err_from_is_err_and}
 use Rattle.convert_run.proofs.print.Goals as goal
@@ -28,7 +28,7 @@ returns-in_err-write_all g c = let p = err_from_is_err_and c.from_residual.resul
 
 pub loop-cur-smaller : goal.loop-cur-smaller
 loop-cur-smaller g c = let h = c.requires.1 in
-    c.fill-page.ensures.fewer (ne_eqb _ _ c.loop-cur-test.true)
+    c.fill-page.ensures.fewer (some_key _ (sym c.is_some.ensures ∙ c.loop-cur-test.true))
     (omega (arith, c.fill-page.auto, c.loop-cur.invariant.1, h))
 
 pub loop-cur-preserved : goal.loop-cur-preserved
@@ -39,4 +39,4 @@ loop-cur-preserved g c = (
 )
 
 pub returns : goal.returns
-returns g c = showing_end _ _ _ _ _ _ _ _ c.loop-cur.invariant.2 c.loop-cur-test.false
+returns g c = showing_end _ _ _ _ _ _ _ _ c.loop-cur.invariant.2 (none_key _ (sym c.is_some.ensures ∙ c.loop-cur-test.false))

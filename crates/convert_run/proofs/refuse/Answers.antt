@@ -10,4 +10,4 @@ slice_bounds-write_all-end-2 g c = let l = c.requires.0 in
 
 pub returns : goal.returns
 returns g c = let l = c.requires.1 in
-    rw (← c.sheet_number_of.ensures) (refused_line_lem _ _ _ _ _ _ _ _ _ _ l c.put_refused-n.ensures c.write_all.ensures)
+    rw (← c.number.ensures) (refused_line_lem _ _ _ _ _ _ _ _ _ _ l c.put_refused-n.ensures c.write_all.ensures)

@@ -5,7 +5,7 @@ use Rattle.streams.proofs.Steps.{read_failed, read_again, read_some}
 use Rattle.streams.proofs.play.Goals as goal
 
 pub returns-then-most-eq0 : goal.returns-then-most-eq0
-returns-then-most-eq0 c = read_failed _ _ _ _ c.requires (λ _. search rules)
+returns-then-most-eq0 c = read_failed _ _ _ _ c.requires (search rules)
 
 pub returns-then-most-eq1 : goal.returns-then-most-eq1
 returns-then-most-eq1 c = read_again _ _ _ _ c.requires

@@ -5,7 +5,7 @@ use Rattle.vregs_answer.specs.Laws.{cleared_long, cleared_tables, answers_refuse
 use Rattle.vregs_answer.proofs.answer_table.Goals as goal
 
 pub returns-in-Err : goal.returns-in-Err
-returns-in-Err c = answers_refused _ _ _ _ _ _ c.in-Err.ensures _ c.sheet_number_of.ensures _ c.refuse.ensures _
+returns-in-Err c = answers_refused _ _ _ _ _ _ c.in-Err.ensures _ c.number.ensures _ c.refuse.ensures _
     c.clear.ensures.zeroed
 
 pub build_entered-requires : goal.build_entered-requires
