@@ -76,7 +76,8 @@ fn step_cut(
     Ok(step)
 }
 
-// The step that the scans over a part lead to.
+// The step that the scans over a part lead to. Not inlined, so that a level of the recursion below takes little stack.
+#[inline(never)]
 fn one_step(
     fr: &Frame,
     out: &mut [u8],
