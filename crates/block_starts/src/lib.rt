@@ -7,13 +7,15 @@ ghost use Rattle.definition.specs.declared.BlockData.{BlockData};
 ghost use Rattle.definition.specs.Entry.{insts_of};
 ghost use Rattle.rows.specs.Parts.{splice};
 ghost use Rattle.words.specs.Words.{word_count, words_of};
-ghost use Rattle.function.specs.Blocks.{blocks_at, start_words, block_of};
+ghost use Rattle.word_rows.specs.Rows.{row_words};
+ghost use Rattle.function.specs.Blocks.{blocks_in, start_words, block_of};
 ghost use Rattle.block_starts.specs.Table.{words_in, Encodes};
 
 mod table;
 
 use definition::{Block, Inst};
 pub use table::BlockStarts;
+use word_rows::Rows;
 
 // Row b.
 fn put_start(starts: &mut [u8], at: usize, b: Block, first: u32, bits: u32)
@@ -25,12 +27,13 @@ fn put_start(starts: &mut [u8], at: usize, b: Block, first: u32, bits: u32)
     words::put_word(starts, i + 1, bits);
 }
 
-// The table of the n blocks whose rows stand from word `from` on, put at word `at`. The words are no table before that,
-// and the caller goes on with them: so it takes and leaves them, and who reads the table makes the struct.
-pub fn put_starts(rows: &[u8], from: usize, n: u32, starts: &mut [u8], at: usize)
-    requires { (from + n * 2 ≤ word_count rows.now) × (at + n * 2 + 2 ≤ word_count starts.old) × (insts_of (blocks_at (words_of rows.now) from n) < 4294967296) }
-    ensures { words_of starts.new ≡ splice (words_of starts.old) at (start_words (words_of rows.now) from n) }
+// The table of the blocks, put at word `at`. The words are no table before that, and the caller goes on with them: so it
+// takes and leaves them, and who reads the table makes the struct.
+pub fn put_starts(blocks: &Rows<2>, starts: &mut [u8], at: usize)
+    requires { (blocks.now.n < 4294967296) × (at + blocks.now.n * 2 + 2 ≤ word_count starts.old) × (insts_of (blocks_in blocks.now) < 4294967296) }
+    ensures { words_of starts.new ≡ splice (words_of starts.old) at (start_words (row_words blocks.now) blocks.now.at blocks.now.n) }
 {
+    let n = blocks.n as u32;
     let mut first: u32 = 0;
     for i in 0..n {
         put_start(
@@ -38,9 +41,9 @@ pub fn put_starts(rows: &[u8], from: usize, n: u32, starts: &mut [u8], at: usize
             at,
             Block(i),
             first,
-            function::bits_at(rows, from, Block(i)),
+            function::bits_at(blocks, Block(i)),
         );
-        first += function::count_at(rows, from, Block(i));
+        first += function::count_at(blocks, Block(i));
     }
     put_start(starts, at, Block(n), first, 0);
 }
@@ -51,6 +54,14 @@ pub fn start_at(t: &BlockStarts, b: Block) -> Inst
     ensures { result.0 ≡ get_or (words_in t.now) (t.now.at + b.0 * 2) 0 }
 {
     Inst(words::word_at(t.words, t.at + b.0 as usize * 2))
+}
+
+// The bits of block b's frequency; of the row behind the last block, 0 where the table is one that `put_starts` made.
+pub fn bits_at(t: &BlockStarts, b: Block) -> u32
+    requires { b.0 ≤ t.now.n }
+    ensures { result ≡ get_or (words_in t.now) (t.now.at + b.0 * 2 + 1) 0 }
+{
+    words::word_at(t.words, t.at + b.0 as usize * 2 + 1)
 }
 
 // The block that holds an instruction.

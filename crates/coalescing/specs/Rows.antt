@@ -1,6 +1,8 @@
 -- The rows of the value and value group tables. Assumes nothing.
 use Rattle.std.specs.Prelude.{ℕ, ◌+◌, Bool, true, false, List, eqb, get_or}
 use Rattle.rows.specs.RowsAt.{rows_at}
+use Rattle.word_rows.specs.declared.lent.Rows.{Rows}
+use Rattle.word_rows.specs.Rows.{row_words}
 use Rattle.definition.specs.declared.Value.{Value}
 use Rattle.definition.specs.declared.ValueSet.{ValueSet}
 use Rattle.definition.specs.declared.ValueData.{ValueData}
@@ -23,6 +25,10 @@ value_row W i = record { bank = record { 0 = get_or W i 0 }; leader = val (get_o
 -- n values from word `at` on
 unfoldable pub values_at : List ℕ → ℕ → ℕ → List ValueData
 values_at W at n = rows_at value_row W at 3 n
+
+-- the values of lent rows
+abbrev pub values_in : Rows 3 → List ValueData
+values_in t = values_at (row_words t) t.at t.n
 
 -- the set of value v among these values
 unfoldable pub set_in : List ValueData → Value → ValueSet

@@ -6,11 +6,8 @@ use mathlib.Core.Path.{◌≡◌, refl, sym, ap, ◌∙◌, subst}
 use mathlib.Core.Logic.{◌⊎◌, inl, inr}
 use mathlib.Core.Bool.{Bool, true, false, cond}
 use mathlib.Core.Option.{Option, none, some}
-use mathlib.Core.List.Memᴰ.{head as here}
-use mathlib.Core.List.Memᴰ.{tail as further}
+use mathlib.Core.List.Memᴰ.{head as here, tail as further, cases_cons as head-or-rest, not-nil as none_in}
 use mathlib.Core.List.{List, ◌∷◌, Memᴰ as In}
-use mathlib.Core.List.Memᴰ.{cases_cons as head-or-rest}
-use mathlib.Core.List.Memᴰ.{not-nil as none_in}
 use lib.Dec.{ltb, eqb}
 use borrow.Author.Tests.{eqb-true, eqb-false, ltb-true, ltb-false, eq-eqb, ne_eqb, lt-ltb, le-ltb}
 use Rattle.definition.specs.declared.Side.{Side}

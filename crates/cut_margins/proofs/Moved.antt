@@ -15,8 +15,7 @@ use Rattle.definition.specs.declared.Side.{Side}
 use Rattle.definition.specs.Entry.{side_of}
 use Rattle.definition.specs.CutMoves.{Moves, with_frequency, infinity, pattern_of, first_open, last_open}
 use Rattle.definition.specs.CutMoves.{tie, chosen_of, edge_of}
-use Rattle.cut_margins.specs.Margins.{changed, Chosen, other_moves, other_stays, own_moves, own_stays}
-use Rattle.cut_margins.specs.Margins.{outside_stays}
+use Rattle.cut_margins.specs.Margins.{changed, Chosen, other_moves, other_stays, own_moves, own_stays, outside_stays}
 use Rattle.cut_margins.specs.Promised.{Fair}
 use Rattle.cut_margins.proofs.Choice.{chosen_of_lem, chosen_ext}
 use Rattle.cut_margins.proofs.Edge.{Rival, EdgeOf, edge_of_lem}

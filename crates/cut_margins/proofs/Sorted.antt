@@ -5,11 +5,8 @@ use native.Mathlib.Omega.{arith}
 use mathlib.Core.Path.{◌≡◌, refl, sym, subst}
 use mathlib.Core.Logic.{◌⊎◌, inl, inr}
 use mathlib.Core.Bool.{Bool, true, false, cond}
-use mathlib.Core.List.Memᴰ.{head as here}
-use mathlib.Core.List.Memᴰ.{tail as further}
+use mathlib.Core.List.Memᴰ.{head as here, tail as further, cases_cons as head-or-rest, not-nil as none_in}
 use mathlib.Core.List.{List, [], ◌∷◌, Memᴰ as In}
-use mathlib.Core.List.Memᴰ.{cases_cons as head-or-rest}
-use mathlib.Core.List.Memᴰ.{not-nil as none_in}
 use lib.Dec.{ltb}
 use lib.ListN.{length, get_or}
 use borrow.Author.Tests.{ltb-true, ltb-false}

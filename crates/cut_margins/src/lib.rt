@@ -35,7 +35,7 @@ fn with_tie(t: &BlockStarts, side: Side, i: Block, c: Block) -> u32
     requires { (i.0 ≤ t.now.n) × (bits_in t.now i.0 < infinity) }
     ensures { result ≡ bits_in t.now i.0 + tie side i.0 c.0 }
 {
-    function::bits_at(t.words, t.at, i) + tie_of(side, i, c)
+    block_starts::bits_at(t, i) + tie_of(side, i, c)
 }
 
 // The lesser of e and what block i has with its tie; e for c itself.
@@ -70,7 +70,7 @@ pub fn steps(t: &BlockStarts, side: Side, c: Block, e: u32, i: Block) -> u32
         × (bits_in t.now c.0 ≤ bits_in t.now i.0 + tie side i.0 c.0) }
     ensures { result ≡ steps_in (move_of side (bits_in t.now) c.0 e i.0) }
 {
-    let own = function::bits_at(t.words, t.at, c);
+    let own = block_starts::bits_at(t, c);
     if i == c {
         return if e < 0x7f80_0000 { e - own } else { 0 };
     }

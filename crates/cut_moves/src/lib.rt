@@ -16,8 +16,9 @@ ghost use Rattle.cut_moves.specs.Answer.{move_words, move_row, moves_admission, 
 
 use block_starts::BlockStarts;
 use definition::{Block, Inst, Refusal, Side, Way};
+use word_rows::Rows;
 
-// Number 0 and how many blocks could move the cut; or the refusal's number, and 0.
+// Number 0 and how many blocks could move the cut; or the refusal's number, and 0. No Result, since C gets it.
 #[repr(C)]
 #[derive(Clone, Copy)]
 pub struct MovesEnd {
@@ -112,7 +113,12 @@ fn put_sorted(
         × (words_of list.new ≡ pad (word_count list.old) (move_words
         (cut_moves (blocks_at (words_of blocks.now) 0 n) (inst after) (inst before) side))) }
 {
-    block_starts::put_starts(blocks, 0, n, work, 0);
+    let rows = Rows {
+        words: blocks,
+        at: 0,
+        n: n as usize,
+    };
+    block_starts::put_starts(&rows, work, 0);
     let t = BlockStarts {
         words: work,
         at: 0,
@@ -131,6 +137,7 @@ fn put_sorted(
 // three words, block, way (0 up, 1 down) and steps, from the fewest steps on, equal ones by block; zeros behind them.
 // work: what it holds does not matter. The contract rules out, for one, a row for a block that only an infinite
 // frequency would let move the cut, and a list left as it was lent on 9.
+// side is a number and no Side: C may give any, and one that names none is refused.
 pub fn find_cut_moves(
     blocks: &[u8],
     after: u32,

@@ -7,7 +7,7 @@ use native.Mathlib.Omega.{arith}
 use mathlib.Core.Option.{none, some, some-injective}
 use lib.Bits.{bit_and, and_step, and_lt}
 use lib.Count.{count_trailing_zeros, under}
-use Rattle.definition.specs.Types.{RegClass, UseKind, Use, ClassData, Job, Held, cls}
+use Rattle.definition.specs.Types.{RegClass, UseKind, Use, Job, Held, cls}
 use Rattle.definition.specs.RegInfo.{class_at, common_subclass, lowest}
 use Rattle.definition.specs.Uses.{class_of}
 use Rattle.definition.specs.Admit.{admit_class}

@@ -2,7 +2,7 @@
 use mathlib.Core.Path.{◌≡◌, refl, sym, ap, subst, ◌∙◌}
 use Prim.Native.Nat.{ℕ}
 use native.Mathlib.Omega.{arith}
-use mathlib.Core.Bool.{Bool, true, false, cond, false≢true}
+use mathlib.Core.Bool.{Bool, true, false, cond}
 use mathlib.Core.Option.{Option, none, some, some-injective}
 use mathlib.Core.List.{List}
 use Rattle.definition.specs.declared.Refusal.{Refusal}
@@ -15,7 +15,7 @@ use Rattle.definition.specs.JobSheet.{Record, sheet_of, job_of_records, sheet_an
 use Rattle.definition.specs.RegisterSheet.{register_sheet}
 use Rattle.definition.specs.Text.{◌>>=◌}
 use Rattle.definition.specs.declared.SheetRefusal.{SheetRefusal}
-use Rattle.definition.specs.declared.SheetRefusal.TheVariants.{By, WrittenDiffers}
+use Rattle.definition.specs.declared.SheetRefusal.TheVariants.{WrittenDiffers}
 use Rattle.definition.specs.SheetForms.{is_second, behind_form, second_sheet, records_in, job_in, as_written}
 use Rattle.definition.specs.SheetForms.{sheet_number_of, tenth_test, tests_of, verdict_of, verdict}
 use Rattle.definition.specs.SheetForms.{SheetOut, given', refused', lift, built_unless, answer_for, answer_to_sheet}

@@ -12,7 +12,6 @@ use Rattle.definition.specs.Place.{total}
 use Rattle.definition.specs.Build.{one, turned_use}
 use Rattle.definition.specs.Promised.{Listed, StandsFor, had, is_mark, marked_for, same_use, under, valued}
 use Rattle.definition.proofs.Places.{total_append}
-use Rattle.definition.proofs.ReadBack.{Test}
 use Rattle.definition.proofs.Same.{class_test, mark_is, same_use_lem}
 
 module _ (v : Value) (w : Use) where

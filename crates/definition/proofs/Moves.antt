@@ -5,7 +5,7 @@ use Prim.Native.Nat.{ℕ, zero, suc, ◌-◌, ◌≤◌, ◌<◌}
 use native.Mathlib.Omega.{arith}
 use mathlib.Core.Bool.{Bool, true, false, cond, ◌&&◌}
 use mathlib.Core.Option.{none}
-use mathlib.Core.List.{List, [], ◌∷◌, ◌++◌, reverse}
+use mathlib.Core.List.{List, [], ◌∷◌, ◌++◌}
 use lib.ListN.{length, get_or, take, length-reverse}
 use lib.Seq.{get_or-take, length-take-le}
 use lib.Dec.{leb, ltb, eqb}
@@ -17,7 +17,7 @@ use Rattle.definition.specs.Types.{State, Side, Early, Late, TiedUse, TurnedDef,
 use Rattle.definition.specs.Uses.{is_class_use, is_def}
 use Rattle.definition.specs.SplitPlacement.{earliest, latest, late_from, early_cut, late_cut, side_of, freq_at, keep}
 use Rattle.definition.specs.SplitPlacement.{starts, ends}
-use Rattle.definition.specs.Admit.{Move, Scan, held_by, cut_side, back_from, forward_class, end_class, admit}
+use Rattle.definition.specs.Admit.{Move, Scan, cut_side, back_from, forward_class, end_class, admit}
 use Rattle.definition.specs.Admit.{admit_kind, cut, fails_at, fresh, from_end, from_start, halt, move, no_use, parted}
 use Rattle.definition.specs.Admit.{scan, through, turn, turning, use_at, whole}
 use Rattle.definition.proofs.Scans.{scan_first, scan_later}

@@ -11,7 +11,7 @@ use lib.Seq.{get_or-append-add, get_or-set_same, get_or-set_other}
 use lib.Dec.{ltb, eqb}
 use lib.Ieee.{Float}
 use borrow.Author.Tests.{ltb-true, ltb-false, eqb-false, eq-eqb, ne_eqb}
-use Rattle.definition.specs.Types.{Inst, Value, ValueSet, RegClass, VirtReg, VirtRegGroup, UseKind, Use, ClassData, Operand, Segment, Job, Room, HeldGroup, Held, Piece, Register, Mapped, State, MappedTwice, Overlap, done, inst, val, vset, vreg, vrgroup}
+use Rattle.definition.specs.Types.{Inst, Value, ValueSet, RegClass, VirtReg, VirtRegGroup, UseKind, Use, Segment, Job, Room, HeldGroup, Held, Piece, Register, Mapped, State, MappedTwice, Overlap, done, inst, val, vset, vreg, vrgroup}
 use Rattle.definition.specs.RegInfo.{class_at, common_subclass, set_of}
 use Rattle.definition.specs.Uses.{slot_of}
 use Rattle.definition.specs.Weights.{weight_of}

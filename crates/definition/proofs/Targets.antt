@@ -5,8 +5,7 @@ use native.Mathlib.Omega.{arith}
 use mathlib.Core.Bool.{true}
 use mathlib.Core.Option.{Option, none, some, some-injective}
 use mathlib.Core.List.{List}
-use Rattle.definition.specs.Types.{Held, HeldGroup, Inst, Job, RegClass, State, Use, ValueSet, VirtReg}
-use Rattle.definition.specs.Types.{VirtRegGroup}
+use Rattle.definition.specs.Types.{Held, HeldGroup, Inst, Job, RegClass, State, Use, ValueSet, VirtReg, VirtRegGroup}
 use Rattle.definition.specs.RegInfo.{common_subclass}
 use Rattle.definition.specs.Admit.{admit_class, admit_group, fresh, group_fits, guard, in_group, mapped_at}
 use Rattle.definition.specs.Admit.{mapping_fits, scan, sets_at, through}

@@ -1,5 +1,5 @@
 -- "Admitting a use", the scans over uses, and the step that a scan leads to. Assumes nothing.
-use Rattle.std.specs.Prelude.{ℕ, zero, suc, ◌+◌, ◌-◌, Bool, true, false, ◌&&◌, cond, List, [], ◌∷◌, ◌++◌, map, reverse, eqb, length, get_or, take, replicate}
+use Rattle.std.specs.Prelude.{ℕ, suc, ◌-◌, Bool, true, false, ◌&&◌, cond, List, [], ◌∷◌, ◌++◌, map, reverse, eqb, length, get_or, take, replicate}
 use Rattle.std.proofs.Math.Option.{Option, none, some, bind}
 use Rattle.std.specs.Float.Ieee.{le}
 use Rattle.definition.specs.Types.{Inst, Value, ValueSet, RegClass, VirtReg, VirtRegGroup, UseKind, FixedDef}

@@ -1,7 +1,7 @@
 -- builder.rs: one part, what is behind a cut, the conflict registers, a set, all sets. Assumes nothing.
 use Rattle.std.specs.Prelude.{ℕ, zero, suc, ◌+◌, ◌-◌, ◌*◌, Bool, true, false, ◌&&◌, cond, List, [], ◌∷◌, ◌++◌, map, reverse, ltb, eqb, length, get_or}
 use Rattle.std.proofs.Math.Option.{Option, none, some}
-use Rattle.definition.specs.Types.{Inst, Value, ValueSet, RegClass, VirtReg, UseKind, ConstraintConflict, BlockparamIn, Use, UseFlags, Segment, Job, Room, Held, Origin, Own, Conflict, Piece, Register, State, Turned, Stop, NoStart, ValuesDiffer, NoneAdmitted, Refusal, Stopped, Out, done, refused, inst, val, point}
+use Rattle.definition.specs.Types.{Inst, Value, ValueSet, RegClass, VirtReg, ConstraintConflict, BlockparamIn, Use, Segment, Job, Room, Held, Own, Conflict, Piece, Register, State, Turned, NoStart, ValuesDiffer, NoneAdmitted, Stopped, Out, done, refused, val, point}
 use Rattle.definition.specs.RegInfo.{set_of, top_of}
 use Rattle.definition.specs.Uses.{is_class_use, param_of}
 use Rattle.definition.specs.Cuts.{left_cut, right_cut}

@@ -1,6 +1,6 @@
 -- What a cut at an instruction leaves on its two sides (uses.rs, hints.rs, builder.rs). Assumes nothing.
-use Rattle.std.specs.Prelude.{ℕ, ◌*◌, Bool, true, false, ◌&&◌, cond, List, [], ◌∷◌, leb, ltb}
-use Rattle.definition.specs.Types.{Inst, Use, UseFlags, Hint, Segment, point}
+use Rattle.std.specs.Prelude.{◌*◌, true, false, ◌&&◌, cond, List, [], ◌∷◌, leb, ltb}
+use Rattle.definition.specs.Types.{Inst, Use, Hint, Segment, point}
 use Rattle.definition.specs.LiveRange.{inst_of, next_inst}
 use Rattle.definition.specs.Hints.{hinted}
 

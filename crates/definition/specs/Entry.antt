@@ -1,11 +1,11 @@
 -- "Entry rules and the numbers given": numbers 2 to 7 on a job that was read, lowest first; the answer to a job; the cut finder. Assumes nothing.
-use Rattle.std.specs.Prelude.{ℕ, zero, suc, ◌+◌, ◌-◌, ◌*◌, ◌/◌, ◌%◌, ◌^◌, Bool, false, ◌&&◌, ◌||◌, cond, pos, leb, ltb, eqb, length, get_or, Float}
+use Rattle.std.specs.Prelude.{ℕ, ◌+◌, ◌*◌, ◌/◌, ◌%◌, ◌^◌, Bool, false, ◌&&◌, ◌||◌, cond, pos, leb, ltb, eqb, length, get_or, Float}
 use Rattle.std.proofs.Math.Bool.{true, not}
 use Rattle.std.proofs.Math.Option.{Option, none, some}
 use mathlib.Core.List.{List, [], ◌∷◌}
 use Rattle.std.specs.Float.{nan, inf, fin}
 use Rattle.std.specs.Float.Ieee.{le}
-use Rattle.definition.specs.Types.{Inst, Value, ValueGroup, RegClass, UseKind, FixedDef, FixedUse, TiedUse, ConstraintConflict, ClassUse, ClassDef, GroupClassUse, GroupClassDef, BlockparamIn, BlockparamOut, Use, Options, BlockData, ClassData, ValueData, Operand, Hint, Segment, Job, Room, Side, Early, Late, Refusal, OverALimit, BadBook, BadFunction, BadHint, BadSegment, BadUse, Out, done, refused, inst, val}
+use Rattle.definition.specs.Types.{Inst, Value, ValueGroup, RegClass, UseKind, FixedDef, FixedUse, TiedUse, ConstraintConflict, ClassUse, ClassDef, GroupClassUse, GroupClassDef, BlockparamIn, BlockparamOut, Use, BlockData, ClassData, ValueData, Operand, Hint, Segment, Job, Room, Side, Refusal, OverALimit, BadBook, BadFunction, BadHint, BadSegment, BadUse, Out, done, refused, inst, val}
 use Rattle.definition.specs.Limits.{max_insts, max_blocks, max_values, max_vgroups, max_operands, max_hints, max_segments, max_uses, max_classes, max_banks, max_regs, max_adjust, max_group, slots, indices, words}
 use Rattle.definition.specs.RegInfo.{class_at, set_of}
 use Rattle.definition.specs.Uses.{end_point}

@@ -8,7 +8,7 @@ use Rattle.std.specs.Float.Ieee.{of_bits}
 use Rattle.definition.specs.Types.{Value, RegClass, PhysReg, UseKind, FixedDef, FixedUse, TiedUse, ConstraintConflict, ClassUse, ClassDef, GroupClassUse, GroupClassDef, BlockparamIn, BlockparamOut, Use, UseFlags, Options, BlockData, ClassData, Remat, Never, CheaperThanMove, CheaperThanLoad, Indirect, ValueData, Operand, Hint, Segment, Job, Room, NotARecord, Out, refused, inst, val, cls, point}
 use Rattle.definition.specs.Build.{Result}
 use Rattle.definition.specs.Entry.{answer}
-use Rattle.definition.specs.Text.{bytes, same, ◌>>=◌, given, lines_of, Fields, fields_of, read_number, read_bits}
+use Rattle.definition.specs.Text.{bytes, same, ◌>>=◌, given, lines_of, fields_of, read_number, read_bits}
 
 -- ---- the twelve records
 

@@ -1,10 +1,10 @@
 -- The lines of a result: "vreg: number, set, class, weight, group or -, group index, fixed hint (1 if a piece has flag 4). seg: value, from, to, flags, own or conflict (added).
 -- Then `group` lines (number, members, - for an empty place); end: registers, groups." Their bytes are those of `RegisterSheet`. Assumes nothing.
-use Rattle.std.specs.Prelude.{ℕ, zero, suc, ◌+◌, Bool, true, false, ◌||◌, cond, List, [], ◌∷◌, ◌++◌, length}
-use Rattle.std.proofs.Math.Option.{Option, none, some}
+use Rattle.std.specs.Prelude.{ℕ, suc, ◌+◌, Bool, false, ◌||◌, cond, List, [], ◌∷◌, ◌++◌, length}
+use Rattle.std.proofs.Math.Option.{Option}
 use Rattle.std.specs.Float.{binary32}
 use Rattle.std.specs.Float.Ieee.{to_bits}
-use Rattle.definition.specs.Types.{Value, ValueSet, RegClass, VirtReg, VirtRegGroup, LiveRangePoint, UseKind, FixedDef, FixedUse, TiedUse, ConstraintConflict, ClassUse, ClassDef, GroupClassUse, GroupClassDef, BlockparamIn, BlockparamOut, Use, UseFlags, Segment, Origin, Piece, Register, vrgroup}
+use Rattle.definition.specs.Types.{Value, ValueSet, RegClass, VirtReg, VirtRegGroup, LiveRangePoint, UseKind, FixedDef, FixedUse, TiedUse, ConstraintConflict, ClassUse, ClassDef, GroupClassUse, GroupClassDef, BlockparamIn, BlockparamOut, Use, UseFlags, Origin, Piece, Register}
 use Rattle.definition.specs.Build.{Result}
 
 -- "use lines (kind, instruction, the kind's fields as in UseKind)". "Kinds 0 to 9 follow UseKind's order."

@@ -1,7 +1,7 @@
 -- Placing a register: a new one, one that joins a group, or pieces that are merged into a register. Assumes nothing.
 use Rattle.std.specs.Prelude.{ℕ, zero, suc, ◌+◌, Bool, true, false, ◌&&◌, ◌||◌, cond, List, [], ◌∷◌, ◌++◌, map, leb, ltb, eqb, length, set, replicate, Float}
 use Rattle.std.proofs.Math.Option.{Option, none, some}
-use Rattle.definition.specs.Types.{Inst, ValueSet, RegClass, VirtReg, VirtRegGroup, LiveRangePoint, UseKind, Use, ClassData, Segment, Job, Room, HeldGroup, Held, Piece, Register, Mapped, State, Stop, MappedTwice, Overlap, Refusal, Stopped, Full, Out, done, refused, vreg, vrgroup, point}
+use Rattle.definition.specs.Types.{Inst, ValueSet, RegClass, VirtReg, VirtRegGroup, LiveRangePoint, Use, Segment, Job, Room, HeldGroup, Held, Piece, Register, Mapped, State, Stop, MappedTwice, Overlap, Stopped, Full, Out, done, refused, vreg, vrgroup, point}
 use Rattle.definition.specs.RegInfo.{class_at}
 use Rattle.definition.specs.Uses.{slot_of}
 use Rattle.definition.specs.Weights.{weight_of, min_f}

@@ -1,8 +1,8 @@
 -- The words of the promises on accepted jobs: a value's points and uses, a set's ranges and own pieces, their order,
 -- classes, weights. Assumes nothing.
-use Rattle.std.specs.Prelude.{◌≡◌, ◌⊎◌, ℕ, zero, suc, ◌+◌, ◌/◌, ◌%◌, ◌≤◌, ◌<◌, Bool, true, false, cond, ◌&&◌, List, [], ◌∷◌, ◌++◌, map, length, leb, ltb, eqb}
-use Rattle.std.proofs.Math.Option.{Option, none}
-use Rattle.definition.specs.Types.{Inst, Value, ValueSet, RegClass, UseKind, FixedDef, FixedUse, TiedUse, ConstraintConflict, ClassUse, ClassDef, GroupClassUse, GroupClassDef, BlockparamIn, BlockparamOut, Use, ClassData, Segment, Job, Own, Conflict, Piece, Register}
+use Rattle.std.specs.Prelude.{◌≡◌, ◌⊎◌, ℕ, zero, suc, ◌+◌, ◌/◌, ◌%◌, ◌≤◌, ◌<◌, Bool, true, false, cond, ◌&&◌, List, [], ◌∷◌, ◌++◌, leb, ltb, eqb}
+use Rattle.std.proofs.Math.Option.{none}
+use Rattle.definition.specs.Types.{Inst, Value, ValueSet, RegClass, UseKind, FixedDef, FixedUse, TiedUse, ConstraintConflict, ClassUse, ClassDef, GroupClassUse, GroupClassDef, BlockparamIn, BlockparamOut, Use, Segment, Job, Own, Conflict, Piece, Register}
 use Rattle.definition.specs.RegInfo.{class_at, set_of}
 use Rattle.definition.specs.Uses.{is_class_use}
 use Rattle.definition.specs.LiveRange.{live_insts}

@@ -1,10 +1,10 @@
 -- reginfo.rs: classes, and the tables of the register book and of the values. Assumes nothing.
-use Rattle.std.specs.Prelude.{ℕ, zero, suc, Bool, false, List, pos, get_or, Float}
+use Rattle.std.specs.Prelude.{ℕ, zero, suc, false, pos, get_or, Float}
 use Rattle.std.proofs.Math.Option.{Option, none, some}
 use Rattle.std.specs.Int.Bits.{bit_and}
 use Rattle.std.specs.Int.Count.{count_trailing_zeros}
 use Rattle.std.specs.Float.{fin}
-use Rattle.definition.specs.Types.{Inst, Value, ValueSet, RegBank, RegClass, ClassData, Never, ValueData, Job, cls, val, vset}
+use Rattle.definition.specs.Types.{Value, ValueSet, RegClass, ClassData, Never, ValueData, Job, cls, val, vset}
 
 -- ---- reading a table: an entry, or one that no accepted job reads
 

@@ -6,7 +6,7 @@ use Rattle.std.proofs.Math.Option.{Option, none, some}
 use Rattle.definition.specs.declared.BlockData.{BlockData}
 use Rattle.definition.specs.declared.Refusal.{Refusal}
 use Rattle.definition.specs.declared.Refusal.TheVariants.{NotARecord}
-use Rattle.definition.specs.Types.{Segment, Job, Room, Out, done, refused, number_of}
+use Rattle.definition.specs.Types.{Job, Room, Out, done, refused, number_of}
 use Rattle.definition.specs.Limits.{vregs_room}
 use Rattle.definition.specs.RegInfo.{set_of}
 use Rattle.definition.specs.Build.{Result, build}

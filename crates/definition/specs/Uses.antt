@@ -1,8 +1,8 @@
 -- uses.rs: what a use is, where it ends, what it costs. Assumes nothing.
-use Rattle.std.specs.Prelude.{ℕ, ◌+◌, ◌*◌, Bool, true, false, cond, List, [], pos, negsuc, get_or, Float}
+use Rattle.std.specs.Prelude.{ℕ, ◌+◌, ◌*◌, Bool, true, false, cond, pos, negsuc, get_or, Float}
 use Rattle.std.proofs.Math.Option.{Option, none, some}
 use Rattle.std.specs.Float.{fin}
-use Rattle.definition.specs.Types.{RegClass, LiveRangePoint, UseKind, FixedDef, FixedUse, TiedUse, ConstraintConflict, ClassUse, ClassDef, GroupClassUse, GroupClassDef, BlockparamIn, BlockparamOut, Use, ClassData, Job, point}
+use Rattle.definition.specs.Types.{RegClass, LiveRangePoint, UseKind, FixedDef, FixedUse, TiedUse, ConstraintConflict, ClassUse, ClassDef, GroupClassUse, GroupClassDef, BlockparamIn, BlockparamOut, Use, Job, point}
 use Rattle.definition.specs.RegInfo.{zero_f, class_at}
 
 -- "A *class use* is a ClassUse, ClassDef, GroupClassUse or GroupClassDef": its class (a term that document 01 coins)

@@ -1,8 +1,8 @@
 -- "Weights", all but the groups' least, which `Place` has. Every operation is in f32, bit-exact. Assumes nothing.
 use Rattle.std.specs.Prelude.{ℕ, zero, suc, ◌+◌, Bool, true, false, not, ◌&&◌, cond, List, [], ◌∷◌, pos, leb, Float}
-use Rattle.std.specs.Float.{nan, inf, fin, Format, binary32}
+use Rattle.std.specs.Float.{nan, inf, fin, binary32}
 use Rattle.std.specs.Float.Ieee.{add, mul, div, lt, of_int}
-use Rattle.definition.specs.Types.{RegClass, UseKind, Use, Options, Remat, Never, CheaperThanMove, CheaperThanLoad, Indirect, Segment, Job}
+use Rattle.definition.specs.Types.{RegClass, Use, Options, Remat, Never, CheaperThanMove, CheaperThanLoad, Indirect, Segment, Job}
 use Rattle.definition.specs.RegInfo.{zero_f, class_at, value_at}
 use Rattle.definition.specs.LiveRange.{live_insts}
 use Rattle.definition.specs.Uses.{cost_of}

@@ -213,7 +213,7 @@ pub enum Refusal {
 }
 
 impl Refusal {
-    // The number of a refusal.
+    // The number of a refusal, which C and the sheets get. Not by `as u32`: Stopped holds a Stop.
     pub fn number(self) -> u32
         ensures { result ≡ number_of self }
     {
@@ -232,6 +232,7 @@ impl Refusal {
 }
 
 // The refusals of a job sheet: those of its job, and 10.
+// An error enum, as `?` wants one, and no Option: both are errors.
 #[derive(Clone, Copy, PartialEq, Eq)]
 pub enum SheetRefusal {
     By(Refusal),
@@ -239,7 +240,7 @@ pub enum SheetRefusal {
 }
 
 impl SheetRefusal {
-    // The number of a job sheet's refusal.
+    // The number of a job sheet's refusal, which the sheets get. Not by `as u32`: By holds a Refusal.
     pub fn number(self) -> u32
         ensures { result ≡ sheet_number_of self }
     {

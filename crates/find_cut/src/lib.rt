@@ -10,8 +10,10 @@ ghost use Rattle.find_cut.specs.Answer.{side_named, unless, cut_refusal, admissi
 
 use block_starts::BlockStarts;
 use definition::{Inst, Refusal, Side};
+use word_rows::Rows;
 
 // Number 0 and the instruction before which the cut is made; or the refusal's number, and 0.
+// No Result, since C gets it.
 #[repr(C)]
 #[derive(Clone, Copy)]
 pub struct Cut {
@@ -20,6 +22,7 @@ pub struct Cut {
 }
 
 // The side of a number: 0 early, any other late.
+#[tactic(auto, unfolding(crate::specs::Answer::side_named))]
 pub fn side_of(side: u32) -> Side
     ensures { result ≡ side_named side }
 {
@@ -27,14 +30,11 @@ pub fn side_of(side: u32) -> Side
 }
 
 // The side of a number that is one.
+#[tactic(auto, unfolding(crate::specs::Answer::side_named))]
 fn side_in(side: u32) -> Option<Side>
     ensures { result ≡ cond (leb side 1) (Some (side_named side)) None }
 {
-    match side {
-        0 => Some(Side::Early),
-        1 => Some(Side::Late),
-        _ => None,
-    }
+    if side <= 1 { Some(side_of(side)) } else { None }
 }
 
 // The tests of numbers 2 and 4: the first that fails.
@@ -44,13 +44,17 @@ pub fn tested(blocks: &[u8], after: u32, before: u32) -> Result<(), Refusal>
     if 512 < blocks.len() / 8 {
         return Err(Refusal::OverALimit); // too many blocks
     }
-    let n = (blocks.len() / 8) as u32;
-    let total = function::count_insts(blocks, 0, n);
+    let rows = Rows {
+        words: blocks,
+        at: 0,
+        n: blocks.len() / 8,
+    };
+    let total = function::count_insts(&rows);
     let long = 4096 < total;
     if long {
         return Err(Refusal::OverALimit); // too many instructions
     }
-    if !function::blocks_ok(blocks, 0, n) {
+    if !function::blocks_ok(&rows) {
         return Err(Refusal::BadFunction); // a block empty or of bad frequency
     }
     let crossed = before <= after;
@@ -85,7 +89,12 @@ fn cut_by(blocks: &[u8], n: u32, after: u32, before: u32, side: Side, work: &mut
     requires { (0 < n) × (n * 2 ≤ word_count blocks.now) × (n * 2 + 2 ≤ word_count work.old) × (after < before) × (before < insts_of (blocks_at (words_of blocks.now) 0 n)) × (insts_of (blocks_at (words_of blocks.now) 0 n) ≤ 4096) × (every block_ok (blocks_at (words_of blocks.now) 0 n) ≡ true) }
     ensures { (result.0 ≡ side_of side (blocks_at (words_of blocks.now) 0 n) after before) × (words_of work.new ≡ splice (words_of work.old) 0 (start_words (words_of blocks.now) 0 n)) }
 {
-    block_starts::put_starts(blocks, 0, n, work, 0);
+    let rows = Rows {
+        words: blocks,
+        at: 0,
+        n: n as usize,
+    };
+    block_starts::put_starts(&rows, work, 0);
     let t = BlockStarts {
         words: work,
         at: 0,
@@ -95,6 +104,7 @@ fn cut_by(blocks: &[u8], n: u32, after: u32, before: u32, side: Side, work: &mut
 }
 
 // blocks: rows of two little-endian words, instruction count and frequency bits. side: 0 early, 1 late. work: what it holds does not matter.
+// side is a number and no Side: C may give any, and one that names none is refused.
 pub fn find_optimal_split_point(
     blocks: &[u8],
     after: u32,

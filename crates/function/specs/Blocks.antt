@@ -5,6 +5,8 @@ use Rattle.std.specs.Float.Ieee.{of_bits}
 use Rattle.definition.specs.declared.BlockData.{BlockData}
 use Rattle.definition.specs.RegInfo.{zero_f}
 use Rattle.rows.specs.RowsAt.{rows_at}
+use Rattle.word_rows.specs.declared.lent.Rows.{Rows}
+use Rattle.word_rows.specs.Rows.{row_words}
 unfoldable pub use Rattle.definition.specs.CutMoves.{block_of}
 
 -- ---- block rows: the instruction count, the frequency's bits
@@ -15,6 +17,10 @@ block_row W i = record { insts = get_or W i 0; frequency = of_bits binary32 (get
 -- n blocks, the first at word `at`
 abbrev pub blocks_at : List ℕ → ℕ → ℕ → List BlockData
 blocks_at W at n = rows_at block_row W at 2 n
+
+-- the blocks of lent rows
+abbrev pub blocks_in : Rows 2 → List BlockData
+blocks_in t = blocks_at (row_words t) t.at t.n
 
 -- ---- where blocks begin
 

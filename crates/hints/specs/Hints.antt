@@ -1,7 +1,9 @@
 -- Rows of hints, and the search by key. Assumes nothing.
 use Rattle.std.specs.Prelude.{◌≡◌, ℕ, suc, ◌+◌, Bool, true, false, ◌&&◌, ◌||◌, List, [], ◌∷◌, ltb, eqb, get_or}
 use Rattle.std.proofs.Common.{add-zero, arith}
-use Rattle.rows.specs.RowsAt.{Reads}
+use Rattle.rows.specs.RowsAt.{rows_at, Reads}
+use Rattle.word_rows.specs.declared.lent.Rows.{Rows}
+use Rattle.word_rows.specs.Rows.{row_words}
 use Rattle.definition.specs.declared.Value.{Value}
 use Rattle.definition.specs.declared.Hint.{Hint}
 use Rattle.definition.specs.Types.{val, inst}
@@ -10,6 +12,10 @@ use Rattle.definition.specs.Hints.{as_key}
 -- the hint whose row (value, instruction, side) begins at word i: incoming if the side is 1. The job's own tests refuse a side above 1.
 unfoldable pub hint_at : List ℕ → ℕ → Hint
 hint_at W i = record { value = val (get_or W i 0); inst = inst (get_or W (i + 1) 0); incoming = eqb (get_or W (i + 2) 0) 1 }
+
+-- the hints of lent rows
+abbrev pub hint_rows : Rows 3 → List Hint
+hint_rows t = rows_at hint_at (row_words t) t.at 3 t.n
 
 -- h is sorted before key k of value v
 unfoldable pub key_below : Value → ℕ → Hint → Bool

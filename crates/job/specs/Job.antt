@@ -10,7 +10,6 @@ use Rattle.coalescing.specs.Rows.{values_at, vgroups_at}
 use Rattle.operands.specs.Rows.{operands_at}
 use Rattle.hints.specs.Hints.{hint_at}
 use Rattle.uses.specs.Rows.{use_row, raw_row}
-use Rattle.layout.specs.declared.Table.{Table}
 use Rattle.layout.specs.declared.Layout.{Layout}
 use Rattle.layout.specs.declared.job.Job as lent
 use Rattle.layout.specs.Layout.{options_row, segment_of}

@@ -7,7 +7,6 @@ use Rattle.definition.specs.declared.Use.{Use}
 use Rattle.definition.specs.declared.UseFlags.{UseFlags}
 use Rattle.definition.specs.declared.Options.{Options}
 use Rattle.definition.specs.Types.{Segment, val, point}
-use Rattle.layout.specs.declared.Table.{Table}
 use Rattle.layout.specs.declared.Layout.{Layout}
 use Rattle.layout.specs.declared.SegRow.{SegRow}
 

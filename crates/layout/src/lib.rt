@@ -1,7 +1,7 @@
 // Where the tables of a job stand in its slice, and the records that the builder reads.
 #![tactic(auto)]
 
-ghost use Rattle.std.specs.Prelude.{◌≡◌, ℕ, ◌+◌, ◌*◌, ◌≤◌, ◌<◌, get_or};
+ghost use Rattle.std.specs.Prelude.{◌≡◌, ◌+◌, ◌*◌, ◌≤◌, ◌<◌, get_or};
 ghost use Rattle.words.specs.Words.{word_count, words_of};
 ghost use Rattle.layout.specs.JobWords.{words_in};
 ghost use Rattle.layout.specs.Layout.{options_row, flags_of, seg_row, next_use};
@@ -45,6 +45,7 @@ pub struct SegRow {
 }
 
 // The options whose words begin at word i.
+#[tactic(auto, unfolding(crate::specs::Layout::options_row))]
 pub fn options_at(t: &[u8], i: usize) -> Options
     requires { (i + 4 ≤ word_count t.now) × (get_or (words_of t.now) (i + 1) 0 ≤ 0x7f80_0000) × (get_or (words_of t.now) (i + 2) 0 ≤ 0x7f80_0000) × (get_or (words_of t.now) (i + 3) 0 ≤ 0x7f80_0000) }
     ensures { result ≡ options_row (words_of t.now) i }
@@ -58,6 +59,7 @@ pub fn options_at(t: &[u8], i: usize) -> Options
 }
 
 // "Flags: 1 live-in, 2 live-out, 4 fixed hint, 8 fixed def."
+#[tactic(auto, unfolding(crate::specs::Layout::flags_of))]
 pub fn flags_of(w: u32) -> UseFlags
     ensures { result ≡ flags_of w }
 {
@@ -70,6 +72,7 @@ pub fn flags_of(w: u32) -> UseFlags
 }
 
 // The segment whose row begins at word i.
+#[tactic(auto, unfolding(crate::specs::Layout::seg_row))]
 pub fn seg_at(t: &[u8], i: usize) -> SegRow
     requires { i + 5 ≤ word_count t.now }
     ensures { result ≡ seg_row (words_of t.now) i }
@@ -84,6 +87,7 @@ pub fn seg_at(t: &[u8], i: usize) -> SegRow
 }
 
 // The use number at which the uses of segment i end: the next segment's first, or the number of uses.
+#[tactic(auto, unfolding(crate::specs::Layout::next_use))]
 pub fn next_use(job: &Job, i: usize) -> u32
     requires { (i < job.now.lay.segments.n) × (job.now.lay.uses.n ≤ 4096) }
     ensures { result ≡ next_use (words_in job.now) job.now.lay i }

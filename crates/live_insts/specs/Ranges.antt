@@ -1,7 +1,9 @@
 -- The points of segments, and the instructions that they touch. Assumes nothing.
 use Rattle.std.specs.Prelude.{ℕ, ◌+◌, ◌-◌, max, false, List, [], map, get_or}
 use Rattle.std.proofs.Common.{arith}
-use Rattle.rows.specs.RowsAt.{Reads}
+use Rattle.rows.specs.RowsAt.{rows_at, Reads}
+use Rattle.word_rows.specs.declared.lent.Rows.{Rows}
+use Rattle.word_rows.specs.Rows.{row_words}
 use Rattle.definition.specs.Types.{Segment, val, point}
 use Rattle.definition.specs.LiveRange.{inst_of, next_inst, live_insts}
 use Rattle.live_insts.specs.declared.LiveRangeSegment.{LiveRangeSegment}
@@ -22,6 +24,10 @@ bare r = record {
 -- the points in a row of a table of pieces (value, from, to, ..) that begins at word i
 unfoldable pub range_at : List ℕ → ℕ → LiveRangeSegment
 range_at W i = record { «from» = point (get_or W (i + 1) 0); to = point (get_or W (i + 2) 0) }
+
+-- the points of lent pieces
+abbrev pub ranges_in : Rows 7 → List LiveRangeSegment
+ranges_in t = rows_at range_at (row_words t) t.at 7 t.n
 
 -- the instructions that a range touches, those below n left out
 abbrev pub new_insts : ℕ → LiveRangeSegment → ℕ

@@ -2,12 +2,13 @@
 #![tactic(auto)]
 
 ghost use Rattle.std.specs.Prelude.{◌≡◌, ◌+◌, ◌-◌, ◌*◌, ◌≤◌, ◌<◌};
-ghost use Rattle.rows.specs.RowsAt.{rows_at};
 ghost use Rattle.words.specs.Words.{word_count, words_of};
-ghost use Rattle.live_insts.specs.Ranges.{range_at, new_insts, range_insts};
+ghost use Rattle.word_rows.specs.Rows.{row_words};
+ghost use Rattle.live_insts.specs.Ranges.{range_at, new_insts, range_insts, ranges_in};
 
 use definition::{Inst, LiveRangePoint};
 use live_range::{inst_of, next_inst};
+use word_rows::{Rows, row_at};
 use words::word_at;
 
 // The points of a segment, `to` excluded.
@@ -18,6 +19,7 @@ pub struct LiveRangeSegment {
 }
 
 // The points of the row that begins at word i.
+#[tactic(auto, unfolding(crate::specs::Ranges::range_at))]
 pub fn range_at(t: &[u8], i: usize) -> LiveRangeSegment
     requires { i + 3 ≤ word_count t.now }
     ensures { result ≡ range_at (words_of t.now) i }
@@ -38,15 +40,15 @@ pub fn new_insts(counted: Inst, s: LiveRangeSegment) -> u32
     next_inst(s.to).0.saturating_sub(first)
 }
 
-// The different instructions that n rows touch, the first at word `at`: what an earlier row touches is counted already.
-pub fn live_insts(t: &[u8], at: usize, n: usize) -> u32
-    requires { (at + n * 7 ≤ word_count t.now) × (range_insts (rows_at range_at (words_of t.now) at 7 n) < 4294967296) }
-    ensures { result ≡ range_insts (rows_at range_at (words_of t.now) at 7 n) }
+// The different instructions that the pieces touch: what an earlier one touches is counted already.
+pub fn live_insts(pieces: &Rows<7>) -> u32
+    requires { range_insts (ranges_in pieces.now) < 4294967296 }
+    ensures { result ≡ range_insts (ranges_in pieces.now) }
 {
     let mut sum: u32 = 0;
     let mut counted = Inst(0);
-    for i in 0..n {
-        let s = range_at(t, at + i * 7);
+    for i in 0..pieces.n {
+        let s = range_at(pieces.words, row_at(pieces, i));
         sum += new_insts(counted, s);
         counted = next_inst(s.to);
     }

@@ -4,7 +4,7 @@
 ghost use Rattle.std.specs.Prelude.{◌≡◌, ◌+◌, ◌*◌, ◌≤◌, ◌<◌};
 ghost use Rattle.definition.specs.declared.Slot.TheVariants.{Boundary};
 ghost use Rattle.definition.specs.Types.{inst, point};
-ghost use Rattle.definition.specs.LiveRange.{slot_number, point_at, inst_of, next_inst};
+ghost use Rattle.definition.specs.LiveRange.{point_at, inst_of, next_inst};
 ghost use Rattle.live_range.specs.Points.{slot_of};
 
 use definition::{Inst, LiveRangePoint, Slot};
@@ -24,6 +24,7 @@ pub fn inst_of(p: LiveRangePoint) -> Inst
     Inst(p.0 / 4)
 }
 
+// The slot that a point is at. A `From` would have to stand beside Slot, with this same match.
 pub fn slot_of(p: LiveRangePoint) -> Slot
     ensures { result ≡ slot_of p }
 {

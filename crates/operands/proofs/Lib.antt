@@ -1,5 +1,5 @@
 pub mod Rows
-pub mod Index
+pub mod Links
 pub mod Store
 pub mod Turns
 pub mod Search

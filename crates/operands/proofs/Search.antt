@@ -9,7 +9,7 @@ use Rattle.std.specs.Prelude.{Option, Some, is_some}
 use Rattle.operands.specs.Rows.{op_at, last_place, taken_before}
 use Rattle.operands.specs.Chains.{last_before, operands_of, Chained}
 use Rattle.operands.proofs.Rows.{long, slot_word}
-use Rattle.operands.proofs.Index.{Following, follow_next, follow_stop, last_le, last_on, skip}
+use Rattle.operands.proofs.Links.{Following, follow_next, follow_stop, last_le, last_on, skip}
 
 module _ (T W : List ℕ) (c : Chains) (h : Chained W c (operands_of T c)) where
   -- the word behind operand o is the link to the operand before it

@@ -1,2 +1,3 @@
 pub mod Rows
 pub mod Chains
+pub mod InIndex

@@ -4,6 +4,8 @@ use Rattle.std.proofs.Math.Option as maybe
 use Rattle.std.specs.Float.{binary32}
 use Rattle.std.specs.Float.Ieee.{of_bits}
 use Rattle.rows.specs.RowsAt.{rows_at}
+use Rattle.word_rows.specs.declared.lent.Rows.{Rows}
+use Rattle.word_rows.specs.Rows.{row_words}
 use Rattle.definition.specs.declared.RegClass.{RegClass}
 use Rattle.definition.specs.declared.ClassData.{ClassData}
 use Rattle.definition.specs.Types.{cls}
@@ -32,6 +34,10 @@ memory_row W i = eqb (get_or W i 0) 1
 -- n classes from word `at` on
 unfoldable pub classes_at : List ℕ → ℕ → ℕ → List ClassData
 classes_at W at n = rows_at class_row W at 4 n
+
+-- the classes of lent rows
+abbrev pub classes_in : Rows 4 → List ClassData
+classes_in t = classes_at (row_words t) t.at t.n
 
 -- the mask of class c among these classes
 unfoldable pub mask_in : List ClassData → RegClass → ℕ

@@ -1,17 +1,21 @@
 // A working part cut at an instruction into the part before it and the part behind it (live_range.rs `split_segments_at`).
 #![tactic(auto)]
 
-ghost use Rattle.std.specs.Prelude.{◌≡◌, true, cond, ◌+◌, ◌*◌, ◌≤◌, ◌<◌, eqb};
+ghost use Rattle.std.specs.Prelude.{◌≡◌, true, cond, ◌+◌, ◌-◌, ◌*◌, ◌≤◌, ◌<◌, eqb};
 ghost use Rattle.rows.specs.RowsAt.{rows_at};
 ghost use Rattle.definition.specs.Entry.{chained, not_after};
 ghost use Rattle.hints.specs.Hints.{hint_at};
+ghost use Rattle.hints.specs.Sorted.{hints_in};
+ghost use Rattle.uses.specs.Rows.{uses_at, uses_in};
 ghost use Rattle.set_part.specs.Part.{PartOk};
 ghost use Rattle.set_cuts.specs.Cut.{first_past, left_part, right_part, cut_across, cut_between, cut_part};
 ghost use Rattle.layout.specs.JobWords.{words_in};
 
 use definition::{Inst, LiveRangePoint, UseFlags};
+use hints::Hints;
 use layout::Job;
 use set_part::{PartSeg, SetPart, at_segment};
+use word_rows::Rows;
 
 // The two sides of a cut.
 #[derive(Clone, Copy)]
@@ -35,6 +39,8 @@ fn first_past(job: &Job, sp: SetPart, q: u32) -> usize
 }
 
 // The part up to segment k, which ends at `to`, has `tail` as its flags, and whose uses end before number `end`.
+// Not one with right_part: a literal each, in which other fields are set.
+#[tactic(auto, unfolding(crate::specs::Cut::left_part))]
 fn left_part(sp: SetPart, k: usize, to: LiveRangePoint, tail: UseFlags, end: usize) -> SetPart
     ensures { result ≡ left_part sp k to tail end }
 {
@@ -49,6 +55,8 @@ fn left_part(sp: SetPart, k: usize, to: LiveRangePoint, tail: UseFlags, end: usi
 }
 
 // The part from segment k on, which begins at `from`, has `flags`, and whose uses begin at number `first`.
+// Not one with left_part: a literal each, in which other fields are set.
+#[tactic(auto, unfolding(crate::specs::Cut::right_part))]
 fn right_part(sp: SetPart, k: usize, from: LiveRangePoint, flags: UseFlags, first: usize) -> SetPart
     ensures { result ≡ right_part sp k «from» flags first }
 {
@@ -61,20 +69,29 @@ fn right_part(sp: SetPart, k: usize, from: LiveRangePoint, flags: UseFlags, firs
     }
 }
 
-// A cut across segment k, whose row is `row`.
-fn cut_across(job: &Job, sp: SetPart, p: Inst, k: usize, row: PartSeg) -> Parts
-    requires { (chained not_after (rows_at hint_at (words_in job.now) job.now.lay.hints.at 3 job.now.lay.hints.n) ≡ true)
-        × (row.first ≤ row.end) × (row.end ≤ job.now.lay.uses.n) × (4 * p.0 < row.to.0) }
-    ensures { result ≡ cut_across (rows_at hint_at (words_in job.now) job.now.lay.hints.at 3 job.now.lay.hints.n) (words_in job.now) job.now.lay p sp k row }
+// The uses of a segment.
+fn uses_of<'a>(job: &Job<'a>, row: PartSeg) -> Rows<'a, 6>
+    requires { (row.first ≤ row.end) × (row.end ≤ job.now.lay.uses.n) }
+    ensures { (uses_in result ≡ uses_at (words_in job.now) (job.now.lay.uses.at + row.first * 6) (row.end - row.first))
+        × (result.n ≡ row.end - row.first) }
 {
-    let lay = &job.lay;
-    let at = lay.hints.at;
-    let n = lay.hints.n;
-    let first = row.first;
+    Rows {
+        words: job.bytes,
+        at: job.lay.uses.at + row.first * 6,
+        n: row.end - row.first,
+    }
+}
+
+// A cut across segment k, whose row is `row`.
+#[tactic(auto, unfolding(crate::specs::Cut::cut_across, crate::specs::Cut::mid_use))]
+fn cut_across(job: &Job, hints: &Hints, sp: SetPart, p: Inst, k: usize, row: PartSeg) -> Parts
+    requires { (row.first ≤ row.end) × (row.end ≤ job.now.lay.uses.n) × (4 * p.0 < row.to.0) }
+    ensures { result ≡ cut_across (hints_in hints.now) (words_in job.now) job.now.lay p sp k row }
+{
     let here = LiveRangePoint(4 * p.0);
-    let mid = first + uses::count_before(job.bytes, lay.uses.at + first * 6, row.end - first, p);
-    let before = cuts::left_flags(job.bytes, at, n, row.value, row.from, p, row.flags);
-    let behind = cuts::right_flags(job.bytes, at, n, row.value, row.to, p, row.flags);
+    let mid = row.first + uses::count_before(&uses_of(job, row), p);
+    let before = cuts::left_flags(hints, row.value, row.from, p, row.flags);
+    let behind = cuts::right_flags(hints, row.value, row.to, p, row.flags);
     Parts {
         left: left_part(sp, k, here, before, mid),
         right: right_part(sp, k, here, behind, mid),
@@ -82,6 +99,7 @@ fn cut_across(job: &Job, sp: SetPart, p: Inst, k: usize, row: PartSeg) -> Parts
 }
 
 // A cut between segment k - 1 and segment k, whose rows are `old` and `row`.
+#[tactic(auto, unfolding(crate::specs::Cut::cut_between))]
 fn cut_between(sp: SetPart, k: usize, old: PartSeg, row: PartSeg) -> Parts
     requires { 1 ≤ k }
     ensures { result ≡ cut_between sp k old row }
@@ -102,7 +120,12 @@ pub fn cut_part(job: &Job, sp: SetPart, p: Inst) -> Parts
     let k = first_past(job, sp, q);
     let row = set_part::part_seg(job, sp, k);
     if row.from.0 < q {
-        return cut_across(job, sp, p, k, row);
+        let rows = Rows {
+            words: job.bytes,
+            at: job.lay.hints.at,
+            n: job.lay.hints.n,
+        };
+        return cut_across(job, &Hints { rows }, sp, p, k, row);
     }
     let old = set_part::part_seg(job, sp, k - 1);
     cut_between(sp, k, old, row)

@@ -3,3 +3,4 @@ pub mod Uses
 pub mod Alike
 pub mod Whole
 pub mod Inside
+pub mod Walk

@@ -36,6 +36,7 @@ pub struct PartSeg {
 // The use number at which the uses of segment i begin; behind the last segment, the end.
 // That a part or a segment's number is one of the job's is a clause, here and above: a part goes by value, and the
 // job is lent.
+#[tactic(auto, unfolding(crate::specs::Part::use_bound, layout::specs::Layout::seg_at, layout::specs::Layout::seg_row))]
 pub fn use_bound(job: &Job, sp: SetPart, i: usize) -> usize
     requires { sp.last < job.now.lay.segments.n }
     ensures { result ≡ use_bound (words_in job.now) job.now.lay sp i }
@@ -58,6 +59,7 @@ pub fn at_segment<T: Copy>(i: usize, k: usize, own: T, other: T) -> T
 }
 
 // Segment i of a part.
+#[tactic(auto, unfolding(crate::specs::Part::part_row, layout::specs::Layout::seg_at))]
 pub fn part_seg(job: &Job, sp: SetPart, i: usize) -> PartSeg
     requires { (sp.last < job.now.lay.segments.n) × (i ≤ sp.last) }
     ensures { result ≡ part_row (words_in job.now) job.now.lay sp i }
@@ -76,6 +78,7 @@ pub fn part_seg(job: &Job, sp: SetPart, i: usize) -> PartSeg
 }
 
 // The part that is a whole set: segments a to b - 1 of the job.
+#[tactic(auto, unfolding(crate::specs::Part::whole_part, layout::specs::Layout::seg_at))]
 pub fn whole_part(job: &Job, a: usize, b: usize) -> SetPart
     requires { (a < b) × (b ≤ job.now.lay.segments.n) × (job.now.lay.uses.n ≤ 4096) }
     ensures { result ≡ whole_part (words_in job.now) job.now.lay a b }

@@ -32,6 +32,7 @@ fn one_term(cost: u32, freq: u32, insts: u32, spillslots: bool) -> u32
 }
 
 // The bits of the cost of use i of a hundred: zero for one in thirteen.
+#[tactic(auto, unfolding(crate::specs::Terms::cost_at))]
 fn cost_at(i: u32) -> u32
     requires { i < 100 }
     ensures { (result ≡ cost_at i) × (result < 0x7f80_0000) }

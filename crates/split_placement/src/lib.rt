@@ -30,8 +30,8 @@ fn lower(t: &BlockStarts, a: Block, b: Block, side: Side) -> Block
     requires { (a.0 ≤ t.now.n) × (b.0 ≤ t.now.n) }
     ensures { result.0 ≡ ahead side (bits_in t.now) a.0 b.0 }
 {
-    let x = function::bits_at(t.words, t.at, a);
-    let y = function::bits_at(t.words, t.at, b);
+    let x = block_starts::bits_at(t, a);
+    let y = block_starts::bits_at(t, b);
     match side {
         Side::Early => { if y < x { b } else { a } }
         Side::Late => { if x < y { a } else { b } }

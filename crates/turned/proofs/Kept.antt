@@ -103,5 +103,5 @@ kept_part K marks W lay sp n ok h =
     let c = sp.first + n in
     let f = marked_use K marks W lay in
     let r = part_row W lay sp (holder W lay sp c) in
-    kept_at W lay sp ok f c (holder W lay sp c) n (holder_holds W lay sp c h ok.order (omega arith)) (ap (λ (k : ℕ). k + n) (bound_first W lay sp))
+    kept_at W lay sp ok f c (holder W lay sp c) n (holder_holds W lay sp c ok.order (omega arith) h) (ap (λ (k : ℕ). k + n) (bound_first W lay sp))
     ∙ ap (λ (o : Option ℕ). record { value = r.value; use' = f c; param = o }) (sym (stands_for (param_here (f c).pos (f r.first))))

@@ -22,11 +22,6 @@ use Rattle.set_part.proofs.Alike.{seg_alike, segs_alike, row_first, row_end}
 
 -- ---- one mark more
 
--- a use that is not marked
-pub unmarked : (K : List ℕ) (marks : ℕ) (W : List ℕ) (lay : Layout) (n : ℕ) → get_or K (marks + n) 0 ≡ 0 → marked_use K marks W lay n ≡ use_row W (lay.uses.at + n * 6)
-unfolding marked_use
-unmarked K marks W lay n e = rw e
-
 pub mark_here : (K : List ℕ) (marks : ℕ) (W : List ℕ) (lay : Layout) (c : ℕ) → marks + c < length K
     → marked_use (set K (marks + c) 1) marks W lay c ≡ turned_use (marked_use K marks W lay c)
 unfolding marked_use

@@ -30,6 +30,7 @@ pub fn mark(work: &mut [u8], marks: usize, n: usize)
 }
 
 // Use number n of the job: a conflict if it is marked.
+#[tactic(auto, unfolding(set_part::specs::Part::marked_use))]
 pub fn marked_use(job: &Job, work: &[u8], marks: usize, n: usize) -> Use
     requires { (n < job.now.lay.uses.n) × (marks + n < word_count work.now) }
     ensures { result ≡ marked_use (words_of work.now) marks (words_in job.now) job.now.lay n }
@@ -56,6 +57,7 @@ fn param_of(kind: UseKind) -> Option<u32>
 }
 
 // The block parameter of u, if it is a BlockparamIn at p.
+#[tactic(auto, unfolding(crate::specs::Turned::param_here))]
 fn param_here(u: Use, p: Inst) -> Option<u32>
     ensures { result ≡ coded (param_here p u) }
 {
@@ -77,6 +79,7 @@ fn holder_of(job: &Job, sp: SetPart, c: usize) -> usize
 }
 
 // What is kept of the use at place n of a part.
+#[tactic(auto, unfolding(crate::specs::Turned::turned_in, crate::specs::Turned::turned_row))]
 pub fn turned_at(job: &Job, work: &[u8], marks: usize, sp: SetPart, n: usize) -> TurnedRow
     requires { PartOk (words_in job.now) job.now.lay sp × (sp.first + n < sp.end) × (marks + job.now.lay.uses.n ≤ word_count work.now) }
     ensures { result ≡ turned_row (words_of work.now) marks (words_in job.now) job.now.lay sp n }

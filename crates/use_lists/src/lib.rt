@@ -1,7 +1,7 @@
 // uses.rs: a use list shows its part of the job's uses or of the added ones; where it is split.
 #![tactic(auto)]
 
-ghost use Rattle.std.specs.Prelude.{◌≡◌, ℕ, ◌+◌, ◌*◌, ◌≤◌, ◌<◌};
+ghost use Rattle.std.specs.Prelude.{◌≡◌, ◌+◌, ◌*◌, ◌≤◌, ◌<◌};
 ghost use Rattle.use_lists.specs.Lists.{Within, table_of, part_of, left_list, right_list};
 
 // Which of the two tables of uses a list stands in.

@@ -1,6 +1,8 @@
 -- The rows of a use table. Assumes nothing.
 use Rattle.std.specs.Prelude.{ℕ, ◌+◌, ◌%◌, Bool, true, false, ◌&&◌, Option, Some, None, List, eqb, ltb, get_or}
 use Rattle.rows.specs.RowsAt.{rows_at}
+use Rattle.word_rows.specs.declared.lent.Rows.{Rows}
+use Rattle.word_rows.specs.Rows.{row_words}
 use Rattle.definition.specs.declared.PhysReg.{PhysReg}
 use Rattle.definition.specs.declared.Use.{Use}
 use Rattle.definition.specs.declared.UseKind.{UseKind}
@@ -77,3 +79,7 @@ decoded_row W i = pick_d (ltb (get_or W i 0) 10) (pick_d (typed_row W i) (Some (
 -- n uses from word `at` on
 unfoldable pub uses_at : List ℕ → ℕ → ℕ → List Use
 uses_at W at n = rows_at use_row W at 6 n
+
+-- the uses of lent rows
+abbrev pub uses_in : Rows 6 → List Use
+uses_in t = uses_at (row_words t) t.at t.n

@@ -6,11 +6,14 @@ ghost use Rattle.std.specs.Prelude.{◌≡◌, ℕ, ◌+◌, ◌*◌, ◌≤◌,
 ghost use Rattle.words.specs.Words.{word_count, words_of};
 ghost use Rattle.definition.specs.Uses.{is_def, is_class_use, end_slot, end_point};
 ghost use Rattle.definition.specs.Cuts.{uses_before};
-ghost use Rattle.uses.specs.Rows.{kind_of, use_row, uses_at, typed_kind, fit, decoded_row};
+ghost use Rattle.uses.specs.Rows.{kind_of, use_row, uses_in, typed_kind, fit, decoded_row};
 
 use definition::{Inst, LiveRangePoint, PhysReg, RegClass, Use, UseKind};
+use word_rows::{Rows, word_of};
 
 // The kind from its number and its four fields. Fields are taken modulo their UseKind types; a number above 9 is no kind and gives a conflict.
+// The number is a lent word and may be any: an enum of kinds would first be made of it, by this same match.
+#[tactic(auto, unfolding(crate::specs::Rows::kind_of))]
 pub fn kind_of(kind: u32, a: u32, b: u32, c: u32, d: u32) -> UseKind
     ensures { result ≡ kind_of kind a b c d }
 {
@@ -48,6 +51,7 @@ pub fn kind_of(kind: u32, a: u32, b: u32, c: u32, d: u32) -> UseKind
 }
 
 // The use whose row begins at word i.
+#[tactic(auto, unfolding(crate::specs::Rows::use_row))]
 pub fn use_at(t: &[u8], i: usize) -> Use
     requires { i + 6 ≤ word_count t.now }
     ensures { result ≡ use_row (words_of t.now) i }
@@ -66,6 +70,7 @@ pub fn use_at(t: &[u8], i: usize) -> Use
 }
 
 // Whether two slots and a group index fit their UseKind types, u16 and u8.
+#[tactic(auto, unfolding(crate::specs::Rows::fit))]
 fn within(a: u32, b: u32, i: u32) -> bool
     ensures { result ≡ fit a b i }
 {
@@ -73,6 +78,8 @@ fn within(a: u32, b: u32, i: u32) -> bool
 }
 
 // Whether a kind's fields fit their UseKind types.
+// The kind is a number, as the table has it: a UseKind can't hold the fields that do not fit.
+#[tactic(auto, unfolding(crate::specs::Rows::typed_kind))]
 pub fn fields_fit(kind: u32, a: u32, b: u32, c: u32, d: u32) -> bool
     ensures { result ≡ typed_kind kind a b c d }
 {
@@ -103,6 +110,7 @@ pub fn decode(t: &[u8], i: usize) -> Option<Use>
     if fits { Some(use_at(t, i)) } else { None }
 }
 
+// Whether the kind is a def. Not one with is_class_use: a list of kinds each, and another definition.
 pub fn is_def(kind: UseKind) -> bool
     ensures { result ≡ is_def kind }
 {
@@ -115,6 +123,7 @@ pub fn is_def(kind: UseKind) -> bool
     )
 }
 
+// Whether the kind is a class use. Not one with is_def: a list of kinds each, and another definition.
 pub fn is_class_use(kind: UseKind) -> bool
     ensures { result ≡ is_class_use kind }
 {
@@ -145,6 +154,7 @@ fn end_slot(kind: UseKind) -> u32
 }
 
 // The point at which a use ends.
+#[tactic(auto, unfolding(definition::specs::Uses::end_point))]
 pub fn end_point(u: Use) -> LiveRangePoint
     requires { u.pos.0 < 4096 }
     ensures { result ≡ end_point u }
@@ -152,15 +162,14 @@ pub fn end_point(u: Use) -> LiveRangePoint
     LiveRangePoint(4 * u.pos.0 + end_slot(u.kind))
 }
 
-// How many of the n uses from word `at` on come before instruction p: these go left at a cut, the rest right.
-pub fn count_before(t: &[u8], at: usize, n: usize, p: Inst) -> usize
-    requires { at + n * 6 ≤ word_count t.now }
-    ensures { (result ≡ length (uses_before p (uses_at (words_of t.now) at n))) × (result ≤ n) }
+// How many of the uses come before instruction p: these go left at a cut, the rest right.
+pub fn count_before(uses: &Rows<6>, p: Inst) -> usize
+    ensures { (result ≡ length (uses_before p (uses_in uses.now))) × (result ≤ uses.now.n) }
 {
-    for i in 0..n {
-        if p.0 <= words::word_at(t, at + i * 6 + 1) {
+    for i in 0..uses.n {
+        if p.0 <= word_of(uses, i, 1) {
             return i;
         }
     }
-    n
+    uses.n
 }

@@ -6,6 +6,7 @@ ghost use Rattle.words.specs.Words.{words_of};
 
 use words::{put_word, word_at};
 
+#[tactic(auto, unfolding(words::specs::Words::words_of))]
 fn reads() {
     let t = [0x78u8, 0x56, 0x34, 0x12, 0xef, 0xcd, 0xab, 0x89, 0xff];
     check::expect(word_at(&t, 0) == 0x12345678);
@@ -21,6 +22,7 @@ fn stores(t: &mut [u8]) -> bool
     check::same(t, b"\x00\x00\x00\x00\xef\xcd\xab\x89")
 }
 
+#[tactic(auto, unfolding(words::specs::Words::words_of))]
 fn main() {
     reads();
     let mut t = [0u8; 8];

@@ -1,7 +1,7 @@
-use Rattle.words.specs.Words.{words_of}
-use Rattle.coalescing.specs.Rows.{vgroup_row, values_at}
+use Rattle.word_rows.specs.Rows.{row_words}
+use Rattle.coalescing.specs.Rows.{vgroup_row, values_in}
 use Rattle.coalescing.proofs.Members.{Filling}
 use Rattle.coalescing.proofs.value_sets.Given as goal
 
 abbrev pub invariant-loop-k : goal.invariant-loop-k
-invariant-loop-k l = Filling (values_at (words_of l.t) l.at l.n) (vgroup_row (words_of l.t) l.i) l.k l.out
+invariant-loop-k l = Filling (values_in l.values) (vgroup_row (row_words l.values) l.i) l.k l.out

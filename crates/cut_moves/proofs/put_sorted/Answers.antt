@@ -3,8 +3,7 @@ use Prim.Native.Nat.{◌+◌}
 use mathlib.Core.Path.{◌≡◌, refl, ◌∙◌}
 use Rattle.words.specs.Words.{words_of}
 use Rattle.words.specs.Laws.{length_words, words_small}
-use Rattle.function.specs.Blocks.{blocks_at}
-use Rattle.function.specs.Blocks.{start_words}
+use Rattle.function.specs.Blocks.{blocks_at, start_words}
 use Rattle.rows.specs.Parts.{splice}
 use Rattle.block_starts.specs.declared.table.BlockStarts.{BlockStarts}
 use Rattle.block_starts.specs.Table.{words_in}

@@ -1,6 +1,6 @@
-use Rattle.words.specs.Words.{words_of}
+use Rattle.word_rows.specs.Rows.{row_words}
 use Rattle.function.proofs.Rows.{Counting}
 use Rattle.function.proofs.count_insts.Given as goal
 
 abbrev pub invariant-loop-i : goal.invariant-loop-i
-invariant-loop-i l = Counting (words_of l.rows) l.at l.n l.i l.total
+invariant-loop-i l = Counting (row_words l.blocks) l.blocks.at l.blocks.n l.i l.total

@@ -7,11 +7,11 @@ loop-i-init c = count_start _ _ _
 
 pub overflow_add-sum : goal.overflow_add-sum
 overflow_add-sum c = let l = c.loop-i.invariant in
-    omega (arith, count_room l (omega arith) c.range_at-s.ensures c.new_insts-sum.ensures)
+    omega (arith, count_room l (omega arith) (rw c.row_at.ensures.0 at c.range_at-s.ensures) c.new_insts-sum.ensures)
 
 pub loop-i-preserved : goal.loop-i-preserved
 loop-i-preserved c = let l = c.loop-i.invariant in
-    count_next l (omega arith) c.range_at-s.ensures c.new_insts-sum.ensures c.next_inst-counted.ensures
+    count_next l (omega arith) (rw c.row_at.ensures.0 at c.range_at-s.ensures) c.new_insts-sum.ensures c.next_inst-counted.ensures
 
 pub returns : goal.returns
 returns c = count_done c.loop-i.invariant (omega arith)

@@ -1,7 +1,6 @@
 use Rattle.std.proofs.Common.{rules, tests, not, ◌∙◌}
-use Rattle.words.specs.Words.{words_of}
 use Rattle.operands.specs.Rows.{taken_before}
-use Rattle.operands.specs.Chains.{operands_of}
+use Rattle.operands.specs.InIndex.{operands_in}
 use Rattle.function.specs.Every.{every_from_all}
 use Rattle.operands.proofs.Rows.{long}
 use Rattle.operands.proofs.Twice.{apart_by}
@@ -9,6 +8,6 @@ use Rattle.operands.proofs.no_twice.Goals as goal
 
 pub returns : goal.returns
 returns c =
-    let os = operands_of (words_of c.args.t.now) c.args.c in
-    every_from_all (λ k. not (taken_before os k)) (λ k. k) c.args.c.count c.all.ensures.ran (λ x b q k. search (rules, tests))
-    ∙ apart_by os c.args.c.count (long _ _ _)
+    let os = operands_in c.args.index.now in
+    every_from_all (λ k. not (taken_before os k)) (λ k. k) c.args.index.now.chains.count c.all.ensures.ran (λ x b q k. search (rules, tests))
+    ∙ apart_by os c.args.index.now.chains.count (long _ _ _)

@@ -10,7 +10,7 @@ cut_across-requires c = let pre = c.requires in
     let k = c.first_past-k.ensures in
     let row = c.part_seg-row.ensures in
     let w = row_fits _ _ _ _ _ pre.0 k.1 k.2 row in
-    (pre.3, w.0, w.1, row_past _ _ _ _ _ _ pre.0 pre.2 k.0 row)
+    (w.0, w.1, row_past _ _ _ _ _ _ pre.0 pre.2 k.0 row)
 
 pub returns-then-row-q : goal.returns-then-row-q
 returns-then-row-q c = let a = c.args in

@@ -1,4 +1,3 @@
-use Rattle.turned.specs.Turned.{turned_in, turned_row}
 use Rattle.turned.proofs.Read.{head_within}
 use native.Mathlib.Omega.{arith}
 use Rattle.turned.proofs.turned_at.Goals as goal
@@ -7,7 +6,3 @@ pub marked_use-head-requires : goal.marked_use-head-requires
 marked_use-head-requires c = let pre = c.requires in
     let h = head_within _ _ _ _ _ _ pre.0 (omega arith) pre.1 c.holder_of.ensures.0 c.part_seg-row.ensures in
     (h, omega (arith, pre.2))
-
-pub returns : goal.returns
-unfolding turned_in turned_row
-returns c = rw (c.param_here.ensures, c.marked_use-u.ensures, c.marked_use-head.ensures, c.part_seg-row.ensures, c.holder_of.ensures.0)

@@ -1,7 +1,7 @@
 use Prim.Native.Nat.{◌≤◌}
-use Rattle.words.specs.Words.{words_of}
+use Rattle.word_rows.specs.Rows.{row_words}
 use Rattle.uses.proofs.Scans.{CountsOn}
 use Rattle.uses.proofs.count_before.Given as goal
 
 abbrev pub invariant-loop-i : goal.invariant-loop-i
-invariant-loop-i l = CountsOn (words_of l.t) l.at l.n l.p l.i × (l.i ≤ l.n)
+invariant-loop-i l = CountsOn (row_words l.uses) l.uses.at l.uses.n l.p l.i × (l.i ≤ l.uses.n)
