@@ -1,4 +1,4 @@
--- The number of a job's entry. Assumes nothing.
+-- The refusal of a job's entry, and its number. Assumes nothing.
 use Rattle.std.specs.Prelude.{ℕ, Bool, true, false, Result, Ok, Err, List, [], ◌∷◌}
 use Rattle.std.proofs.Math.Option.{Option, none, some}
 use Rattle.definition.specs.declared.Refusal.{Refusal}

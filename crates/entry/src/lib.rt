@@ -8,7 +8,6 @@ ghost use Rattle.definition.specs.Entry.{insts_of, limits_ok, lowest_of, entry};
 ghost use Rattle.function.specs.Blocks.{blocks_at};
 ghost use Rattle.operands.specs.Chains.{Chained, operands_of};
 ghost use Rattle.job.specs.Job.{raw_in};
-ghost use Rattle.job_shape.specs.Shape.{Shaped};
 ghost use Rattle.entry_function.specs.Counts.{Indexes};
 ghost use Rattle.entry_uses.specs.Tests.{Rising};
 ghost use Rattle.work_layout.specs.Regions.{max_work};
@@ -19,8 +18,10 @@ use definition::Refusal;
 use entry_function::Counted;
 use entry_kinds::Indexed;
 use entry_uses::Bounded;
-use layout::{Job, Layout, Table};
+use job_shape::ShapedJob;
+use layout::{Layout, Table};
 use operands::Chains;
+use word_rows::Rows;
 use work_layout::WorkLayout;
 
 // Of a job that passes: its layout, the parts of the work slice and the number of instructions.
@@ -77,18 +78,24 @@ fn insts_in(bytes: &[u8], blocks: Table) -> u64
     ensures insts { result ≡ insts_of (blocks_at (words_of bytes.now) blocks.at blocks.n) }
     ensures bytes { (i : ℕ) → get_or bytes.now i 0 < 256 }
 {
-    function::count_insts(bytes, blocks.at, blocks.n as u32)
+    let rows = Rows {
+        words: bytes,
+        at: blocks.at,
+        n: blocks.n,
+    };
+    function::count_insts(&rows)
 }
 
 // Tests 2 to 7, of a job that passed 1.
-pub fn enter(job: &Job, work: &mut [u8]) -> Result<Entered, Refusal>
-    requires { Shaped job.now.bytes.now job.now.lay × (max_work ≤ word_count work.old) }
-    ensures refused { refusal_in result ≡ entry (raw_in job.now) }
-    ensures accepted { IfOk result (λ e. (e.lay ≡ job.now.lay)
-        × Accepted job.now.bytes.now (words_of work.new) e.lay e.wl e.insts) }
+pub fn enter(shaped: &ShapedJob, work: &mut [u8]) -> Result<Entered, Refusal>
+    requires { max_work ≤ word_count work.old }
+    ensures refused { refusal_in result ≡ entry (raw_in shaped.now.job) }
+    ensures accepted { IfOk result (λ e. (e.lay ≡ shaped.now.job.lay)
+        × Accepted shaped.now.job.bytes.now (words_of work.new) e.lay e.wl e.insts) }
 {
+    let job = &shaped.job;
     let lay = &job.lay;
-    if !entry_book::limits_ok(job) {
+    if !entry_book::limits_ok(shaped) {
         return Err(Refusal::OverALimit);
     }
     if !entry_book::book_ok(job) {
@@ -116,19 +123,24 @@ pub fn prepare(job: &[u8], e: Entered, work: &mut [u8])
     let lay = &e.lay;
     let wl = e.wl;
     spans::clear_words(work, wl.mapping, lay.operands.n);
-    block_starts::put_starts(job, lay.blocks.at, lay.blocks.n as u32, work, wl.starts);
+    let blocks = Rows {
+        words: job,
+        at: lay.blocks.at,
+        n: lay.blocks.n,
+    };
+    block_starts::put_starts(&blocks, work, wl.starts);
     spans::clear_words(work, wl.marks, lay.uses.n);
 }
 
 // The tests, and the work slice of a job that passes them.
-pub fn enter_prepared(job: &Job, work: &mut [u8]) -> Result<Entered, Refusal>
-    requires { Shaped job.now.bytes.now job.now.lay × (max_work ≤ word_count work.old) }
-    ensures refused { refusal_in result ≡ entry (raw_in job.now) }
-    ensures accepted { IfOk result (λ e. (e.lay ≡ job.now.lay)
-        × Accepted job.now.bytes.now (words_of work.new) e.lay e.wl e.insts
-        × Prepared (words_in job.now) (words_of work.new) e.lay e.wl) }
+pub fn enter_prepared(shaped: &ShapedJob, work: &mut [u8]) -> Result<Entered, Refusal>
+    requires { max_work ≤ word_count work.old }
+    ensures refused { refusal_in result ≡ entry (raw_in shaped.now.job) }
+    ensures accepted { IfOk result (λ e. (e.lay ≡ shaped.now.job.lay)
+        × Accepted shaped.now.job.bytes.now (words_of work.new) e.lay e.wl e.insts
+        × Prepared (words_in shaped.now.job) (words_of work.new) e.lay e.wl) }
 {
-    let e = enter(job, work)?;
-    prepare(job.bytes, e, work);
+    let e = enter(shaped, work)?;
+    prepare(shaped.job.bytes, e, work);
     Ok(e)
 }

@@ -28,11 +28,6 @@ use Rattle.job_shape.proofs.Every.{every_row, every_same}
 use Rattle.job_shape.proofs.Columns.{below_row}
 use Rattle.entry_book.specs.Book.{scale_tests, Booked}
 
--- ---- a word that `is_small` was asked of
-
-pub small_is : {r : Bool} {x y : ℕ} → r ≡ small (of_bits binary32 x) → x ≡ y → r ≡ small (of_bits binary32 y)
-small_is e d = e ∙ ap (λ (k : ℕ). small (of_bits binary32 k)) d
-
 -- ---- the whole test
 
 module _ (W : List ℕ) (lay : Layout) where

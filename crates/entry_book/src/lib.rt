@@ -7,10 +7,10 @@ ghost use Rattle.layout.specs.JobWords.{words_in};
 ghost use Rattle.reginfo.specs.Rows.{class_row, classes_at};
 ghost use Rattle.definition.specs.Entry.{conj, every, sized, class_ok, limits_ok, book_ok};
 ghost use Rattle.job.specs.Job.{raw_in};
-ghost use Rattle.job_shape.specs.Shape.{Shaped};
 ghost use Rattle.entry_book.specs.Limits.{function_counts, other_counts, Limited};
 ghost use Rattle.entry_book.specs.Book.{scale_tests};
 
+use job_shape::ShapedJob;
 use layout::{Job, Layout};
 
 // The counts of all tables, in the order of the definition's tests.
@@ -30,16 +30,15 @@ fn counts_ok(lay: &Layout) -> bool
 }
 
 // Test 2: no count and no k above its limit.
-pub fn limits_ok(job: &Job) -> bool
-    requires { Shaped job.now.bytes.now job.now.lay }
-    ensures { result ≡ limits_ok (raw_in job.now) }
+pub fn limits_ok(shaped: &ShapedJob) -> bool
+    ensures { result ≡ limits_ok (raw_in shaped.now.job) }
 {
+    let job = &shaped.job;
     let lay = &job.lay;
     if !counts_ok(lay) {
         return false;
     }
-    words::word_at(job.bytes, lay.opts) <= 65535
-        && function::count_insts(job.bytes, lay.blocks.at, lay.blocks.n as u32) <= 4096
+    words::word_at(job.bytes, lay.opts) <= 65535 && function::count_insts(&job::blocks(job)) <= 4096
 }
 
 // Whether a mask has no bit from bit n on.

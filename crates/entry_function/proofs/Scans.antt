@@ -1,25 +1,16 @@
--- Tests one after the other, and tests over a table. Assumes nothing.
+-- What two tests, a test over a table and a list of tests say of each, where all pass. Assumes nothing.
 use Prim.Native.Nat.{ℕ, zero, suc, ◌+◌, ◌<◌}
 use native.Mathlib.Omega.{arith}
 use mathlib.Core.Path.{◌≡◌, refl}
-use mathlib.Core.Bool.{Bool, true, false, not, ◌&&◌}
+use mathlib.Core.Bool.{Bool, true, false, ◌&&◌}
 use mathlib.Core.List.{List, [], ◌∷◌}
 use lib.ListN.{length, get_or}
-use borrow.Author.Tests.{not-true, not-false}
 use Rattle.rows.specs.Tab.{tab}
 use Rattle.definition.specs.Entry.{conj, every}
-
--- ---- tests one after the other
 
 pub and_both : (p q : Bool) → p && q ≡ true → (p ≡ true) × (q ≡ true)
 and_both true q e = (refl, e)
 and_both false q e = let z : ◌≡◌ {A = ℕ} 0 1 = cc in absurd (omega arith)
-
-pub and_false : (p q a : Bool) → a ≡ p → not a ≡ true → false ≡ p && q
-and_false p q a e h = rw (← e, not-true a h)
-
-pub and_next : (p q a b : Bool) → a ≡ p → not a ≡ false → b ≡ q → b ≡ p && q
-and_next p q a b e h f = rw (← e, not-false a h) f
 
 -- a test that all pass is passed by each
 pub each_at : {A : Type 0} (f : A → Bool) (g : ℕ → A) (i n k : ℕ) → every f (tab g i n) ≡ true → k < n → f (g (i + k)) ≡ true

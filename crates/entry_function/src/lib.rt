@@ -17,7 +17,7 @@ mod counted;
 pub use counted::Counted;
 use definition::{Value, ValueSet};
 use layout::Job;
-use operands::Chains;
+use operands::{Chains, Index};
 
 // Whether value i's leader is a value that leads itself.
 fn leads_at(job: &Job, i: usize) -> bool
@@ -31,9 +31,10 @@ fn leads_at(job: &Job, i: usize) -> bool
     if n <= leader as usize {
         return false;
     }
-    coalescing::set_for_value(job.bytes, at, n, Value(leader)) == ValueSet(leader)
+    coalescing::set_for_value(&job::values(job), Value(leader)) == ValueSet(leader)
 }
 
+// Every value's leader. Not one with vgroups_ok and operands_ok: a line each, over another test and another definition.
 fn leaders_ok(job: &Job) -> bool
     ensures { result ≡ every (leader_ok (raw_in job.now))
         (values_at (words_in job.now) job.now.lay.values.at job.now.lay.values.n) }
@@ -67,6 +68,7 @@ fn vgroup_ok(job: &Job, i: usize) -> bool
     members_known(job.bytes, at, lay.values.n)
 }
 
+// Every value group. Not one with leaders_ok and operands_ok: a line each, over another test and another definition.
 fn vgroups_ok(job: &Job) -> bool
     ensures { result ≡ every (vgroup_ok (raw_in job.now))
         (vgroups_at (words_in job.now) job.now.lay.vgroups.at job.now.lay.vgroups.n) }
@@ -103,6 +105,7 @@ fn operand_ok(counted: &Counted, i: usize) -> bool
     size == coalescing::group_len(job.bytes, lay.vgroups.at + group * 9)
 }
 
+// Every operand. Not one with leaders_ok and vgroups_ok: a line each, over another test and another definition.
 fn operands_ok(counted: &Counted) -> bool
     ensures { result ≡ every (operand_ok (raw_in counted.now.job))
         (operands_at (words_in counted.now.job) counted.now.job.lay.operands.at counted.now.job.lay.operands.n) }
@@ -121,7 +124,7 @@ pub fn function_ok(counted: &Counted, work: &mut [u8], c: Chains) -> bool
 {
     let job = &counted.job;
     let lay = &job.lay;
-    if !function::blocks_ok(job.bytes, lay.blocks.at, lay.blocks.n as u32) {
+    if !function::blocks_ok(&job::blocks(job)) {
         return false;
     }
     if !leaders_ok(job) {
@@ -134,5 +137,10 @@ pub fn function_ok(counted: &Counted, work: &mut [u8], c: Chains) -> bool
         return false;
     }
     operands::put_chains(job.bytes, work, c);
-    operands::no_twice(job.bytes, work, c)
+    let index = Index {
+        job: job.bytes,
+        work,
+        chains: c,
+    };
+    operands::no_twice(&index)
 }

@@ -25,6 +25,7 @@ fn hint_known(counted: &Counted, i: usize) -> bool
     (h.value.0 as usize) < lay.values.n && h.inst.0 as usize <= counted.insts
 }
 
+// Every hint. Not one with entry_segments::segments_within: a line each, over another test and another definition.
 fn hints_known(counted: &Counted) -> bool
     ensures { result ≡ every (hint_known (raw_in counted.now.job))
         (rows_at hint_at (words_in counted.now.job) counted.now.job.lay.hints.at 3 counted.now.job.lay.hints.n) }
@@ -32,7 +33,8 @@ fn hints_known(counted: &Counted) -> bool
     (0..counted.job.lay.hints.n).all(|i| hint_known(counted, i))
 }
 
-// Whether hint b is not sorted before hint a.
+// Whether hint b is not sorted before hint a. Not `<=` of a derived order: that the order of the fields is that of the
+// keys would have to be proved, which is longer than this line.
 fn not_after(a: Hint, b: Hint) -> bool
     ensures { result ≡ not_after a b }
 {
@@ -51,7 +53,7 @@ fn hints_sorted(job: &Job) -> bool
     })
 }
 
-// Test 5.
+// Test 5. Not one with entry_segments::segments_ok: a line each, over other tests and another definition.
 pub fn hints_ok(counted: &Counted) -> bool
     ensures { result ≡ hints_ok (raw_in counted.now.job) }
 {

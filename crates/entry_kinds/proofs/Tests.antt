@@ -1,4 +1,4 @@
--- One law for each way through the test of a use's kind. Assumes nothing.
+-- The ways through the test of a use's kind. Assumes nothing.
 use Prim.Native.Nat.{ℕ, ◌+◌, ◌*◌, ◌≤◌, ◌<◌}
 use native.Mathlib.Omega.{arith}
 use mathlib.Core.Path.{◌≡◌, refl, sym, ap, ◌∙◌}
@@ -27,23 +27,7 @@ use Rattle.entry_function.proofs.Tests.{operands_of_lem}
 use Rattle.entry_function.proofs.Passed.{operand_fits, members_few, passed_apart}
 use Rattle.entry_kinds.specs.Tests.{class_use_ok, tied_use_ok, Ready}
 
--- ---- slots, classes, indices
-
-pub class_slot : (n s c : ℕ) → 65536 ≤ s → false ≡ class_use_ok n s c
-unfolding class_use_ok
-class_slot n s c h = rw (le-ltb _ _ h)
-
-pub class_by : (n s c : ℕ) → s < 65536 → ltb c n ≡ class_use_ok n s c
-unfolding class_use_ok
-class_by n s c h = rw (lt-ltb _ _ h)
-
-pub tied_def : (n s d c i : ℕ) → 65536 ≤ d → false ≡ tied_use_ok n s d c i
-unfolding tied_use_ok
-tied_def n s d c i h = rw (le-ltb _ _ h)
-
-pub tied_index : (n s d c i : ℕ) → d < 65536 → 256 ≤ i → false ≡ tied_use_ok n s d c i
-unfolding tied_use_ok
-tied_index n s d c i h k = rw (lt-ltb _ _ h, le-ltb _ _ k)
+-- ---- a tied use whose slot and index fit
 
 pub tied_by : (n s d c i : ℕ) (t : Bool) → d < 65536 → i < 256 → t ≡ class_use_ok n s c → t ≡ tied_use_ok n s d c i
 unfolding tied_use_ok

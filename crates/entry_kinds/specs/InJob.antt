@@ -1,4 +1,5 @@
--- The same by the job and the slice that are lent. Assumes nothing.
+-- That a job passed test 4 and the work slice holds the index of its operands, of the job that is lent. Tests has it of
+-- words and a layout. Assumes nothing.
 use Rattle.std.specs.Prelude.{ℕ, List}
 use Rattle.words.specs.Words.{word_count, words_of}
 use Rattle.operands.specs.declared.Chains.{Chains}

@@ -16,6 +16,7 @@ mod indexed;
 
 use definition::{Inst, RegClass, Value};
 pub use indexed::Indexed;
+use operands::Index;
 
 // Whether a slot fits its type and a class is one of n.
 fn class_use_ok(n: usize, slot: u32, class: u32) -> bool
@@ -55,13 +56,19 @@ fn group_use_ok(indexed: &Indexed, v: Value, p: Inst, slot: u32, class: u32, ind
     requires { p.0 < indexed.now.chains.insts }
     ensures { result ≡ group_use_ok (raw_in indexed.now.job) v p slot (cls class) index }
 {
-    match operands::find_operand(indexed.job.bytes, indexed.work, indexed.chains, p, slot) {
+    let links = Index {
+        job: indexed.job.bytes,
+        work: indexed.work,
+        chains: indexed.chains,
+    };
+    match operands::find_operand(&links, p, slot) {
         Some(k) => operand_fits(indexed, k, v, class, index),
         None => false,
     }
 }
 
 // Whether the kind and fields of the use at word i, of value v, are within the job. A conflict is no kind for a job.
+// The kind is matched as the word that the table has: a UseKind would first be made of it, by a match as long as this.
 pub fn kind_ok(indexed: &Indexed, v: Value, i: usize) -> bool
     requires { (i + 6 ≤ word_count indexed.now.job.bytes.now)
         × (get_or (words_in indexed.now.job) (i + 1) 0 < indexed.now.chains.insts) }

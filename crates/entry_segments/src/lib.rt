@@ -34,6 +34,7 @@ fn segment_ok(counted: &Counted, i: usize) -> bool
     (s.value.0 as usize) < lay.values.n && span_ok(s.from, s.to, counted.insts)
 }
 
+// Every segment. Not one with entry_hints::hints_known: a line each, over another test and another definition.
 fn segments_within(counted: &Counted) -> bool
     ensures { result ≡ every (segment_ok (raw_in counted.now.job))
         (tab (segment_of raw_row (words_in counted.now.job) counted.now.job.lay) 0 counted.now.job.lay.segments.n) }
@@ -51,11 +52,13 @@ fn is_behind(job: &Job, i: usize) -> bool
     let at = lay.segments.at;
     let s = layout::seg_at(job.bytes, at + (i - 1) * 5);
     let t = layout::seg_at(job.bytes, at + i * 5);
-    let a = coalescing::set_for_value(job.bytes, lay.values.at, lay.values.n, s.value);
-    let b = coalescing::set_for_value(job.bytes, lay.values.at, lay.values.n, t.value);
+    let values = job::values(job);
+    let a = coalescing::set_for_value(&values, s.value);
+    let b = coalescing::set_for_value(&values, t.value);
     a < b || (a == b && s.to <= t.from)
 }
 
+// Every two neighbours. Not one with segments_within: it begins at the second, and the definition is another.
 fn segments_sorted(job: &Job) -> bool
     ensures { result ≡ chained (in_order (raw_in job.now))
         (tab (segment_of raw_row (words_in job.now) job.now.lay) 0 job.now.lay.segments.n) }
@@ -63,7 +66,7 @@ fn segments_sorted(job: &Job) -> bool
     (1..job.lay.segments.n).all(|i| is_behind(job, i))
 }
 
-// Test 6.
+// Test 6. Not one with entry_hints::hints_ok: a line each, over other tests and another definition.
 pub fn segments_ok(counted: &Counted) -> bool
     ensures { result ≡ segments_ok (raw_in counted.now.job) }
 {

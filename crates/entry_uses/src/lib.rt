@@ -3,7 +3,7 @@
 
 ghost use Rattle.std.specs.Prelude.{◌≡◌, ◌+◌, ◌*◌, ◌≤◌, ◌<◌};
 ghost use Rattle.rows.specs.RowsAt.{rows_at};
-ghost use Rattle.words.specs.Words.{word_count, words_of};
+ghost use Rattle.word_rows.specs.Rows.{row_words};
 ghost use Rattle.layout.specs.JobWords.{words_in};
 ghost use Rattle.definition.specs.Entry.{every, chained, use_ok, uses_ok};
 ghost use Rattle.uses.specs.Rows.{raw_row};
@@ -16,6 +16,7 @@ mod bounded;
 pub use bounded::Bounded;
 use entry_kinds::Indexed;
 use layout::SegRow;
+use word_rows::{Rows, word_of};
 
 // Whether use k of segment s is one that it may have.
 fn use_ok(indexed: &Indexed, s: SegRow, k: usize) -> bool
@@ -49,12 +50,11 @@ fn each_use_ok(indexed: &Indexed, s: SegRow, n: usize) -> bool
     (0..n).all(|k| use_ok(indexed, s, k))
 }
 
-// Whether the positions of the n uses from word `at` on do not fall.
-fn uses_rise(job: &[u8], at: usize, n: usize) -> bool
-    requires { at + n * 6 ≤ word_count job.now }
-    ensures { result ≡ chained not_falling (rows_at raw_row (words_of job.now) at 6 n) }
+// Whether the positions of the uses do not fall.
+fn uses_rise(uses: &Rows<6>) -> bool
+    ensures { result ≡ chained not_falling (rows_at raw_row (row_words uses.now) uses.now.at 6 uses.now.n) }
 {
-    (1..n).all(|i| words::word_at(job, at + (i - 1) * 6 + 1) <= words::word_at(job, at + i * 6 + 1))
+    (1..uses.n).all(|i| word_of(uses, i - 1, 1) <= word_of(uses, i, 1))
 }
 
 // Test 7 of segment k.
@@ -70,7 +70,12 @@ fn segment_uses_ok(bounded: &Bounded, k: usize) -> bool
     let next = layout::next_use(job, k);
     let at = lay.uses.at + s.first as usize * 6;
     let n = (next - s.first) as usize;
-    each_use_ok(indexed, s, n) && uses_rise(job.bytes, at, n)
+    let uses = Rows {
+        words: job.bytes,
+        at,
+        n,
+    };
+    each_use_ok(indexed, s, n) && uses_rise(&uses)
 }
 
 // Test 7. The use table is walked from the first segment's uses to the last one's.

@@ -3,7 +3,6 @@
 
 ghost use Rattle.std.specs.Prelude.{◌≡◌, ◌≤◌};
 ghost use Rattle.words.specs.Words.{word_count, words_of};
-ghost use Rattle.job_shape.specs.Shape.{Shaped};
 ghost use Rattle.work_layout.specs.Regions.{max_work};
 ghost use Rattle.sheet_places.specs.Places.{table_words};
 ghost use Rattle.sheet_form.specs.Front.{formed, open_form};
@@ -12,25 +11,32 @@ ghost use Rattle.sheet_verdict.specs.Judged.{Tested, Judged};
 
 use definition::{Refusal, SheetRefusal};
 use entry::Entered;
+use job_shape::ShapedJob;
 use layout::Job;
 use sheet::SheetError;
 use sheet_form::Reading;
+use sheet_written::Written;
 
 // Tests 2 to 7 on the job of a table, then 10 where there are written fields.
 #[tactic(auto, using(crate::proofs::Ways::tested_refused))]
 fn judge_job(
     second: bool,
-    job: &Job,
-    written: &[u8],
+    shaped: &ShapedJob,
+    words: &[u8],
     work: &mut [u8],
 ) -> Result<Entered, SheetRefusal>
-    requires { Shaped job.now.bytes.now job.now.lay × (word_count written.now ≡ 1536) × (max_work ≤ word_count work.old) }
-    ensures { Tested second job.now.bytes.now job.now.lay (words_of written.now) (words_of work.new) result }
+    requires { (word_count words.now ≡ 1536) × (max_work ≤ word_count work.old) }
+    ensures { Tested second shaped.now.job.bytes.now shaped.now.job.lay
+        (words_of words.now) (words_of work.new) result }
 {
-    match entry::enter_prepared(job, work) {
+    match entry::enter_prepared(shaped, work) {
         Ok(e) => {
             if second {
-                if !sheet_written::as_implied(job, written) {
+                let written = Written {
+                    job: shaped.job,
+                    words,
+                };
+                if !sheet_written::as_implied(&written) {
                     return Err(SheetRefusal::WrittenDiffers);
                 }
             }
@@ -56,7 +62,8 @@ pub fn judge(
         Ok(()) => {
             let lay = sheet_job::fixed_layout(table);
             let job = Job { bytes: table, lay };
-            judge_job(sheet_form::is_second(cur), &job, written, work)
+            let shaped = ShapedJob { job };
+            judge_job(sheet_form::is_second(cur), &shaped, written, work)
         }
         Err(SheetError::Malformed) => Err(SheetRefusal::By(Refusal::NotARecord)),
         Err(SheetError::TooMany) => Err(SheetRefusal::By(Refusal::OverALimit)),

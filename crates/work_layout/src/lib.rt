@@ -20,6 +20,7 @@ pub struct WorkLayout {
 }
 
 // The parts of a job within the limits, of `insts` instructions.
+#[tactic(auto, unfolding(crate::specs::Regions::work_layout_of))]
 pub fn work_layout(lay: &Layout, insts: usize) -> WorkLayout
     requires { (insts ≤ 4096) × (lay.now.operands.n ≤ 1024) × (lay.now.blocks.n ≤ 512) × (lay.now.uses.n ≤ 4096) }
     ensures { (result ≡ work_layout_of lay.now insts) × Regions max_work lay.now insts result }

@@ -6,23 +6,20 @@ use Rattle.entry.proofs.Counts.{rising}
 use Rattle.entry.proofs.Entering.{raw_insts, err_kept, few, indexes, accepted}
 use Rattle.entry.proofs.enter.Goals as goal
 
-pub limits_ok-requires : goal.limits_ok-requires
-limits_ok-requires c = c.requires.0
-
 pub returns-then-not-limits_ok : goal.returns-then-not-limits_ok
 returns-then-not-limits_ok c = record { refused = entry_limits _ _ c.if-not-limits_ok.true-raw c.limits_ok.ensures; accepted = tt }
 
 pub book_ok-requires : goal.book_ok-requires
-book_ok-requires c = few c.requires.0 c.if-not-limits_ok.false-raw c.limits_ok.ensures
+book_ok-requires c = few c.args.shaped.now.shaped c.if-not-limits_ok.false-raw c.limits_ok.ensures
 
 pub returns-then-not-book_ok : goal.returns-then-not-book_ok
 returns-then-not-book_ok c = record { refused = entry_book _ _ c.if-not-limits_ok.false-raw c.limits_ok.ensures c.if-not-book_ok.true-raw c.book_ok.ensures; accepted = tt }
 
 pub insts_in-insts-requires : goal.insts_in-insts-requires
-insts_in-insts-requires c = (c.requires.0.fits.blocks, (few c.requires.0 c.if-not-limits_ok.false-raw c.limits_ok.ensures).blocks)
+insts_in-insts-requires c = (c.args.shaped.now.shaped.fits.blocks, (few c.args.shaped.now.shaped c.if-not-limits_ok.false-raw c.limits_ok.ensures).blocks)
 
 pub work_layout-wl-requires : goal.work_layout-wl-requires
-work_layout-wl-requires c = let l = few c.requires.0 c.if-not-limits_ok.false-raw c.limits_ok.ensures in
+work_layout-wl-requires c = let l = few c.args.shaped.now.shaped c.if-not-limits_ok.false-raw c.limits_ok.ensures in
     (omega (arith, l.insts, c.insts_in-insts.ensures.insts), l.operands, l.blocks, l.uses)
 
 pub invariant_of-counted : goal.invariant_of-counted
@@ -32,10 +29,10 @@ pub chains_in-requires : goal.chains_in-requires
 chains_in-requires c = omega (arith, c.work_layout-wl.ensures.1.heads)
 
 pub test_tables-requires : goal.test_tables-requires
-test_tables-requires c = let p = c.requires in (
-  rising _ _ p.0.counts,
+test_tables-requires c = let p = c.args.shaped.now.shaped in (
+  rising _ _ p.counts,
   passed c.if-not-limits_ok.false-raw c.limits_ok.ensures,
-  indexes p.1 c.insts_in-insts.ensures.insts c.work_layout-wl.ensures.1 c.chains_in.ensures,
+  indexes c.requires c.insts_in-insts.ensures.insts c.work_layout-wl.ensures.1 c.chains_in.ensures,
 )
 
 pub returns-in_err-test_tables-clause-refused : goal.returns-in_err-test_tables-clause-refused
@@ -47,5 +44,5 @@ returns c = let t = c.in_ok-test_tables.ensures in
     let n = entry_tables _ _ c.if-not-limits_ok.false-raw c.limits_ok.ensures c.if-not-book_ok.false-raw c.book_ok.ensures t.value in
     record {
       refused = n;
-      accepted = (refl, accepted _ _ c.requires.0 (sym n) _ _ _ c.insts_in-insts.ensures.bytes c.insts_in-insts.ensures.insts c.work_layout-wl.ensures.1 _ c.chains_in.ensures t.chained);
+      accepted = (refl, accepted _ _ c.args.shaped.now.shaped (sym n) _ _ _ c.insts_in-insts.ensures.bytes c.insts_in-insts.ensures.insts c.work_layout-wl.ensures.1 _ c.chains_in.ensures t.chained);
     }

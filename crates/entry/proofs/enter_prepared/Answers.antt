@@ -8,7 +8,7 @@ returns-in_err-e-clause-refused c = err_kept _ _ c.from_residual.ensures.1 ∙ c
 
 pub prepare-requires : goal.prepare-requires
 prepare-requires c = let e = c.in_ok-e.ensures in
-    (e.accepted.1, omega (arith, c.enter.auto.work, c.requires.1))
+    (e.accepted.1, omega (arith, c.enter.auto.work, c.requires))
 
 pub returns : goal.returns
 returns c = let e = c.in_ok-e.ensures in

@@ -8,15 +8,14 @@ clear_words-requires c = let p = c.requires in
     let r = p.0.regions in
     omega (arith, p.1, r.mapping, r.starts, r.marks, r.turned)
 
-pub overflow_cast-lay : goal.overflow_cast-lay
-overflow_cast-lay c = let p = c.requires in
-    record { fits = omega (arith, p.0.limited.blocks) }
+pub invariant_of-blocks : goal.invariant_of-blocks
+invariant_of-blocks c = record { room = c.requires.0.shaped.fits.blocks }
 
 pub put_starts-requires : goal.put_starts-requires
 put_starts-requires c = let p = c.requires in
     let r = p.0.regions in
     let k = c.clear_words.auto.s in
-    (p.0.shaped.fits.blocks, omega (arith, p.1, k, r.starts, r.marks, r.turned), omega (arith, p.0.limited.insts))
+    (omega (arith, p.0.limited.blocks), omega (arith, p.1, k, r.starts, r.marks, r.turned), omega (arith, p.0.limited.insts))
 
 pub clear_words-requires-2 : goal.clear_words-requires-2
 clear_words-requires-2 c = let p = c.requires in

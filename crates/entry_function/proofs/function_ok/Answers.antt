@@ -4,21 +4,21 @@ use Rattle.entry_function.proofs.Tests.{index_under, index_fits, function_1, fun
 use Rattle.entry_function.proofs.function_ok.Goals as goal
 
 pub returns-then-not-blocks_ok : goal.returns-then-not-blocks_ok
-returns-then-not-blocks_ok c = record { value = function_1 _ _ _ _ c.requires.1 _ c.blocks_ok.ensures c.if-not-blocks_ok.true-raw; chained = λ e. never (sym e) }
+returns-then-not-blocks_ok c = record { value = function_1 _ _ _ _ c.requires.1 _ (rw (c.blocks-2.ensures.0, c.blocks-2.ensures.1, c.blocks-2.ensures.2) at c.blocks_ok.ensures) c.if-not-blocks_ok.true-raw; chained = λ e. never (sym e) }
 
 pub returns-then-not-leaders_ok : goal.returns-then-not-leaders_ok
-returns-then-not-leaders_ok c = record { value = function_2 _ _ _ _ c.requires.1 _ c.blocks_ok.ensures c.if-not-blocks_ok.false-raw _ c.leaders_ok.ensures c.if-not-leaders_ok.true-raw; chained = λ e. never (sym e) }
+returns-then-not-leaders_ok c = record { value = function_2 _ _ _ _ c.requires.1 _ (rw (c.blocks-2.ensures.0, c.blocks-2.ensures.1, c.blocks-2.ensures.2) at c.blocks_ok.ensures) c.if-not-blocks_ok.false-raw _ c.leaders_ok.ensures c.if-not-leaders_ok.true-raw; chained = λ e. never (sym e) }
 
 pub returns-then-not-vgroups_ok : goal.returns-then-not-vgroups_ok
 returns-then-not-vgroups_ok c = record {
-  value = function_3 _ _ _ _ c.requires.1 _ c.blocks_ok.ensures c.if-not-blocks_ok.false-raw _ c.leaders_ok.ensures c.if-not-leaders_ok.false-raw
+  value = function_3 _ _ _ _ c.requires.1 _ (rw (c.blocks-2.ensures.0, c.blocks-2.ensures.1, c.blocks-2.ensures.2) at c.blocks_ok.ensures) c.if-not-blocks_ok.false-raw _ c.leaders_ok.ensures c.if-not-leaders_ok.false-raw
       _ c.vgroups_ok.ensures c.if-not-vgroups_ok.true-raw;
   chained = λ e. never (sym e);
 }
 
 pub returns-then-not-operands_ok : goal.returns-then-not-operands_ok
 returns-then-not-operands_ok c = record {
-  value = function_4 _ _ _ _ c.requires.1 _ c.blocks_ok.ensures c.if-not-blocks_ok.false-raw _ c.leaders_ok.ensures c.if-not-leaders_ok.false-raw
+  value = function_4 _ _ _ _ c.requires.1 _ (rw (c.blocks-2.ensures.0, c.blocks-2.ensures.1, c.blocks-2.ensures.2) at c.blocks_ok.ensures) c.if-not-blocks_ok.false-raw _ c.leaders_ok.ensures c.if-not-leaders_ok.false-raw
       _ c.vgroups_ok.ensures c.if-not-vgroups_ok.false-raw _ c.operands_ok.ensures c.if-not-operands_ok.true-raw;
   chained = λ e. never (sym e);
 }
@@ -28,7 +28,7 @@ put_chains-requires c = (index_fits _ _ _ _ c.requires.1 _ c.args.counted.now.jo
 
 pub returns : goal.returns
 returns c = record {
-  value = function_5 _ _ _ _ c.requires.1 _ c.blocks_ok.ensures c.if-not-blocks_ok.false-raw _ c.leaders_ok.ensures c.if-not-leaders_ok.false-raw
+  value = function_5 _ _ _ _ c.requires.1 _ (rw (c.blocks-2.ensures.0, c.blocks-2.ensures.1, c.blocks-2.ensures.2) at c.blocks_ok.ensures) c.if-not-blocks_ok.false-raw _ c.leaders_ok.ensures c.if-not-leaders_ok.false-raw
       _ c.vgroups_ok.ensures c.if-not-vgroups_ok.false-raw _ c.operands_ok.ensures c.if-not-operands_ok.false-raw _ c.no_twice.ensures;
   chained = λ e. (c.put_chains.ensures.chained, c.put_chains.ensures.work_after);
 }

@@ -15,9 +15,9 @@ pub each_use_ok-requires : goal.each_use_ok-requires
 each_use_ok-requires c = let l = uses_lie _ _ _ _ c.seg_at-s.ensures _ c.next_use-next.ensures c.args.bounded.now.rising c.requires in
     omega (arith, l.0, l.1)
 
-pub uses_rise-requires : goal.uses_rise-requires
-uses_rise-requires c = let l = uses_lie _ _ _ _ c.seg_at-s.ensures _ c.next_use-next.ensures c.args.bounded.now.rising c.requires in
-    omega (arith, l.0, l.1, c.args.bounded.now.indexed.job.fits.uses)
+pub invariant_of-uses : goal.invariant_of-uses
+invariant_of-uses c = let l = uses_lie _ _ _ _ c.seg_at-s.ensures _ c.next_use-next.ensures c.args.bounded.now.rising c.requires in
+    record { room = omega (arith, l.0, l.1, c.args.bounded.now.indexed.job.fits.uses) }
 
 pub returns-then-each_use_ok : goal.returns-then-each_use_ok
 returns-then-each_use_ok c = rw (uses_is (words_of c.args.bounded.now.indexed.job.bytes.now) c.args.bounded.now.indexed.job.lay c.args.k _ c.seg_at-s.ensures _ c.next_use-next.ensures) (search (rules, tests))

@@ -6,14 +6,8 @@ use Rattle.sheet_verdict.proofs.judge.Goals as goal
 pub invariant_of-job : goal.invariant_of-job
 invariant_of-job c = let p = c.requires in record { fits = (shaped_read _ _ _ p.0 p.1 p.2 _ c.finish.ensures c.in-Ok.is _ c.fixed_layout-lay.ensures).fits }
 
-pub judge_job-requires : goal.judge_job-requires
-judge_job-requires c = let p = c.requires in (
-  shaped_read _ _ _ p.0 p.1 p.2 _ c.finish.ensures
-      c.in-Ok.is _
-      c.fixed_layout-lay.ensures,
-  p.2,
-  p.3,
-)
+pub invariant_of-shaped : goal.invariant_of-shaped
+invariant_of-shaped c = let p = c.requires in record { shaped = shaped_read _ _ _ p.0 p.1 p.2 _ c.finish.ensures c.in-Ok.is _ c.fixed_layout-lay.ensures }
 
 pub returns-in-Ok : goal.returns-in-Ok
 returns-in-Ok c = let p = c.requires in

@@ -2,9 +2,9 @@ use Rattle.sheet_verdict.proofs.Ways.{tested_ten, tested_second, tested_first, i
 use borrow.Author.Tests.{not-true, not-false}
 use Rattle.sheet_verdict.proofs.judge_job.Goals as goal
 
-pub as_implied-requires : goal.as_implied-requires
-as_implied-requires c = let a = c.in-Ok.ensures.accepted in
-    (implied_asked _ _ c.in-Ok.e _ (a.0, (a.1, a.2)), c.requires.1)
+pub invariant_of-written : goal.invariant_of-written
+invariant_of-written c = let a = c.in-Ok.ensures.accepted in
+    record { passed = implied_asked _ _ c.in-Ok.e _ (a.0, (a.1, a.2)); long = c.requires.0 }
 
 pub returns-then-not-as_implied : goal.returns-then-not-as_implied
 returns-then-not-as_implied c = let e = c.in-Ok.ensures in

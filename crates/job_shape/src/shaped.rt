@@ -1,0 +1,11 @@
+// A job of good shape as it is lent.
+ghost use Rattle.job_shape.specs.Shape.{Shaped};
+
+use layout::Job;
+
+// The job passed test 1.
+#[derive(Clone, Copy)]
+pub struct ShapedJob<'a> {
+    pub job: Job<'a>,
+    pub ghost shaped: { Shaped job.bytes.now job.lay },
+}
