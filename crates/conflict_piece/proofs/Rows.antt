@@ -112,10 +112,6 @@ unfolding conflict_row conflict_piece
 row_words v p (Some i) u n ts e = ap (λ (k : ℕ). v.0 ∷ (4 * p.0) ∷ (4 * p.0 + 2) ∷ 0 ∷ 1 ∷ u ∷ k ∷ []) e
 row_words v p None u n ts e = ap (λ (k : ℕ). v.0 ∷ (4 * p.0) ∷ (4 * p.0 + 2) ∷ 1 ∷ 1 ∷ u ∷ k ∷ []) e
 
-pub live_in : (b : Bool) → from_bool b ≡ cond (not b) 0 1
-live_in true = refl
-live_in false = refl
-
 -- all of it
 pub conflict_written : (ol : OutLayout) (O O₁ O₂ O₃ : List ℕ) (p u k : ℕ) (v : Value) (pos : Inst) (q : code.Option ℕ) (K : List ℕ) (turned : ℕ) (W : List ℕ) (lay : Layout) (a b : ℕ) (r : PieceRow)
     → tables_end ol ≤ length O → p < ol.segs → k ≡ open_count q → ((i : ℕ) → Written ol O i u [] (opening pos (param_by q)) O₁)

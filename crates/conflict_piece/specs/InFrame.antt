@@ -1,4 +1,5 @@
--- The same by the frame and the slices that are lent. Assumes nothing.
+-- The turned rows in the work slice and the uses that they stand for, of the frame. Conflict has them of words and
+-- layouts. Assumes nothing.
 use Rattle.std.specs.Prelude.{ℕ, List}
 use Rattle.words.specs.Words.{word_count, words_of}
 use Rattle.layout.specs.JobWords.{words_in}

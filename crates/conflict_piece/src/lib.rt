@@ -6,7 +6,7 @@ ghost use Rattle.std.proofs.Math.Option.{Option};
 ghost use Rattle.rows.specs.Tab.{tab};
 ghost use Rattle.words.specs.Words.{word_count, words_of};
 ghost use Rattle.layout.specs.JobWords.{words_in};
-ghost use Rattle.definition.specs.Types.{Turned, vrgroup};
+ghost use Rattle.definition.specs.Types.{Turned};
 ghost use Rattle.definition.specs.Build.{opening, conflict_piece};
 ghost use Rattle.definition.specs.Place.{map_uses, uses_of, segs_of};
 ghost use Rattle.virt_regs.specs.Encoding.{tables_end};
@@ -19,6 +19,7 @@ ghost use Rattle.conflict_piece.specs.InFrame.{row_use, turned_rows_of, RowsOk};
 
 use definition::{Inst, LiveRangePoint, Origin, Use, UseKind, Value};
 use frame::Frame;
+use part_maps::NewGroup;
 use virt_regs::{OutLayout, PieceRow};
 
 // What the conflict pieces of one instruction take over of its first turned use.
@@ -58,6 +59,7 @@ fn write_opening(out: &mut [u8], ol: OutLayout, u: usize, pos: Inst, param: Opti
 }
 
 // The uses of turned rows a to b - 1, from use row u on.
+// Not one with part_pieces::write_uses: a closure for the reader of uses would carry its contract.
 fn write_turned(fr: &Frame, work: &[u8], a: usize, b: usize, out: &mut [u8], u: usize)
     requires { RowsOk fr.now work.now a b × (tables_end fr.now.ol ≤ word_count out.old) × (u + (b - a) ≤ fr.now.ol.uses) }
     ensures { (O : List ℕ) (p v : ℕ) (us : List Use) → Written fr.now.ol O p v [] us (words_of out.old) → u ≡ v + length us → Written fr.now.ol O p v [] (us ++ tab (row_use fr.now work.now) a (b - a)) (words_of out.new) }
@@ -69,6 +71,7 @@ fn write_turned(fr: &Frame, work: &[u8], a: usize, b: usize, out: &mut [u8], u: 
 }
 
 // "A conflict piece covers [4p, 4p+2)." Its flags: live-in, without a parameter.
+#[tactic(auto, unfolding(crate::specs::Conflict::conflict_row))]
 fn conflict_row(value: Value, pos: Inst, param: Option<u32>, u: usize, n: usize) -> PieceRow
     requires { (4 * pos.0 + 2 < 4294967296) × (u < 4294967296) × (n < 4294967296) }
     ensures { result ≡ conflict_row value pos param u n }
@@ -107,9 +110,10 @@ pub fn write_conflict(
 }
 
 // "A new group maps every group operand of its register": of the conflict piece of rows a to b - 1. Not if one is mapped already.
-pub fn map_conflict(fr: &Frame, work: &mut [u8], a: usize, b: usize, g: u32) -> bool
-    requires { Ready fr.now work.old × MapApart fr.now × RowsOk fr.now work.old a b × (g < 4294967295) × (0 < fr.now.job.lay.segments.n) }
-    ensures { (v : Value) (p : Inst) (q : Option ℕ) → Maps (words_in fr.now.job) (words_of work.old) fr.now.job.lay fr.now.wl (map_uses (vrgroup g) (uses_of (segs_of (conflict_piece v p q (turned_rows_of fr.now work.old a b) ∷ [])))) result (words_of work.new) }
+// Not one with part_maps::map_part: a closure for the reader of uses would carry its contract.
+pub fn map_conflict(fr: &Frame, work: &mut [u8], a: usize, b: usize, g: NewGroup) -> bool
+    requires { Ready fr.now work.old × MapApart fr.now × RowsOk fr.now work.old a b × (0 < fr.now.job.lay.segments.n) }
+    ensures { (v : Value) (p : Inst) (q : Option ℕ) → Maps (words_in fr.now.job) (words_of work.old) fr.now.job.lay fr.now.wl (map_uses g.group (uses_of (segs_of (conflict_piece v p q (turned_rows_of fr.now work.old a b) ∷ [])))) result (words_of work.new) }
 {
     let wl = &fr.wl;
     let turned = wl.turned;

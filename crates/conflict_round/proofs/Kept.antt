@@ -7,7 +7,7 @@ use Prim.Native.Nat.{ℕ, ◌+◌, ◌-◌, ◌*◌, ◌/◌, ◌≤◌, ◌<◌
 use native.Mathlib.Omega.{arith}
 use lib.Dec.{eqb}
 use lib.ListN.{length, get_or}
-use Rattle.rows.specs.Tab.{length_tab, tab_more, tab_done, tab_ext}
+use Rattle.rows.specs.Tab.{length_tab, tab_more, tab_done}
 use Rattle.words.specs.Words.{word_count, words_of}
 use Rattle.words.specs.Laws.{length_words}
 use Rattle.definition.specs.Types.{State, Turned, val}
@@ -75,28 +75,6 @@ module _ (K : List ℕ) (turned : ℕ) (W : List ℕ) (lay : Layout) (a b : ℕ)
 
 pub elsewhere_none : (turned a b : ℕ) (K : List ℕ) → Elsewhere turned a b K K
 elsewhere_none turned a b K = record { long = refl; before = λ n l. refl; behind = λ n l. refl }
-
-pub elsewhere_then : (turned a b : ℕ) (K K₁ K₂ : List ℕ) → Elsewhere turned a b K K₁ → Elsewhere turned a b K₁ K₂ → Elsewhere turned a b K K₂
-elsewhere_then turned a b K K₁ K₂ x y =
-    record { long = y.long ∙ x.long; before = λ n l. y.before n l ∙ x.before n l; behind = λ n l. y.behind n l ∙ x.behind n l }
-
-pub elsewhere_more : (turned a b c d : ℕ) (K K' : List ℕ) → c ≤ a → b ≤ d → Elsewhere turned a b K K' → Elsewhere turned c d K K'
-elsewhere_more turned a b c d K K' l m o = record { long = o.long; before = λ n x. o.before n (omega arith); behind = λ n x. o.behind n (omega arith) }
-
--- the rows behind them
-module _ (turned a b c d : ℕ) (K K' : List ℕ) (o : Elsewhere turned a b K K') (l : b ≤ c) where
-  row_behind : (k : ℕ) → c ≤ k → row_words K' (turned + k * 4) ≡ row_words K (turned + k * 4)
-  row_behind k m = row_same K K' (turned + k * 4) (λ n x y. o.behind n (omega arith))
-
-  pub rows_behind : (W : List ℕ) (lay : Layout) → turned_rows_of K' turned W lay c d ≡ turned_rows_of K turned W lay c d
-  unfolding turned_rows_of
-  rows_behind W lay =
-      tab_ext (turned_row_at K' turned W lay) (turned_row_at K turned W lay) c c (d - c)
-      (λ n x. rows_equal K K' turned W lay (c + n) (c + n) (row_behind (c + n) (omega arith)))
-
-  pub known_behind : (w : ℕ) (lay : Layout) → RowsOk w K turned lay c d → RowsOk w K' turned lay c d
-  known_behind w lay r =
-      record { order = r.order; within = r.within; known = λ k x y. omega (arith, row_number K K' turned k k (row_behind k x), r.known k x y) }
 
 -- ---- what admission reads is as it was
 

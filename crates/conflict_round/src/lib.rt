@@ -22,6 +22,7 @@ use frame::Frame;
 use layout::Layout;
 
 // The four words of a row: value, use number, whether it has a parameter (0 or 1), the parameter.
+// No array of four: the definitions of a round name the words.
 #[derive(Clone, Copy)]
 pub struct RowWords {
     pub value: u32,

@@ -3,10 +3,9 @@ use mathlib.Core.Path.{◌≡◌, refl, sym, ap, ap₂, subst, ◌∙◌}
 use mathlib.Core.Bool.{Bool, true, false}
 use mathlib.Core.Option.{Option, none, some, bind}
 use mathlib.Core.List.{List}
-use Prim.Native.Nat.{ℕ, zero, suc}
-use native.Mathlib.Omega.{arith}
+use Prim.Native.Nat.{ℕ}
 use lib.Dec.{eqb}
-use borrow.Author.Tests.{eqb-true, eqb-false, eq-eqb, ne_eqb}
+use borrow.Author.Tests.{eq-eqb, ne_eqb}
 use Rattle.definition.specs.declared.Inst.{Inst}
 use Rattle.definition.specs.declared.RegClass.{RegClass}
 use Rattle.definition.specs.declared.ValueSet.{ValueSet}
@@ -21,10 +20,10 @@ use Rattle.definition.specs.Admit.{mapped_at, sets_at, same_sets, mapping_fits, 
 use Rattle.std.specs.Prelude.{Some, None}
 use Rattle.std.specs.Prelude as code
 use Rattle.reginfo.specs.Rows.{found_of}
-use Rattle.virt_regs.specs.Encoding.{group_word}
+use Rattle.std.specs.Option.{option_eq}
+use Rattle.operands.proofs.Twice.{never}
 use Rattle.members.specs.declared.Joined.{Joined}
-use Rattle.members.specs.Places.{reg_of, group_of, joined_of}
-use Rattle.members.proofs.Places.{group_of_lem}
+use Rattle.members.specs.Places.{option_of, joined_of}
 use Rattle.members.proofs.Narrowing.{found_some, found_none, bind_some, bind_none}
 use Rattle.constraints.specs.declared.GroupUse.{GroupUse}
 use Rattle.constraints.specs.declared.Ask.{Ask}
@@ -32,7 +31,8 @@ use Rattle.constraints.specs.declared.Ask.TheVariants.{Any, Group}
 use Rattle.constraints.specs.declared.OperandGroup.{OperandGroup}
 use Rattle.constraints.specs.Asks.{ask_of}
 use Rattle.constraints.specs.declared.Held.{Held}
-use Rattle.constraints.specs.Held.{held_of, admission_of, holding, into_group}
+use Rattle.constraints.specs.declared.HeldGroup.{HeldGroup}
+use Rattle.constraints.specs.Held.{group_of, held_of, admission_of, holding, into_group}
 use Rattle.constraints.specs.Ready.{HasOperand, BackedAsk, Backed}
 
 -- ---- what an answer stands for
@@ -49,15 +49,19 @@ pub held_class : (h : Held) → (held_of h).class ≡ h.class
 unfolding held_of
 held_class h = refl
 
-pub held_target : (h : Held) → (held_of h).target ≡ reg_of h.target
+pub held_target : (h : Held) → (held_of h).target ≡ option_of h.target
 unfolding held_of
 held_target h = refl
+
+pub held_group : (h : Held) → (held_of h).group ≡ group_of h.group
+unfolding held_of
+held_group h = refl
 
 -- ---- a class use
 
 module _ (job : Job) (h : Held) (c : RegClass) (f : code.Option RegClass) (e : f ≡ found_of (common_subclass job h.class c)) where
   pub class_yes : (k : RegClass) → f ≡ Some k
-      → admission_of (Some (record { class = k; grouped = h.grouped; index = h.index; mapped = h.mapped; sets = h.sets; target = h.target })) ≡ admit_class job (held_of h) c
+      → admission_of (Some (record { class = k; group = h.group; target = h.target })) ≡ admit_class job (held_of h) c
   unfolding admission_of held_of admit_class
   class_yes k q = sym (bind_some _ (found_some f (common_subclass job h.class c) k e q))
 
@@ -67,71 +71,66 @@ module _ (job : Job) (h : Held) (c : RegClass) (f : code.Option RegClass) (e : f
 
 -- ---- what a group use must fit
 
-pub mapping_free : (a b : ℕ) → a ≡ 0 → true ≡ mapping_fits (group_of a) (group_of b)
-unfolding group_of
-mapping_free a b e = sym (ap (λ (x : ℕ). mapping_fits (group_of x) (group_of b)) e)
+pub mapping_free : (a b : code.Option VirtRegGroup) → code.is_some a ≡ false → true ≡ mapping_fits (option_of a) (option_of b)
+mapping_free None b e = refl
+mapping_free (Some g) b e = never e
 
-pub mapping_same : (a b : ℕ) → (a ≡ 0 → ⊥) → eqb a b ≡ mapping_fits (group_of a) (group_of b)
-unfolding group_of
-mapping_same zero b ne = absurd (ne refl)
-mapping_same (suc a) zero ne = ne_eqb (suc a) 0 ne
-mapping_same (suc a) (suc b) ne = go (eqb a b) refl
-  where
-    go : (t : Bool) → eqb a b ≡ t → eqb (suc a) (suc b) ≡ eqb a b
-    go true e = eq-eqb _ _ (ap suc (eqb-true a b e)) ∙ sym e
-    go false e = ne_eqb (suc a) (suc b) (λ (q : suc a ≡ suc b). eqb-false a b e (omega arith)) ∙ sym e
+pub mapping_same : (a b : code.Option VirtRegGroup) (t : Bool) → code.is_some a ≡ true → t ≡ option_eq (λ (x y : VirtRegGroup). eqb x.0 y.0) a b → t ≡ mapping_fits (option_of a) (option_of b)
+mapping_same None b t n e = never (sym n)
+mapping_same (Some g) None t n e = e
+mapping_same (Some g) (Some f) t n e = e
 
-module _ (h : Held) (i m : ℕ) (sets : List ValueSet) where
-  pub fits_first : h.grouped ≡ false → true ≡ group_fits (held_of h).group i (group_of m) sets
-  unfolding held_of group_fits
+module _ (before : code.Option HeldGroup) (i : ℕ) (m : Option VirtRegGroup) (sets : List ValueSet) where
+  pub fits_first : before ≡ None → true ≡ group_fits (group_of before) i m sets
+  unfolding group_fits
   fits_first e = rw e
 
-  pub fits_index : h.grouped ≡ true → (h.index ≡ i → ⊥) → false ≡ group_fits (held_of h).group i (group_of m) sets
-  unfolding held_of group_fits
-  fits_index e ne = rw (e, ne_eqb h.index i ne)
+  module _ (h : HeldGroup) (e : before ≡ Some h) where
+    pub fits_index : (h.index ≡ i → ⊥) → false ≡ group_fits (group_of before) i m sets
+    unfolding group_fits
+    fits_index ne = rw (e, ne_eqb h.index i ne)
 
-  pub fits_mapping : (b : Bool) → h.grouped ≡ true → h.index ≡ i → b ≡ mapping_fits (group_of h.mapped) (group_of m) → b ≡ false → false ≡ group_fits (held_of h).group i (group_of m) sets
-  unfolding held_of group_fits
-  fits_mapping b e ei em eb = let q : mapping_fits (group_of h.mapped) (group_of m) ≡ false = sym em ∙ eb in rw (e, eq-eqb h.index i ei, q)
+    pub fits_mapping : (b : Bool) → h.index ≡ i → b ≡ mapping_fits (option_of h.mapped) m → b ≡ false → false ≡ group_fits (group_of before) i m sets
+    unfolding group_fits
+    fits_mapping b ei em eb = let q : mapping_fits (option_of h.mapped) m ≡ false = sym em ∙ eb in rw (e, eq-eqb h.index i ei, q)
 
-  pub fits_sets : (b r : Bool) → h.grouped ≡ true → h.index ≡ i → b ≡ mapping_fits (group_of h.mapped) (group_of m) → b ≡ true → r ≡ same_sets h.sets sets
-      → r ≡ group_fits (held_of h).group i (group_of m) sets
-  unfolding held_of group_fits
-  fits_sets b r e ei em eb er = let q : mapping_fits (group_of h.mapped) (group_of m) ≡ true = sym em ∙ eb in rw (e, eq-eqb h.index i ei, q) er
+    pub fits_sets : (b r : Bool) → h.index ≡ i → b ≡ mapping_fits (option_of h.mapped) m → b ≡ true → r ≡ same_sets h.sets sets → r ≡ group_fits (group_of before) i m sets
+    unfolding group_fits
+    fits_sets b r ei em eb er = let q : mapping_fits (option_of h.mapped) m ≡ true = sym em ∙ eb in rw (e, eq-eqb h.index i ei, q) er
 
 -- ---- what a group use leads to
 
-module _ (job : Job) (st : State) (h : Held) (k : RegClass) (i : ℕ) (g : OperandGroup) (b : Bool) (fit : b ≡ group_fits (held_of h).group i (group_of g.mapped) g.sets) where
-  into : (n : code.Option Joined) → b ≡ true → joined_of n ≡ in_group job st (held_of h) k i (group_of g.mapped)
-      → into_group job st (held_of h) k i (group_of g.mapped) g.sets ≡ bind (joined_of n) (λ x. some (holding i (group_of g.mapped) g.sets x))
-  unfolding into_group guard bind
-  into n e en = let q : group_fits (held_of h).group i (group_of g.mapped) g.sets ≡ true = sym fit ∙ e in rw (q, ← en)
+module _ (job : Job) (st : State) (h : Held) (k : RegClass) (i : ℕ) (g : OperandGroup) (b : Bool) (fit : b ≡ group_fits (group_of h.group) i (option_of g.mapped) g.sets) where
+  into : (n : code.Option Joined) → b ≡ true → joined_of n ≡ in_group job st (held_of h) k i (option_of g.mapped)
+      → into_group job st (held_of h) k i (option_of g.mapped) g.sets ≡ bind (joined_of n) (λ x. some (holding i (option_of g.mapped) g.sets x))
+  unfolding into_group guard bind held_of
+  into n e en = let q : group_fits (group_of h.group) i (option_of g.mapped) g.sets ≡ true = sym fit ∙ e in rw (q, ← en)
 
-  pub into_yes : (n : code.Option Joined) (j : Joined) → b ≡ true → joined_of n ≡ in_group job st (held_of h) k i (group_of g.mapped) → n ≡ Some j
-      → admission_of (Some (record { class = j.class; grouped = true; index = i; mapped = g.mapped; sets = g.sets; target = j.target })) ≡ into_group job st (held_of h) k i (group_of g.mapped) g.sets
+  pub into_yes : (n : code.Option Joined) (j : Joined) → b ≡ true → joined_of n ≡ in_group job st (held_of h) k i (option_of g.mapped) → n ≡ Some j
+      → admission_of (Some (record { class = j.class; group = Some (record { index = i; mapped = g.mapped; sets = g.sets }); target = j.target })) ≡ into_group job st (held_of h) k i (option_of g.mapped) g.sets
   unfolding admission_of held_of joined_of bind
   into_yes n j e en q = sym (into n e en ∙ rw q)
 
-  pub into_none : (n : code.Option Joined) → b ≡ true → joined_of n ≡ in_group job st (held_of h) k i (group_of g.mapped) → n ≡ None
-      → admission_of None ≡ into_group job st (held_of h) k i (group_of g.mapped) g.sets
+  pub into_none : (n : code.Option Joined) → b ≡ true → joined_of n ≡ in_group job st (held_of h) k i (option_of g.mapped) → n ≡ None
+      → admission_of None ≡ into_group job st (held_of h) k i (option_of g.mapped) g.sets
   unfolding admission_of joined_of bind
   into_none n e en q = sym (into n e en ∙ rw q)
 
-  pub into_no : b ≡ false → admission_of None ≡ into_group job st (held_of h) k i (group_of g.mapped) g.sets
-  unfolding admission_of into_group guard bind
-  into_no e = let q : group_fits (held_of h).group i (group_of g.mapped) g.sets ≡ false = sym fit ∙ e in rw q
+  pub into_no : b ≡ false → admission_of None ≡ into_group job st (held_of h) k i (option_of g.mapped) g.sets
+  unfolding admission_of into_group guard bind held_of
+  into_no e = let q : group_fits (group_of h.group) i (option_of g.mapped) g.sets ≡ false = sym fit ∙ e in rw q
 
 module _ (job : Job) (st : State) (h : Held) (p : Inst) (s : ℕ) (c : RegClass) (i : ℕ) (f : code.Option RegClass) (e : f ≡ found_of (common_subclass job h.class c)) where
   pub group_no : f ≡ None → admission_of None ≡ admit_group job st (held_of h) p s c i
   unfolding admission_of held_of admit_group
   group_no q = sym (bind_none _ (found_none f (common_subclass job h.class c) e q))
 
-  pub group_yes : (k : RegClass) (g : OperandGroup) (r : code.Option Held) → f ≡ Some k → g.mapped ≡ group_word (mapped_at st.mapping p s) → g.sets ≡ sets_at job p s
-      → admission_of r ≡ into_group job st (held_of h) k i (group_of g.mapped) g.sets → admission_of r ≡ admit_group job st (held_of h) p s c i
+  pub group_yes : (k : RegClass) (g : OperandGroup) (r : code.Option Held) → f ≡ Some k → option_of g.mapped ≡ mapped_at st.mapping p s → g.sets ≡ sets_at job p s
+      → admission_of r ≡ into_group job st (held_of h) k i (option_of g.mapped) g.sets → admission_of r ≡ admit_group job st (held_of h) p s c i
   unfolding admit_group into_group held_of
   group_yes k g r q em es er =
       er
-      ∙ ap₂ (λ (m : Option VirtRegGroup) (x : List ValueSet). into_group job st (held_of h) k i m x) (group_of_lem g.mapped (mapped_at st.mapping p s) em) es
+      ∙ ap₂ (λ (m : Option VirtRegGroup) (x : List ValueSet). into_group job st (held_of h) k i m x) em es
       ∙ sym (bind_some _ (found_some f (common_subclass job h.class c) k e q))
 
 -- ---- by what the use asks

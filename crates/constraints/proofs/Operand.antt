@@ -10,6 +10,7 @@ use Rattle.definition.specs.declared.Inst.{Inst}
 use Rattle.definition.specs.declared.Value.{Value}
 use Rattle.definition.specs.declared.ValueSet.{ValueSet}
 use Rattle.definition.specs.declared.Operand.{Operand}
+use Rattle.definition.specs.declared.VirtRegGroup.{VirtRegGroup}
 use Rattle.definition.specs.Types.{Job, inst}
 use Rattle.definition.specs.Admit.{mapped_at, vgroup_at, sets_of, sets_at}
 use Rattle.definition.specs.Entry.{some_is, apart, same_place}
@@ -25,6 +26,8 @@ use Rattle.operands.proofs.Twice.{never}
 use Rattle.layout.specs.declared.Layout.{Layout}
 use Rattle.job.specs.Job.{job_by, job_of}
 use Rattle.virt_regs.specs.Encoding.{group_word}
+use Rattle.members.specs.Places.{option_of}
+use Rattle.members.proofs.Places.{group_same}
 use Rattle.work_layout.specs.declared.WorkLayout.{WorkLayout}
 use Rattle.constraints.specs.declared.OperandGroup.{OperandGroup}
 use Rattle.constraints.specs.Ready.{operands_in, HasOperand, OperandIs, Says, Said}
@@ -56,8 +59,8 @@ module _ (W : List ℕ) (lay : Layout) (k : ℕ) (o : Operand) (l : k < lay.oper
   pub group_known : ((j : ℕ) → j < lay.operands.n → (op_at (operands_in W lay) j).vgroup.0 < lay.vgroups.n) → o.vgroup.0 < lay.vgroups.n
   group_known f = rw is_operand (f k l)
 
-  pub operand_says : (K : List ℕ) (wl : WorkLayout) (m : ℕ) (x : List ValueSet)
-      → ((j : ℕ) → j < lay.operands.n → (op_at (operands_in W lay) j).vgroup.0 < lay.vgroups.n) → m ≡ get_or K (wl.mapping + k) 0
+  pub operand_says : (K : List ℕ) (wl : WorkLayout) (m : Option VirtRegGroup) (x : List ValueSet)
+      → ((j : ℕ) → j < lay.operands.n → (op_at (operands_in W lay) j).vgroup.0 < lay.vgroups.n) → get_or K (wl.mapping + k) 0 ≡ group_word (option_of m)
       → ((job : Job) → job.values ≡ values_at W lay.values.at lay.values.n → x ≡ sets_of job (vgroup_row W (lay.vgroups.at + o.vgroup.0 * 9)))
       → OperandIs W K lay wl k (record { mapped = m; sets = x })
   operand_says K wl m x f em ex =
@@ -98,30 +101,32 @@ module _ (W : List ℕ) (lay : Layout) (p : Inst) (s : ℕ) where
       record {
         mapped =
             λ ms m.
-            i.mapped
+            group_same (option_of r.mapped) (mapped_at ms p s)
+            (sym i.mapped
             ∙ m.is k (omega (arith, at.0, long W lay.operands.at lay.operands.n))
-            ∙ ap₂ (λ (x : Inst) (y : ℕ). group_word (mapped_at ms x y)) ei es;
+            ∙ ap₂ (λ (x : Inst) (y : ℕ). group_word (mapped_at ms x y)) ei es);
         sets =
             i.sets
             ∙ ap₂ (λ (gs : List (List Value)) (n : ℕ). sets_of (job_of W lay) (get_or gs n [])) (sym (job_vgroups W lay)) (sym g);
       }
 
-  -- an operand that is there is found, and at an instruction of the index
+  -- an operand that is there is found
   pub said_nothing : (f : Option ℕ) → f ≡ last_place (operands_in W lay) lay.operands.n p.0 s → f ≡ None → HasOperand (job_of W lay) p s → ⊥
   said_nothing f e q h =
       let t : some_is (is_at p.0 s) (operands_in W lay) ≡ true = ap (λ (l : List Operand). some_is (is_at p.0 s) l) (sym (job_operands W lay)) ∙ h in
       never (sym t ∙ none_at (operands_in W lay) p.0 s (sym (found_here f e) ∙ q))
 
-  pub said_past : (n : ℕ) → Under n (operands_in W lay) → n ≤ p.0 → HasOperand (job_of W lay) p s → ⊥
-  said_past n u l h = go (last_place (operands_in W lay) lay.operands.n p.0 s) refl
-    where
-      go : (f : Option ℕ) → last_place (operands_in W lay) lay.operands.n p.0 s ≡ f → ⊥
-      go (Some k) e =
-          let at = found_at (operands_in W lay) lay.operands.n p.0 s k e in
-          let ei : (op_at (operands_in W lay) k).inst.0 ≡ p.0 = eqb-true _ _ (both _ _ at.1).0 in
-          let b : (op_at (operands_in W lay) k).inst.0 < n = u.under k (omega (arith, at.0, long W lay.operands.at lay.operands.n)) in
-          omega arith
-      go None e = said_nothing _ refl e h
+-- none is at an instruction that the index does not have
+pub past_none : (W : List ℕ) (lay : Layout) (i s n : ℕ) → Under n (operands_in W lay) → n ≤ i → None ≡ last_place (operands_in W lay) lay.operands.n i s
+past_none W lay i s n u l = go (last_place (operands_in W lay) lay.operands.n i s) refl
+  where
+    go : (f : Option ℕ) → last_place (operands_in W lay) lay.operands.n i s ≡ f → None ≡ f
+    go (Some k) e =
+        let at = found_at (operands_in W lay) lay.operands.n i s k e in
+        let ei : (op_at (operands_in W lay) k).inst.0 ≡ i = eqb-true _ _ (both _ _ at.1).0 in
+        let b : (op_at (operands_in W lay) k).inst.0 < n = u.under k (omega (arith, at.0, long W lay.operands.at lay.operands.n)) in
+        absurd (omega arith)
+    go None e = refl
 
 -- what is said is there
 pub said_some : (W K : List ℕ) (lay : Layout) (wl : WorkLayout) (p : Inst) (s : ℕ) (r : Option OperandGroup) (g : OperandGroup) → Said W K lay wl p s r → r ≡ Some g → Says W K lay wl p s g

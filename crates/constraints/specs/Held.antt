@@ -9,17 +9,21 @@ use Rattle.definition.specs.declared.VirtRegGroup.{VirtRegGroup}
 use Rattle.definition.specs.Types.{Job, State}
 use Rattle.definition.specs.Types as types
 use Rattle.definition.specs.Admit.{guard, group_fits, in_group}
-use Rattle.members.specs.Places.{reg_of, group_of, given}
+use Rattle.members.specs.Places.{option_of}
 use Rattle.constraints.specs.declared.Held.{Held}
+use Rattle.constraints.specs.declared.HeldGroup.{HeldGroup}
 
--- what is held, as the definition has it
+-- what group uses hold, as the definition has it
+abbrev pub group_held : HeldGroup → types.HeldGroup
+group_held g = record { index = g.index; mapped = option_of g.mapped; sets = g.sets }
+
+abbrev pub group_of : code.Option HeldGroup → Option types.HeldGroup
+group_of code.None = none
+group_of (code.Some g) = some (group_held g)
+
+-- what is held
 unfoldable pub held_of : Held → types.Held
-unfolding reg_of group_of
-held_of h = record {
-  class = h.class;
-  group = given h.grouped (record { index = h.index; mapped = group_of h.mapped; sets = h.sets });
-  target = reg_of h.target;
-}
+held_of h = record { class = h.class; group = group_of h.group; target = option_of h.target }
 
 -- what is then held, if the use is admitted
 unfoldable pub admission_of : code.Option Held → Option types.Held

@@ -1,4 +1,5 @@
--- The same by the frame and the slices that are lent. Assumes nothing.
+-- What admission needs of the work slice, when the slices stand for a state, and what an operand says, of the frame.
+-- Ready has it of words and layouts. Assumes nothing.
 use Rattle.std.specs.Prelude.{ℕ, List}
 use Rattle.std.specs.Prelude as code
 use Rattle.words.specs.Words.{word_count, words_of}

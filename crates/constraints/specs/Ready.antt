@@ -17,6 +17,7 @@ use Rattle.layout.specs.Layout.{Fits}
 use Rattle.job.specs.Job.{job_of}
 use Rattle.virt_regs.specs.declared.OutLayout.{OutLayout}
 use Rattle.virt_regs.specs.Encoding.{group_word, Holds}
+use Rattle.members.specs.Places.{option_of}
 use Rattle.constraints.specs.declared.Ask.{Ask}
 use Rattle.constraints.specs.declared.Ask.TheVariants.{Any, Class, Group}
 use Rattle.work_layout.specs.declared.WorkLayout.{WorkLayout}
@@ -77,12 +78,12 @@ pub record Stands (ol : OutLayout) (O W K : List ℕ) (lay : Layout) (wl : WorkL
 
 -- operand k
 pub record OperandIs (W K : List ℕ) (lay : Layout) (wl : WorkLayout) (k : ℕ) (r : OperandGroup) : Type 0 where
-  pub mapped : r.mapped ≡ get_or K (wl.mapping + k) 0
+  pub mapped : get_or K (wl.mapping + k) 0 ≡ group_word (option_of r.mapped)
   pub sets : r.sets ≡ sets_of (job_of W lay) (get_or (vgroups_at W lay.vgroups.at lay.vgroups.n) (op_at (operands_in W lay) k).vgroup.0 [])
 
 -- the operand at instruction p and slot s
 pub record Says (W K : List ℕ) (lay : Layout) (wl : WorkLayout) (p : Inst) (s : ℕ) (r : OperandGroup) : Type 0 where
-  pub mapped : (ms : List Mapped) → Mapping K wl.mapping (operands_in W lay) ms → r.mapped ≡ group_word (mapped_at ms p s)
+  pub mapped : (ms : List Mapped) → Mapping K wl.mapping (operands_in W lay) ms → option_of r.mapped ≡ mapped_at ms p s
   pub sets : r.sets ≡ sets_at (job_of W lay) p s
 
 -- it is there

@@ -3,36 +3,44 @@
 
 ghost use Rattle.std.specs.Prelude.{◌≡◌, true, ◌+◌, ◌*◌, ◌≤◌, ◌<◌};
 ghost use Rattle.words.specs.Words.{word_count, words_of};
+ghost use Rattle.layout.specs.JobWords.{words_in};
 ghost use Rattle.definition.specs.Types.{State};
 ghost use Rattle.definition.specs.Admit.{mapping_fits, group_fits, admit_class, admit_group};
 ghost use Rattle.definition.specs.Admit as admission;
+ghost use Rattle.operands.specs.Rows.{last_place};
 ghost use Rattle.job.specs.Job.{job_in};
 ghost use Rattle.virt_regs.specs.Encoding.{tables_end, Holds};
-ghost use Rattle.members.specs.Places.{group_of};
-ghost use Rattle.constraints.specs.Held.{held_of, admission_of, into_group};
+ghost use Rattle.members.specs.Places.{option_of};
+ghost use Rattle.constraints.specs.Held.{group_of, held_of, admission_of, into_group};
 ghost use Rattle.constraints.specs.Asks.{ask_of};
-ghost use Rattle.constraints.specs.Ready.{Backed, HasOperand};
+ghost use Rattle.constraints.specs.Ready.{operands_in, Backed, HasOperand};
 ghost use Rattle.constraints.specs.InFrame.{Ready, Stands, OperandIs, Said};
 
-use definition::{Inst, RegClass, Use, UseKind, ValueSet};
+use definition::{Inst, RegClass, Use, UseKind, ValueSet, VirtReg, VirtRegGroup};
 use frame::Frame;
 use layout::Job;
+use operands::Index;
 
-// What is held: the class; if `grouped`, the index, group and value sets of the group uses before; the register to merge into. `mapped` and `target` are a number + 1, 0 for none.
+// What the group uses before hold: their index, the group that their operands are mapped to, and the value sets of its members.
+#[derive(Clone, Copy)]
+pub struct HeldGroup {
+    pub index: u32,
+    pub mapped: Option<VirtRegGroup>,
+    pub sets: [ValueSet; 8],
+}
+
+// What is held: the class, what group uses hold, if there were some, and the register to merge into.
 #[derive(Clone, Copy)]
 pub struct Held {
     pub class: RegClass,
-    pub grouped: bool,
-    pub index: u32,
-    pub mapped: u32,
-    pub sets: [ValueSet; 8],
-    pub target: u32,
+    pub group: Option<HeldGroup>,
+    pub target: Option<VirtReg>,
 }
 
-// What the operand of a group use says: its group + 1, 0 where it is not mapped, and the value sets of its members.
+// What the operand of a group use says: the group that it is mapped to, and the value sets of its members.
 #[derive(Clone, Copy)]
 pub struct OperandGroup {
-    pub mapped: u32,
+    pub mapped: Option<VirtRegGroup>,
     pub sets: [ValueSet; 8],
 }
 
@@ -84,29 +92,26 @@ pub fn ask_of(kind: UseKind) -> Ask
 fn admit_class(job: &Job, held: Held, c: RegClass) -> Option<Held>
     ensures { admission_of result ≡ admit_class (job_in job.now) (held_of held) c }
 {
-    let lay = &job.lay;
-    let at = lay.classes.at;
-    let count = lay.classes.n;
-    let class = reginfo::common_subclass(job.bytes, at, count, held.class, c)?;
+    let class = reginfo::common_subclass(&job::classes(job), held.class, c)?;
     Some(Held { class, ..held })
 }
 
 // Whether a mapping held before, a, lets b be held.
-fn mapping_fits(a: u32, b: u32) -> bool
-    ensures { result ≡ mapping_fits (group_of a) (group_of b) }
+fn mapping_fits(a: Option<VirtRegGroup>, b: Option<VirtRegGroup>) -> bool
+    ensures { result ≡ mapping_fits (option_of a) (option_of b) }
 {
-    a == 0 || a == b
+    a.is_none() || a == b
 }
 
-// Whether the group uses before let a group use have this index, mapping and value sets.
-fn group_fits(held: Held, index: u32, mapped: u32, sets: [ValueSet; 8]) -> bool
-    ensures { result ≡ group_fits (held_of held).group index (group_of mapped) sets }
+// Whether what the group uses before hold lets a group use have this index, mapping and value sets.
+fn group_fits(before: Option<HeldGroup>, index: u32, g: OperandGroup) -> bool
+    ensures { result ≡ group_fits (group_of before) index (option_of g.mapped) g.sets }
 {
-    if !held.grouped {
+    let Some(held) = before else {
         return true;
-    }
+    };
     let same = held.index == index;
-    same && mapping_fits(held.mapped, mapped) && coalescing::same_sets(held.sets, sets)
+    same && mapping_fits(held.mapped, g.mapped) && coalescing::same_sets(held.sets, g.sets)
 }
 
 // What operand k says.
@@ -122,13 +127,30 @@ fn operand_group(fr: &Frame, work: &[u8], k: usize) -> OperandGroup
     let g = o.vgroup.0 as usize;
     let row = lay.vgroups.at + g * 9;
     let mapping = wl.mapping;
-    let mapped = words::word_at(work, mapping + k);
-    let values = lay.values.at;
-    let count = lay.values.n;
+    let w = words::word_at(work, mapping + k);
     OperandGroup {
-        mapped,
-        sets: coalescing::value_sets(job.bytes, values, count, row),
+        mapped: members::number_in(w).map(VirtRegGroup),
+        sets: coalescing::value_sets(&job::values(job), row),
     }
+}
+
+// The operand at an instruction and slot. At an instruction that the job does not have there is none.
+pub fn find_operand(fr: &Frame, work: &[u8], p: Inst, slot: u32) -> Option<usize>
+    requires { Ready fr.now work.now }
+    ensures { result ≡ last_place (operands_in (words_in fr.now.job) fr.now.job.lay)
+        fr.now.job.lay.operands.n p.0 slot }
+{
+    let job = &fr.job;
+    let chains = work_layout::chains_in(&job.lay, fr.wl);
+    if chains.insts <= p.0 as usize {
+        return None;
+    }
+    let index = Index {
+        job: job.bytes,
+        work,
+        chains,
+    };
+    operands::find_operand(&index, p, slot)
 }
 
 // What the operand at an instruction and slot says. An accepted job has an operand for each of its group uses.
@@ -136,13 +158,7 @@ fn find_group(fr: &Frame, work: &[u8], p: Inst, slot: u32) -> Option<OperandGrou
     requires { Ready fr.now work.now }
     ensures { HasOperand (job_in fr.now.job) p slot → Said fr.now work.now p slot result }
 {
-    let job = &fr.job;
-    let lay = &job.lay;
-    let c = work_layout::chains_in(lay, fr.wl);
-    if c.insts <= p.0 as usize {
-        return None;
-    }
-    let k = operands::find_operand(job.bytes, work, c, p, slot)?;
+    let k = find_operand(fr, work, p, slot)?;
     Some(operand_group(fr, work, k))
 }
 
@@ -156,20 +172,21 @@ fn admit_into(
     g: OperandGroup,
 ) -> Option<Held>
     requires { tables_end fr.now.ol ≤ word_count out.now }
-    ensures { (st : State) → Holds fr.now.ol (words_of out.now) st → admission_of result ≡ into_group (job_in fr.now.job) st (held_of held) k i (group_of g.mapped) g.sets }
+    ensures { (st : State) → Holds fr.now.ol (words_of out.now) st → admission_of result ≡ into_group (job_in fr.now.job) st (held_of held) k i (option_of g.mapped) g.sets }
 {
-    let mapped = g.mapped;
-    let sets = g.sets;
-    if !group_fits(held, i, mapped, sets) {
+    if !group_fits(held.group, i, g) {
         return None;
     }
-    let n = members::in_group(fr, out, held.class, held.target, k, mapped, i)?;
+    let n = members::in_group(fr, out, held.class, held.target, k, g.mapped, i)?;
+    let sets = g.sets;
+    let group = HeldGroup {
+        index: i,
+        mapped: g.mapped,
+        sets,
+    };
     Some(Held {
         class: n.class,
-        grouped: true,
-        index: i,
-        mapped,
-        sets,
+        group: Some(group),
         target: n.target,
     })
 }
@@ -186,12 +203,8 @@ fn admit_group(
     requires { Ready fr.now work.now × (tables_end fr.now.ol ≤ word_count out.now) }
     ensures { (st : State) → Stands fr.now out.now work.now st → HasOperand (job_in fr.now.job) p u.slot → admission_of result ≡ admit_group (job_in fr.now.job) st (held_of held) p u.slot u.class u.index }
 {
-    let job = &fr.job;
-    let lay = &job.lay;
     let g = find_group(fr, work, p, u.slot)?;
-    let at = lay.classes.at;
-    let count = lay.classes.n;
-    let k = reginfo::common_subclass(job.bytes, at, count, held.class, u.class)?;
+    let k = reginfo::common_subclass(&job::classes(&fr.job), held.class, u.class)?;
     admit_into(fr, out, held, k, u.index, g)
 }
 

@@ -1,9 +1,9 @@
 -- A class narrowed place by place. Assumes nothing.
-use mathlib.Core.Path.{◌≡◌, refl, sym, ap, ◌∙◌}
+use mathlib.Core.Path.{◌≡◌, refl, sym, ap, subst, ◌∙◌}
 use mathlib.Core.Bool.{Bool, true, false}
 use mathlib.Core.Option.{Option, none, some, bind}
 use mathlib.Core.List.{List, ◌∷◌}
-use Prim.Native.Nat.{ℕ, suc, ◌+◌, ◌-◌, ◌*◌, ◌≤◌, ◌<◌}
+use Prim.Native.Nat.{ℕ, suc, ◌+◌, ◌*◌, ◌≤◌, ◌<◌}
 use native.Mathlib.Numerals.{add-one}
 use native.Mathlib.Omega.{arith}
 use lib.Dec.{ltb}
@@ -13,19 +13,19 @@ use borrow.Author.Tests.{ltb-true, ltb-false}
 use Rattle.definition.specs.declared.RegClass.{RegClass}
 use Rattle.definition.specs.declared.VirtReg.{VirtReg}
 use Rattle.definition.specs.declared.VirtRegGroup.{VirtRegGroup}
-use Rattle.definition.specs.Types.{Job, State, cls, vreg}
+use Rattle.definition.specs.Types.{Job, State, cls}
 use Rattle.definition.specs.RegInfo.{common_subclass}
 use Rattle.definition.specs.Admit.{register_at, members_at, narrowed}
-use Rattle.std.specs.Prelude.{Some, None}
+use Rattle.std.specs.Prelude.{Some, None, IfSome}
 use Rattle.std.specs.Prelude as code
 use Rattle.reginfo.specs.Rows.{found_of, classes_at}
 use Rattle.layout.specs.declared.Layout.{Layout}
 use Rattle.job.specs.Job.{job_by, job_of}
 use Rattle.virt_regs.specs.declared.OutLayout.{OutLayout}
-use Rattle.virt_regs.specs.Encoding.{place_word, Holds}
+use Rattle.virt_regs.specs.Encoding.{Holds}
 use Rattle.virt_regs.specs.Reads.{class_held}
-use Rattle.members.specs.Places.{reg_of, narrowed_at}
-use Rattle.members.proofs.Places.{reg_of_lem, reg_none, reg_some, width, member_word}
+use Rattle.members.specs.Places.{option_of, narrowed_at}
+use Rattle.members.proofs.Places.{width, member_known}
 
 -- the classes of a job are its table's
 pub job_classes : (W : List ℕ) (lay : Layout) → (job_of W lay).classes ≡ classes_at W lay.classes.at lay.classes.n
@@ -59,14 +59,16 @@ pub shared_is : (ol : OutLayout) (O : List ℕ) (st : State) → Holds ol O st �
 shared_is ol O st h job v k c r l e q =
     q ∙ ap (λ (x : RegClass). found_of (common_subclass job k x)) (e ∙ ap cls (class_held ol O st h v l))
 
-pub narrow_none : (job : Job) (st : State) (w : ℕ) (k : RegClass) → w ≡ 0 → Some k ≡ found_of (narrowed_at job st (reg_of w) k)
+pub narrow_none : (job : Job) (st : State) (m : code.Option VirtReg) (k : RegClass) → m ≡ None → Some k ≡ found_of (narrowed_at job st (option_of m) k)
 unfolding narrowed_at
-narrow_none job st w k e = sym (ap (λ (o : Option VirtReg). found_of (narrowed_at job st o k)) (reg_none w e))
+narrow_none job st m k e = sym (ap (λ (o : code.Option VirtReg). found_of (narrowed_at job st (option_of o) k)) e)
 
-pub narrow_some : (job : Job) (st : State) (w : ℕ) (k : RegClass) (r : code.Option RegClass) → (w ≡ 0 → ⊥) → w ≤ length st.registers
-    → ((vreg (w - 1)).0 < length st.registers → r ≡ found_of (common_subclass job k (register_at st (vreg (w - 1))).class)) → r ≡ found_of (narrowed_at job st (reg_of w) k)
+pub narrow_some : (job : Job) (st : State) (m : code.Option VirtReg) (v : VirtReg) (k : RegClass) (r : code.Option RegClass) → m ≡ Some v → IfSome m (λ x. x.0 < length st.registers)
+    → (v.0 < length st.registers → r ≡ found_of (common_subclass job k (register_at st v).class)) → r ≡ found_of (narrowed_at job st (option_of m) k)
 unfolding narrowed_at
-narrow_some job st w k r ne l f = f (omega arith) ∙ sym (ap (λ (o : Option VirtReg). found_of (narrowed_at job st o k)) (reg_some w ne))
+narrow_some job st m v k r e l f =
+    f (subst (λ (o : code.Option VirtReg). IfSome o (λ x. x.0 < length st.registers)) e l)
+    ∙ sym (ap (λ (o : code.Option VirtReg). found_of (narrowed_at job st (option_of o) k)) e)
 
 -- ---- all places
 
@@ -97,22 +99,22 @@ pub record Narrowing (ol : OutLayout) (O : List ℕ) (job : Job) (g : VirtRegGro
 pub narrow_start : (ol : OutLayout) (O : List ℕ) (job : Job) (g : VirtRegGroup) (k : RegClass) → Narrowing ol O job g k 0 k
 narrow_start ol O job g k = record { is = λ st h. refl }
 
-module _ {ol : OutLayout} {O : List ℕ} {job : Job} {g : VirtRegGroup} {k : RegClass} {i : ℕ} {n : RegClass} (f : Narrowing ol O job g k i n) (w : ℕ) (r : code.Option RegClass)
-    (word : (st : State) → Holds ol O st → w ≡ place_word (get_or (members_at st g) i none))
-    (at : (st : State) → Holds ol O st → w ≤ length st.registers → r ≡ found_of (narrowed_at job st (reg_of w) n)) where
+module _ {ol : OutLayout} {O : List ℕ} {job : Job} {g : VirtRegGroup} {k : RegClass} {i : ℕ} {n : RegClass} (f : Narrowing ol O job g k i n) (m : code.Option VirtReg) (r : code.Option RegClass)
+    (member : (st : State) → Holds ol O st → option_of m ≡ get_or (members_at st g) i none)
+    (at : (st : State) → Holds ol O st → IfSome m (λ v. v.0 < length st.registers) → r ≡ found_of (narrowed_at job st (option_of m) n)) where
   here : (st : State) → Holds ol O st → r ≡ found_of (narrowed_at job st (get_or (members_at st g) i none) n)
   here st h =
-      at st h (member_word ol O st h g i w (word st h))
-      ∙ ap (λ (o : Option VirtReg). found_of (narrowed_at job st o n)) (reg_of_lem w _ (word st h))
+      at st h (member_known ol O st h g i m (member st h))
+      ∙ ap (λ (o : Option VirtReg). found_of (narrowed_at job st o n)) (member st h)
 
-  pub narrow_next : (m : RegClass) → r ≡ Some m → Narrowing ol O job g k (i + 1) m
-  narrow_next m e =
+  pub narrow_next : (c : RegClass) → r ≡ Some c → Narrowing ol O job g k (i + 1) c
+  narrow_next c e =
       record {
         is =
             λ st h.
             f.is st h
             ∙ narrow_step job st (members_at st g) i n
-            ∙ bind_some (λ x. narrowed job st (drop (i + 1) (members_at st g)) x) (found_some r _ m (here st h) e);
+            ∙ bind_some (λ x. narrowed job st (drop (i + 1) (members_at st g)) x) (found_some r _ c (here st h) e);
       }
 
   pub narrow_stop : r ≡ None → (st : State) → Holds ol O st → None ≡ found_of (narrowed job st (members_at st g) k)

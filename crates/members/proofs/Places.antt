@@ -3,7 +3,7 @@ use mathlib.Core.Path.{◌≡◌, refl, sym, ap, ◌∙◌}
 use mathlib.Core.Bool.{Bool, true, false}
 use mathlib.Core.Option.{Option, none, some}
 use mathlib.Core.List.{List, []}
-use Prim.Native.Nat.{ℕ, zero, suc, ◌+◌, ◌-◌, ◌*◌, ◌≤◌, ◌<◌}
+use Prim.Native.Nat.{ℕ, ◌+◌, ◌-◌, ◌*◌, ◌≤◌, ◌<◌}
 use native.Mathlib.Omega.{arith}
 use lib.Dec.{ltb}
 use lib.ListN.{length, get_or, replicate, get_or-eq_default, get_or-replicate}
@@ -18,42 +18,42 @@ use Rattle.virt_regs.specs.Part.{part_get}
 use Rattle.virt_regs.specs.Encoding.{group_base, tables_end, group_word, place_word, group_rows, Holds}
 use Rattle.virt_regs.specs.Counting.{length_groups}
 use Rattle.virt_regs.specs.Reads.{member_held, size_le, member_lt}
-use Rattle.members.specs.Places.{reg_of, group_of}
+use Rattle.std.specs.Prelude.{Some, None, IfSome, IsSomeAnd, MatchOption}
+use Rattle.std.specs.Prelude as code
+use Rattle.std.specs.Option.{option_map}
+use Rattle.members.specs.Places.{number_word, option_of}
 
--- a word and what it stands for
-pub reg_of_lem : (w : ℕ) (o : Option VirtReg) → w ≡ place_word o → reg_of w ≡ o
-unfolding reg_of
-reg_of_lem w o e = ap reg_of e ∙ back o
+-- ---- what a word stands for
+
+-- what `map` with f makes of n
+pub mapped_is : {A : Type 0} {P : ℕ → A → Type 0} (f : ℕ → A) (n : code.Option ℕ) (r : code.Option A) → MatchOption n (r ≡ None) (λ x. IsSomeAnd r (P x)) → ((x : ℕ) (y : A) → P x y → y ≡ f x) → r ≡ option_map f n
+mapped_is f None r e g = e
+mapped_is f (Some x) None e g = absurd e
+mapped_is f (Some x) (Some y) e g = ap Some (g x y e)
+
+-- the number n in a word w, where there is one
+pub reg_read : (w : ℕ) (n : code.Option ℕ) (r : code.Option VirtReg) (o : Option VirtReg) → w ≡ number_word n → r ≡ option_map vreg n → w ≡ place_word o → option_of r ≡ o
+reg_read w n r o ew er eo = ap option_of er ∙ go n o (sym ew ∙ eo)
   where
-    back : (p : Option VirtReg) → reg_of (place_word p) ≡ p
-    back none = refl
-    back (some v) = let s : v.0 + 1 ≡ suc v.0 = omega arith in ap reg_of s
+    go : (n : code.Option ℕ) (o : Option VirtReg) → number_word n ≡ place_word o → option_of (option_map vreg n) ≡ o
+    go None none e = refl
+    go (Some n) none e = absurd (omega arith)
+    go None (some v) e = absurd (omega arith)
+    go (Some n) (some v) e = let q : n ≡ v.0 = omega arith in ap (λ (x : ℕ). some (vreg x)) q
 
-pub group_of_lem : (w : ℕ) (o : Option VirtRegGroup) → w ≡ group_word o → group_of w ≡ o
-unfolding group_of
-group_of_lem w o e = ap group_of e ∙ back o
+-- the word of a group that is read, and no two have one word
+pub group_read : (w : ℕ) (n : code.Option ℕ) (r : code.Option VirtRegGroup) → w ≡ number_word n → r ≡ option_map vrgroup n → w ≡ group_word (option_of r)
+group_read w n r ew er = ew ∙ go n ∙ sym (ap (λ (x : code.Option VirtRegGroup). group_word (option_of x)) er)
   where
-    back : (p : Option VirtRegGroup) → group_of (group_word p) ≡ p
-    back none = refl
-    back (some g) = let s : g.0 + 1 ≡ suc g.0 = omega arith in ap group_of s
+    go : (n : code.Option ℕ) → number_word n ≡ group_word (option_of (option_map vrgroup n))
+    go None = refl
+    go (Some n) = refl
 
-pub reg_none : (w : ℕ) → w ≡ 0 → reg_of w ≡ none
-unfolding reg_of
-reg_none w e = ap reg_of e
-
-pub reg_some : (w : ℕ) → (w ≡ 0 → ⊥) → reg_of w ≡ some (vreg (w - 1))
-unfolding reg_of
-reg_some zero h = absurd (h refl)
-reg_some (suc n) h = let e : n ≡ suc n - 1 = omega arith in ap (λ (k : ℕ). some (vreg k)) e
-
-pub group_none : (w : ℕ) → w ≡ 0 → group_of w ≡ none
-unfolding group_of
-group_none w e = ap group_of e
-
-pub group_some : (w : ℕ) → (w ≡ 0 → ⊥) → group_of w ≡ some (vrgroup (w - 1))
-unfolding group_of
-group_some zero h = absurd (h refl)
-group_some (suc n) h = let e : n ≡ suc n - 1 = omega arith in ap (λ (k : ℕ). some (vrgroup k)) e
+pub group_same : (a b : Option VirtRegGroup) → group_word a ≡ group_word b → a ≡ b
+group_same none none e = refl
+group_same (some g) none e = absurd (omega arith)
+group_same none (some g) e = absurd (omega arith)
+group_same (some g) (some f) e = let q : g.0 ≡ f.0 = omega arith in ap (λ (x : ℕ). some (vrgroup x)) q
 
 module _ (ol : OutLayout) (O : List ℕ) (st : State) (h : Holds ol O st) (g : VirtRegGroup) where
   -- a group past the last has no members
@@ -100,20 +100,17 @@ module _ (ol : OutLayout) (O : List ℕ) (st : State) (h : Holds ol O st) (g : V
           zero_word (g.0 * 9 + (i + 1)) (omega arith) (omega arith)
           ∙ sym (ap (λ (ms : List (Option VirtReg)). place_word (get_or ms i none)) (no_members p))
 
-  pub no_place : (i : ℕ) → 8 ≤ i → 0 ≡ place_word (get_or (members_at st g) i none)
+  pub no_place : (i : ℕ) → 8 ≤ i → none ≡ get_or (members_at st g) i none
   no_place i l =
       let p : length (members_at st g) ≤ i = omega (arith, width) in
-      sym (ap place_word (get_or-eq_default (members_at st g) none p))
+      sym (get_or-eq_default (members_at st g) none p)
 
-  pub no_group : (i : ℕ) → ol.groups ≤ g.0 → 0 ≡ place_word (get_or (members_at st g) i none)
+  pub no_group : (i : ℕ) → ol.groups ≤ g.0 → none ≡ get_or (members_at st g) i none
   no_group i l =
       let p : length st.groups ≤ g.0 = omega (arith, h.fit_groups) in
-      sym (ap (λ (ms : List (Option VirtReg)). place_word (get_or ms i none)) (no_members p))
+      sym (ap (λ (ms : List (Option VirtReg)). get_or ms i none) (no_members p))
 
-  -- a member's word is at most the number of registers
-  pub member_word : (i w : ℕ) → w ≡ place_word (get_or (members_at st g) i none) → w ≤ length st.registers
-  member_word i w e = go (get_or (members_at st g) i none) refl e
-    where
-      go : (o : Option VirtReg) → get_or (members_at st g) i none ≡ o → w ≡ place_word o → w ≤ length st.registers
-      go none q r = omega arith
-      go (some v) q r = omega (arith, member_in i v q)
+  -- a member is one of the registers
+  pub member_known : (i : ℕ) (o : code.Option VirtReg) → option_of o ≡ get_or (members_at st g) i none → IfSome o (λ v. v.0 < length st.registers)
+  member_known i None e = tt
+  member_known i (Some v) e = member_in i v (sym e)

@@ -1,7 +1,7 @@
 // builder.rs: the members of a register group, a class narrowed by theirs, and the register at a place of a mapped group.
 #![tactic(auto)]
 
-ghost use Rattle.std.specs.Prelude.{◌≡◌, ◌≤◌, ◌<◌, length, get_or};
+ghost use Rattle.std.specs.Prelude.{◌≡◌, ◌≤◌, ◌<◌, length, get_or, IfSome};
 ghost use Rattle.std.proofs.Math.Option.{none};
 ghost use Rattle.words.specs.Words.{word_count, words_of};
 ghost use Rattle.definition.specs.Types.{State};
@@ -10,33 +10,41 @@ ghost use Rattle.definition.specs.RegInfo.{common_subclass};
 ghost use Rattle.definition.specs.Admit.{register_at, members_at, narrowed, at_place, in_group};
 ghost use Rattle.job.specs.Job.{job_in};
 ghost use Rattle.reginfo.specs.Rows.{found_of};
-ghost use Rattle.virt_regs.specs.Encoding.{tables_end, place_word, Holds};
-ghost use Rattle.members.specs.Places.{reg_of, group_of, narrowed_at, joined_of};
+ghost use Rattle.virt_regs.specs.Encoding.{tables_end, Holds};
+ghost use Rattle.members.specs.Places.{number_word, option_of, narrowed_at, joined_of};
 
 use definition::{RegClass, VirtReg, VirtRegGroup};
 use frame::Frame;
 use virt_regs::OutLayout;
 
-// What a group use is to hold: the class, and the register to merge into + 1 (0: none).
+// What a group use is to hold: the class, and the register to merge into.
 #[derive(Clone, Copy)]
 pub struct Joined {
     pub class: RegClass,
-    pub target: u32,
+    pub target: Option<VirtReg>,
 }
 
-// The register at place i of group g, + 1; 0 where the place is empty or there is none.
-pub fn place_word(out: &[u8], ol: OutLayout, g: VirtRegGroup, i: usize) -> u32
+// The number that a word of a table stands for: it is number + 1, or 0 for none.
+pub fn number_in(w: u32) -> Option<u32>
+    ensures { w ≡ number_word result }
+{
+    w.checked_sub(1)
+}
+
+// The register at place i of group g; none where the place is empty or there is no such place.
+pub fn member_at(out: &[u8], ol: OutLayout, g: VirtRegGroup, i: usize) -> Option<VirtReg>
     requires { tables_end ol ≤ word_count out.now }
-    ensures { (st : State) → Holds ol (words_of out.now) st → result ≡ place_word (get_or (members_at st g) i none) }
+    ensures { (st : State) → Holds ol (words_of out.now) st → option_of result ≡ get_or (members_at st g) i none }
 {
     let k = g.0 as usize;
     if ol.groups <= k {
-        return 0;
+        return None;
     }
     if 8 <= i {
-        return 0;
+        return None;
     }
-    virt_regs::member_at(out, ol, g, i)
+    let w = virt_regs::member_at(out, ol, g, i);
+    number_in(w).map(VirtReg)
 }
 
 // The common subclass of class k and register v's.
@@ -44,28 +52,24 @@ pub fn shared_class(fr: &Frame, out: &[u8], k: RegClass, v: VirtReg) -> Option<R
     requires { tables_end fr.now.ol ≤ word_count out.now }
     ensures { (st : State) → Holds fr.now.ol (words_of out.now) st → v.0 < length st.registers → result ≡ found_of (common_subclass (job_in fr.now.job) k (register_at st v).class) }
 {
-    let job = &fr.job;
     let ol = &fr.ol;
-    let lay = &job.lay;
     let n = v.0 as usize;
     if ol.regs <= n {
         return None;
     }
     let c = virt_regs::class_of(out, v);
-    let at = lay.classes.at;
-    let count = lay.classes.n;
-    reginfo::common_subclass(job.bytes, at, count, k, c)
+    reginfo::common_subclass(&job::classes(&fr.job), k, c)
 }
 
-// Class k narrowed by the member whose number + 1 is w, if w is not 0.
-fn narrow(fr: &Frame, out: &[u8], k: RegClass, w: u32) -> Option<RegClass>
+// Class k narrowed by the member m, if there is one.
+fn narrow(fr: &Frame, out: &[u8], k: RegClass, m: Option<VirtReg>) -> Option<RegClass>
     requires { tables_end fr.now.ol ≤ word_count out.now }
-    ensures { (st : State) → Holds fr.now.ol (words_of out.now) st → w ≤ length st.registers → result ≡ found_of (narrowed_at (job_in fr.now.job) st (reg_of w) k) }
+    ensures { (st : State) → Holds fr.now.ol (words_of out.now) st → IfSome m (λ v. v.0 < length st.registers) → result ≡ found_of (narrowed_at (job_in fr.now.job) st (option_of m) k) }
 {
-    if w == 0 {
-        return Some(k);
+    match m {
+        None => Some(k),
+        Some(v) => shared_class(fr, out, k, v),
     }
-    shared_class(fr, out, k, VirtReg(w - 1))
 }
 
 // Class k narrowed by the class of each member of group g in turn.
@@ -75,8 +79,8 @@ pub fn narrowed_by(fr: &Frame, out: &[u8], g: VirtRegGroup, k: RegClass) -> Opti
 {
     let mut class = k;
     for i in 0..8 {
-        let w = place_word(out, fr.ol, g, i);
-        class = narrow(fr, out, class, w)?;
+        let m = member_at(out, fr.ol, g, i);
+        class = narrow(fr, out, class, m)?;
     }
     Some(class)
 }
@@ -87,38 +91,38 @@ pub fn at_place(
     fr: &Frame,
     out: &[u8],
     class: RegClass,
-    target: u32,
+    target: Option<VirtReg>,
     k: RegClass,
     g: VirtRegGroup,
     i: u32,
 ) -> Option<Joined>
     requires { tables_end fr.now.ol ≤ word_count out.now }
-    ensures { (st : State) (h : types.Held) → Holds fr.now.ol (words_of out.now) st → h.class ≡ class → h.target ≡ reg_of target → joined_of result ≡ at_place (job_in fr.now.job) st h k (members_at st g) (get_or (members_at st g) i none) }
+    ensures { (st : State) (h : types.Held) → Holds fr.now.ol (words_of out.now) st → h.class ≡ class → h.target ≡ option_of target → joined_of result ≡ at_place (job_in fr.now.job) st h k (members_at st g) (get_or (members_at st g) i none) }
 {
-    let w = place_word(out, fr.ol, g, i as usize);
-    if w == 0 {
+    let Some(v) = member_at(out, fr.ol, g, i as usize) else {
         let class = narrowed_by(fr, out, g, k)?;
         return Some(Joined { class, target });
-    }
-    let class = shared_class(fr, out, class, VirtReg(w - 1))?;
-    Some(Joined { class, target: w })
+    };
+    let class = shared_class(fr, out, class, v)?;
+    let target = Some(v);
+    Some(Joined { class, target })
 }
 
-// The same with the group's number + 1 as m; where m is 0 the operand is not mapped and the candidate stays.
+// The same with the group m that the operand is mapped to; where it is mapped to none the candidate stays.
 pub fn in_group(
     fr: &Frame,
     out: &[u8],
     class: RegClass,
-    target: u32,
+    target: Option<VirtReg>,
     k: RegClass,
-    m: u32,
+    m: Option<VirtRegGroup>,
     i: u32,
 ) -> Option<Joined>
     requires { tables_end fr.now.ol ≤ word_count out.now }
-    ensures { (st : State) (h : types.Held) → Holds fr.now.ol (words_of out.now) st → h.class ≡ class → h.target ≡ reg_of target → joined_of result ≡ in_group (job_in fr.now.job) st h k i (group_of m) }
+    ensures { (st : State) (h : types.Held) → Holds fr.now.ol (words_of out.now) st → h.class ≡ class → h.target ≡ option_of target → joined_of result ≡ in_group (job_in fr.now.job) st h k i (option_of m) }
 {
-    if m == 0 {
-        return Some(Joined { class: k, target });
+    match m {
+        None => Some(Joined { class: k, target }),
+        Some(g) => at_place(fr, out, class, target, k, g, i),
     }
-    at_place(fr, out, class, target, k, VirtRegGroup(m - 1), i)
 }

@@ -5,10 +5,10 @@ use mathlib.Core.Option.{Option, none, some}
 use mathlib.Core.List.{List, [], ◌∷◌, ◌++◌}
 use Prim.Native.Nat.{ℕ, ◌+◌, ◌<◌}
 use native.Mathlib.Omega.{arith}
-use lib.Dec.{eqb, ltb}
+use lib.Dec.{eqb}
 use lib.ListN.{length, get_or, set, length-set}
 use lib.Seq.{get_or-set_same, get_or-set_other}
-use borrow.Author.Tests.{eqb-true, eqb-false, eq-eqb, ltb-true, ltb-false}
+use borrow.Author.Tests.{eqb-true, eqb-false, eq-eqb}
 use Rattle.definition.specs.declared.Inst.{Inst}
 use Rattle.definition.specs.declared.Use.{Use}
 use Rattle.definition.specs.declared.UseKind.{UseKind}
@@ -20,26 +20,20 @@ use Rattle.definition.specs.Uses.{slot_of}
 use Rattle.definition.specs.Admit.{mapped_at}
 use Rattle.definition.specs.Place.{if_unmapped, map_one}
 use Rattle.definition.specs.Entry.{apart, same_place}
+use Rattle.definition.proofs.Entries.{and_both as both}
 use Rattle.std.specs.Prelude.{Some, None}
 use Rattle.std.specs.Prelude as code
 use Rattle.operands.specs.Rows.{op_at, is_at, last_place}
-use Rattle.operands.specs.Chains.{Under}
 use Rattle.operands.proofs.Rows.{long}
 use Rattle.operands.proofs.Only.{found_at, found_only}
 use Rattle.operands.proofs.Twice.{never}
 use Rattle.layout.specs.declared.Layout.{Layout}
-use Rattle.job.specs.Job.{job_of}
 use Rattle.virt_regs.specs.Encoding.{group_word}
 use Rattle.work_layout.specs.declared.WorkLayout.{WorkLayout}
 use Rattle.constraints.specs.Ready.{operands_in, Mapping, HasOperand, BackedAsk, Backed}
 use Rattle.constraints.specs.Asks.{ask_of}
-use Rattle.constraints.proofs.Operand.{said_past}
 use Rattle.part_maps.specs.Maps.{slot_given, Outside, MapsTo, PutAt, Maps, map_use}
 use Rattle.part_maps.proofs.Kept.{outside_none}
-
-both : (p q : Bool) → p && q ≡ true → (p ≡ true) × (q ≡ true)
-both true q e = (refl, e)
-both false q e = never (sym e)
 
 -- ---- the mapping with one more
 
@@ -142,14 +136,6 @@ module _ (W K : List ℕ) (lay : Layout) (wl : WorkLayout) (p : Inst) (s : ℕ) 
         outside = outside_set;
         answers = λ ms m. let z : mapped_at ms p s ≡ none = word_none (mapped_at ms p s) (sym (word_at ms m) ∙ q.0) in rw z (refl, mapping_more ms l m z);
       })
-
--- the instruction of an operand is in the index
-pub place_under : (W : List ℕ) (lay : Layout) (p : Inst) (s n : ℕ) → Under n (operands_in W lay) → HasOperand (job_of W lay) p s → p.0 < n
-place_under W lay p s n u h = go (ltb p.0 n) refl
-  where
-    go : (b : Bool) → ltb p.0 n ≡ b → p.0 < n
-    go true e = ltb-true p.0 n e
-    go false e = absurd (said_past W lay p s n u (ltb-false p.0 n e) h)
 
 -- ---- one word
 

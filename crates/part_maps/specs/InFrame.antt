@@ -1,4 +1,4 @@
--- The same by the frame and the slices that are lent. Assumes nothing.
+-- That the mapping stands apart from the operands' index, of the frame. Maps has it of layouts. Assumes nothing.
 use Rattle.std.specs.Prelude.{}
 use Rattle.frame.specs.declared.lent.Frame.{Frame}
 use Rattle.part_maps.specs.Maps as maps

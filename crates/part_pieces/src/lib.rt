@@ -32,6 +32,7 @@ pub fn flags_number(f: UseFlags) -> u32
 }
 
 // The row of an own piece whose first use is use u.
+#[tactic(auto, unfolding(crate::specs::Rows::row_of))]
 fn piece_row(s: PartSeg, u: usize) -> PieceRow
     requires { (s.first ≤ s.end) × (s.end - s.first < 4294967296) × (u < 4294967296) }
     ensures { result ≡ row_of s u }
@@ -48,6 +49,7 @@ fn piece_row(s: PartSeg, u: usize) -> PieceRow
 }
 
 // Uses a to b - 1 of the job, from use row u on.
+// Not one with conflict_piece::write_turned: a closure for the reader of uses would carry its contract.
 fn write_uses(fr: &Frame, work: &[u8], a: usize, b: usize, out: &mut [u8], u: usize)
     requires { (b ≤ fr.now.job.lay.uses.n) × (fr.now.wl.marks + fr.now.job.lay.uses.n ≤ word_count work.now) × (tables_end fr.now.ol ≤ word_count out.old) × (a ≤ b) × (u + (b - a) ≤ fr.now.ol.uses) }
     ensures { (p : ℕ) → Written fr.now.ol (words_of out.old) p u [] (tab (marked_use fr.now work.now) a (b - a)) (words_of out.new) }

@@ -15,6 +15,7 @@ use Rattle.virt_regs.specs.Each.{Each}
 use Rattle.virt_regs.specs.Encoding.{hint_word, counts_of, Typed, Holds}
 use Rattle.vreg_put.specs.Written.{Written}
 use Rattle.vreg_weight.specs.Weighed.{Inside}
+use Rattle.place.specs.declared.Rows.{Rows}
 
 -- the tables have room for a register of np pieces with nu uses
 pub record Space (ol : OutLayout) (c : Counts) (np nu : ℕ) : Type 0 where
@@ -28,6 +29,12 @@ pub record Weighed (J : Job) (ps : List Piece) : Type 0 where
   pub inside : Inside J (uses_of (segs_of ps))
   pub least : 1 ≤ live_insts (segs_of ps)
   pub most : live_insts (segs_of ps) ≤ 4096
+
+-- these are the rows of the pieces ps
+pub record RowsOf (ps : List Piece) (r : Rows) : Type 0 where
+  pub pieces : length ps ≡ r.pieces
+  pub uses : uses_of_pieces ps ≡ r.uses
+  pub hinted : r.hint ≡ hint_in ps
 
 -- The words O held the state st, with the counts c; then the pieces ps and their uses were written behind the rows in use, which made them O'.
 pub record Ready (J : Job) (ol : OutLayout) (O : List ℕ) (c : Counts) (np nu : ℕ) (hint : Bool) (st : State) (ps : List Piece) (O' : List ℕ) : Type 0 where

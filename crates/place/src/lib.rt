@@ -21,7 +21,15 @@ use virt_regs::{Counts, RegisterRow, pieces_of};
 use vreg_change::{add_group, set_member, spread};
 use vreg_weight::{least_weight, weight_of_pieces};
 
-// The row of a register behind those held. Its np pieces with nu uses stand behind the pieces and uses held.
+// What stands in the tables for a register: so many pieces, so many uses in all, and whether one has a fixed hint.
+#[derive(Clone, Copy)]
+pub struct Rows {
+    pub pieces: usize,
+    pub uses: usize,
+    pub hint: bool,
+}
+
+// The row of a register behind those held. Its rows stand behind the pieces and uses held.
 // The weight is a word and no `WeightBits`, since the row takes any word.
 pub fn add_register(
     out: &mut [u8],
@@ -31,12 +39,10 @@ pub fn add_register(
     weight: u32,
     group: u32,
     index: u32,
-    np: usize,
-    nu: usize,
-    hint: bool,
+    new: Rows,
 ) -> Counts
-    requires { (c.regs * 8 + 8 ≤ word_count out.old) × (c.segs + np < 2 ^ 32) × (c.uses + nu < 2 ^ 32) }
-    ensures { (result ≡ one_more c np nu) × (words_of out.new ≡ splice (words_of out.old) (c.regs * 8) (register_words (row_of c set class weight group index np hint))) }
+    requires { (c.regs * 8 + 8 ≤ word_count out.old) × (c.segs + new.pieces < 2 ^ 32) × (c.uses + new.uses < 2 ^ 32) }
+    ensures { (result ≡ one_more c new.pieces new.uses) × (words_of out.new ≡ splice (words_of out.old) (c.regs * 8) (register_words (row_of c set class weight group index new.pieces new.hint))) }
 {
     let row = RegisterRow {
         set,
@@ -44,15 +50,15 @@ pub fn add_register(
         weight,
         group,
         index,
-        hint: u32::from(hint),
+        hint: u32::from(new.hint),
         first: c.segs as u32,
-        count: np as u32,
+        count: new.pieces as u32,
     };
     vreg_put::put_register(out, c.regs, row);
     Counts {
         regs: c.regs + 1,
-        segs: c.segs + np,
-        uses: c.uses + nu,
+        segs: c.segs + new.pieces,
+        uses: c.uses + new.uses,
         ..c
     }
 }
@@ -65,16 +71,14 @@ pub fn finish_alone(
     c: Counts,
     set: ValueSet,
     class: RegClass,
-    np: usize,
-    nu: usize,
-    hint: bool,
+    new: Rows,
 ) -> Counts
-    requires { Weighable fr.now work.now × (tables_end fr.now.ol ≤ word_count out.old) × Space fr.now.ol c np nu }
-    ensures { (result ≡ one_more c np nu) × ((O : List ℕ) (st : State) (ps : List Piece) (h : Held) → Ready (job_in fr.now.job) fr.now.ol O c np nu hint st ps (words_of out.old) → h.class ≡ class
+    requires { Weighable fr.now work.now × (tables_end fr.now.ol ≤ word_count out.old) × Space fr.now.ol c new.pieces new.uses }
+    ensures { (result ≡ one_more c new.pieces new.uses) × ((O : List ℕ) (st : State) (ps : List Piece) (h : Held) → Ready (job_in fr.now.job) fr.now.ol O c new.pieces new.uses new.hint st ps (words_of out.old) → h.class ≡ class
         → Left fr.now.ol (words_of out.new) result (alone_state (job_in fr.now.job) set h ps st)) }
 {
-    let w = weight_of_pieces(fr, out, work, c.segs, np, class);
-    add_register(out, c, set, class, w.value, 0, 0, np, nu, hint)
+    let w = weight_of_pieces(fr, out, work, c.segs, new.pieces, class);
+    add_register(out, c, set, class, w.value, 0, 0, new)
 }
 
 // A register that leads a new group, at place `index` of as many as its class says.
@@ -86,20 +90,18 @@ pub fn finish_lead(
     set: ValueSet,
     class: RegClass,
     index: u32,
-    np: usize,
-    nu: usize,
-    hint: bool,
+    new: Rows,
 ) -> Counts
-    requires { Weighable fr.now work.now × (tables_end fr.now.ol ≤ word_count out.old) × Space fr.now.ol c np nu × (c.groups < fr.now.ol.groups) × (c.groups + 1 < 2 ^ 32) × (index < 8) }
-    ensures { (result ≡ group_more (one_more c np nu)) × ((O : List ℕ) (st : State) (ps : List Piece) (h : Held) (hg : HeldGroup) (ms : List Mapped) → Ready (job_in fr.now.job) fr.now.ol O c np nu hint st ps (words_of out.old) → h.class ≡ class
+    requires { Weighable fr.now work.now × (tables_end fr.now.ol ≤ word_count out.old) × Space fr.now.ol c new.pieces new.uses × (c.groups < fr.now.ol.groups) × (c.groups + 1 < 2 ^ 32) × (index < 8) }
+    ensures { (result ≡ group_more (one_more c new.pieces new.uses)) × ((O : List ℕ) (st : State) (ps : List Piece) (h : Held) (hg : HeldGroup) (ms : List Mapped) → Ready (job_in fr.now.job) fr.now.ol O c new.pieces new.uses new.hint st ps (words_of out.old) → h.class ≡ class
         → hg.index ≡ index → index < (class_at (job_in fr.now.job) class).size → (class_at (job_in fr.now.job) class).size ≤ 8
         → Left fr.now.ol (words_of out.new) result (lead_state (job_in fr.now.job) set h hg ps st ms)) }
 {
     let job = &fr.job;
-    let w = weight_of_pieces(fr, out, work, c.segs, np, class);
+    let w = weight_of_pieces(fr, out, work, c.segs, new.pieces, class);
     let g = c.groups as u32;
     let v = c.regs as u32;
-    let n = add_register(out, c, set, class, w.value, g + 1, index, np, nu, hint);
+    let n = add_register(out, c, set, class, w.value, g + 1, index, new);
     let data = class_data(job, class);
     add_group(
         out,
@@ -125,19 +127,17 @@ pub fn finish_join(
     class: RegClass,
     g: VirtRegGroup,
     index: u32,
-    np: usize,
-    nu: usize,
-    hint: bool,
+    new: Rows,
 ) -> Counts
-    requires { Weighable fr.now work.now × (tables_end fr.now.ol ≤ word_count out.old) × Space fr.now.ol c np nu × Spreadable fr.now.ol g (words_of out.old) × (g.0 + 1 < 2 ^ 32) × (index < 8) }
-    ensures { (result ≡ one_more c np nu) × ((O : List ℕ) (st : State) (ps : List Piece) (h : Held) (hg : HeldGroup) → Ready (job_in fr.now.job) fr.now.ol O c np nu hint st ps (words_of out.old) → h.class ≡ class
+    requires { Weighable fr.now work.now × (tables_end fr.now.ol ≤ word_count out.old) × Space fr.now.ol c new.pieces new.uses × Spreadable fr.now.ol g (words_of out.old) × (g.0 + 1 < 2 ^ 32) × (index < 8) }
+    ensures { (result ≡ one_more c new.pieces new.uses) × ((O : List ℕ) (st : State) (ps : List Piece) (h : Held) (hg : HeldGroup) → Ready (job_in fr.now.job) fr.now.ol O c new.pieces new.uses new.hint st ps (words_of out.old) → h.class ≡ class
         → hg.index ≡ index → g.0 < length st.groups → index < length (members_at st g)
         → Left fr.now.ol (words_of out.new) result (join_state (job_in fr.now.job) set h hg g ps st)) }
 {
-    let w = weight_of_pieces(fr, out, work, c.segs, np, class);
+    let w = weight_of_pieces(fr, out, work, c.segs, new.pieces, class);
     let least = least_weight(out, fr.ol, g, index as usize, w).value;
     let v = c.regs as u32;
-    let n = add_register(out, c, set, class, least, g.0 + 1, index, np, nu, hint);
+    let n = add_register(out, c, set, class, least, g.0 + 1, index, new);
     spread(out, fr.ol, g, class, least);
     set_member(out, fr.ol, g, index as usize, VirtReg(v));
     n
@@ -153,22 +153,21 @@ pub fn finish_merge(
     g: VirtRegGroup,
     v: VirtReg,
     index: u32,
-    np: usize,
-    nu: usize,
+    new: Rows,
 ) -> Counts
-    requires weighable { Weighable fr.now work.now × (tables_end fr.now.ol ≤ word_count out.old) × Spreadable fr.now.ol g (words_of out.old) × (v.0 < fr.now.ol.regs) × (c.segs + np < 2 ^ 32) × (c.uses + nu < 2 ^ 32) }
+    requires weighable { Weighable fr.now work.now × (tables_end fr.now.ol ≤ word_count out.old) × Spreadable fr.now.ol g (words_of out.old) × (v.0 < fr.now.ol.regs) × (c.segs + new.pieces < 2 ^ 32) × (c.uses + new.uses < 2 ^ 32) }
     requires pieces_room { get_or (words_of out.old) (v.0 * 8 + 6) 0 + get_or (words_of out.old) (v.0 * 8 + 7) 0 ≤ fr.now.ol.segs }
-    ensures { (result ≡ pieces_more c np nu) × ((st : State) (new : List Piece) (h : Held) (hg : HeldGroup) → Filled (job_in fr.now.job) fr.now.ol c np nu v st new (words_of out.old) → h.class ≡ class
+    ensures { (result ≡ pieces_more c new.pieces new.uses) × ((st : State) (ps : List Piece) (h : Held) (hg : HeldGroup) → Filled (job_in fr.now.job) fr.now.ol c new.pieces new.uses v st ps (words_of out.old) → h.class ≡ class
         → hg.index ≡ index → g.0 < length st.groups
-        → Left fr.now.ol (words_of out.new) result (merge_state (job_in fr.now.job) h hg g v new st)) }
+        → Left fr.now.ol (words_of out.new) result (merge_state (job_in fr.now.job) h hg g v ps st)) }
 {
     let s = pieces_of(out, v);
     let w = weight_of_pieces(fr, out, work, s.first, s.count, class);
     let weight = least_weight(out, fr.ol, g, index as usize, w).value;
     spread(out, fr.ol, g, class, weight);
     Counts {
-        segs: c.segs + np,
-        uses: c.uses + nu,
+        segs: c.segs + new.pieces,
+        uses: c.uses + new.uses,
         ..c
     }
 }

@@ -1,4 +1,5 @@
--- The same by the frame and the slices that are lent. Assumes nothing.
+-- What placing a conflict piece asks, and the piece, of the frame and the slices. Asks has it of words and layouts.
+-- Assumes nothing.
 use Rattle.std.specs.Prelude.{ℕ, List}
 use Rattle.std.specs.Prelude as code
 use Rattle.words.specs.Words.{word_count, words_of}

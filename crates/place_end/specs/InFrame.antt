@@ -1,11 +1,11 @@
--- The same by the frame and the slices that are lent. Assumes nothing.
+-- How a placing ends, of the frame and the slices before and after it. Ends has it of words and layouts. Assumes
+-- nothing.
 use Rattle.std.specs.Prelude.{ℕ, List}
-use Rattle.definition.specs.Types.{Out}
+use Rattle.definition.specs.Types.{Out, State}
 use Rattle.words.specs.Words.{words_of}
 use Rattle.layout.specs.JobWords.{words_in}
 use Rattle.job.specs.Job.{job_in}
 use Rattle.frame.specs.declared.lent.Frame.{Frame}
-use Rattle.definition.specs.Types.{State}
 use Rattle.place_end.specs.Ends.{Placed}
 use Rattle.place_end.specs.Ends as ends
 

@@ -1,67 +1,70 @@
 -- What is held says which of the four ways it is. Assumes nothing.
-use Rattle.std.specs.Prelude.{◌≡◌, refl, Bool, true, false, List, ℕ, zero, suc, ◌-◌, ◌≤◌, ◌<◌, length}
-use Rattle.std.proofs.Common.{sym, ◌∙◌, arith}
+use Rattle.std.specs.Prelude.{◌≡◌, refl, ℕ, ◌≤◌, ◌<◌, length, Some, None}
+use Rattle.std.specs.Prelude as code
+use Rattle.std.proofs.Common.{sym, ◌∙◌}
 use Rattle.std.proofs.Math.Path.{ap}
-use Rattle.std.proofs.Math.Option.{Option, some}
+use Rattle.std.specs.Prelude.{List}
 use Rattle.definition.specs.declared.ValueSet.{ValueSet}
 use Rattle.definition.specs.declared.VirtReg.{VirtReg}
 use Rattle.definition.specs.declared.VirtRegGroup.{VirtRegGroup}
-use Rattle.definition.specs.Types.{Job, Room, HeldGroup, Piece, State, vreg, vrgroup}
+use Rattle.definition.specs.Types.{Job, Room, Piece, State}
 use Rattle.definition.specs.RegInfo.{class_at}
 use Rattle.definition.specs.Admit.{members_at}
 use Rattle.definition.specs.Place.{alone, lead, join, merge, place_group, place_by, place}
-use Rattle.members.specs.Places.{reg_of, group_of, given}
+use Rattle.members.specs.Places.{option_of}
 use Rattle.constraints.specs.declared.Held.{Held}
-use Rattle.constraints.specs.Held.{held_of}
+use Rattle.constraints.specs.declared.HeldGroup.{HeldGroup}
+use Rattle.constraints.specs.Held.{group_held, group_of, held_of}
+use Rattle.place_end.specs.Ends.{Sane}
+
+-- ---- what the ways ask of the state
+
+-- nothing; v is a register; group g has a place i; g is a group and v a register, and all pieces can be weighed
+abbrev pub Nothing : State → Type 0
+Nothing st = Unit {0}
+
+abbrev pub InTable : VirtReg → State → Type 0
+InTable v st = v.0 < length st.registers
+
+abbrev pub InGroup : VirtRegGroup → ℕ → State → Type 0
+InGroup g i st = (g.0 < length st.groups) × (i < length (members_at st g))
+
+abbrev pub InRegister : Job → VirtRegGroup → VirtReg → State → Type 0
+InRegister J g v st = (g.0 < length st.groups) × (v.0 < length st.registers) × Sane J st
 
 -- what is held fits the state: a place of the class, a group and a register of the state
 pub record HeldFits (J : Job) (st : State) (h : Held) : Type 0 where
-  pub index : h.grouped ≡ true → (h.index < (class_at J h.class).size) × ((class_at J h.class).size ≤ 8)
-  pub group : h.grouped ≡ true → (g : VirtRegGroup) → group_of h.mapped ≡ some g → (g.0 < length st.groups) × (h.index < length (members_at st g))
-  pub target : h.grouped ≡ true → (v : VirtReg) → reg_of h.target ≡ some v → v.0 < length st.registers
-
--- what is held of a group
-abbrev pub group_held : Held → HeldGroup
-group_held h = record { index = h.index; mapped = group_of h.mapped; sets = h.sets }
-
-pub group_some : (n : ℕ) → (n ≡ 0 → ⊥) → group_of n ≡ some (vrgroup (n - 1))
-unfolding group_of
-group_some zero h = absurd (h refl)
-group_some (suc n) h = let e : n ≡ suc n - 1 = omega arith in ap (λ (x : ℕ). some (vrgroup x)) e
-
-pub reg_some : (n : ℕ) → (n ≡ 0 → ⊥) → reg_of n ≡ some (vreg (n - 1))
-unfolding reg_of
-reg_some zero h = absurd (h refl)
-reg_some (suc n) h = let e : n ≡ suc n - 1 = omega arith in ap (λ (x : ℕ). some (vreg x)) e
+  pub index : (g : HeldGroup) → h.group ≡ Some g → (g.index < (class_at J h.class).size) × ((class_at J h.class).size ≤ 8)
+  pub group : (g : HeldGroup) (m : VirtRegGroup) → h.group ≡ Some g → g.mapped ≡ Some m → InGroup m g.index st
+  pub target : (g : HeldGroup) (v : VirtReg) → h.group ≡ Some g → h.target ≡ Some v → v.0 < length st.registers
 
 -- ---- the ways
 
 module _ (J : Job) (room : Room) (vs : ValueSet) (h : Held) (ps : List Piece) (st : State) where
-  pub way_alone : h.grouped ≡ false → alone J room vs (held_of h) ps st ≡ place J room vs (held_of h) ps st
+  pub way_alone : h.group ≡ None → alone J room vs (held_of h) ps st ≡ place J room vs (held_of h) ps st
   unfolding place place_by held_of
-  way_alone e = ap (λ (b : Bool). place_by J room vs (held_of h) ps st (given b (group_held h))) (sym e)
+  way_alone e = ap (λ (o : code.Option HeldGroup). place_by J room vs (held_of h) ps st (group_of o)) (sym e)
 
-  grouped : h.grouped ≡ true → place_group J room vs (held_of h) ps st (group_held h) (group_of h.mapped) (reg_of h.target) ≡ place J room vs (held_of h) ps st
-  unfolding place place_by held_of
-  grouped e = ap (λ (b : Bool). place_by J room vs (held_of h) ps st (given b (group_held h))) (sym e)
+  module _ (g : HeldGroup) (e : h.group ≡ Some g) where
+    grouped : place_group J room vs (held_of h) ps st (group_held g) (option_of g.mapped) (option_of h.target) ≡ place J room vs (held_of h) ps st
+    unfolding place place_by held_of
+    grouped = ap (λ (o : code.Option HeldGroup). place_by J room vs (held_of h) ps st (group_of o)) (sym e)
 
-  pub way_lead : h.grouped ≡ true → h.mapped ≡ 0 → lead J room vs (held_of h) (group_held h) ps st ≡ place J room vs (held_of h) ps st
-  unfolding place_group group_of
-  way_lead e z = ap (λ (n : ℕ). place_group J room vs (held_of h) ps st (group_held h) (group_of n) (reg_of h.target)) (sym z) ∙ grouped e
+    pub way_lead : g.mapped ≡ None → lead J room vs (held_of h) (group_held g) ps st ≡ place J room vs (held_of h) ps st
+    unfolding place_group
+    way_lead n = ap (λ (m : code.Option VirtRegGroup). place_group J room vs (held_of h) ps st (group_held g) (option_of m) (option_of h.target)) (sym n) ∙ grouped
 
-  pub way_join : (g : VirtRegGroup) → h.grouped ≡ true → group_of h.mapped ≡ some g → h.target ≡ 0 → join J room vs (held_of h) (group_held h) g ps st ≡ place J room vs (held_of h) ps st
-  unfolding place_group reg_of
-  way_join g e q z =
-      ap (λ (n : ℕ). place_group J room vs (held_of h) ps st (group_held h) (some g) (reg_of n)) (sym z)
-      ∙ ap (λ (x : Option VirtRegGroup). place_group J room vs (held_of h) ps st (group_held h) x (reg_of h.target)) (sym q)
-      ∙ grouped e
+    module _ (m : VirtRegGroup) (q : g.mapped ≡ Some m) where
+      mapped : place_group J room vs (held_of h) ps st (group_held g) (option_of (Some m)) (option_of h.target) ≡ place J room vs (held_of h) ps st
+      mapped = ap (λ (o : code.Option VirtRegGroup). place_group J room vs (held_of h) ps st (group_held g) (option_of o) (option_of h.target)) (sym q) ∙ grouped
 
-  pub way_merge : (g : VirtRegGroup) (v : VirtReg) → h.grouped ≡ true → group_of h.mapped ≡ some g → reg_of h.target ≡ some v → merge J room (held_of h) (group_held h) g v ps st ≡ place J room vs (held_of h) ps st
-  unfolding place_group
-  way_merge g v e q t =
-      ap (λ (x : Option VirtReg). place_group J room vs (held_of h) ps st (group_held h) (some g) x) (sym t)
-      ∙ ap (λ (x : Option VirtRegGroup). place_group J room vs (held_of h) ps st (group_held h) x (reg_of h.target)) (sym q)
-      ∙ grouped e
+      pub way_join : h.target ≡ None → join J room vs (held_of h) (group_held g) m ps st ≡ place J room vs (held_of h) ps st
+      unfolding place_group
+      way_join n = ap (λ (t : code.Option VirtReg). place_group J room vs (held_of h) ps st (group_held g) (option_of (Some m)) (option_of t)) (sym n) ∙ mapped
+
+      pub way_merge : (v : VirtReg) → h.target ≡ Some v → merge J room (held_of h) (group_held g) m v ps st ≡ place J room vs (held_of h) ps st
+      unfolding place_group
+      way_merge v t = ap (λ (x : code.Option VirtReg). place_group J room vs (held_of h) ps st (group_held g) (option_of (Some m)) (option_of x)) (sym t) ∙ mapped
 
 pub class_held : (h : Held) → (held_of h).class ≡ h.class
 unfolding held_of

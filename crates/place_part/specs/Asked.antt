@@ -1,12 +1,6 @@
 -- What is asked before a part is placed. Assumes nothing.
-use Rattle.std.specs.Prelude.{◌≡◌, Bool, true, false, Some, Ok, Err, List, ℕ, ◌+◌, ◌^◌, ◌≤◌, ◌<◌, length}
-use Rattle.definition.specs.declared.ValueSet.{ValueSet}
-use Rattle.definition.specs.declared.LiveRangePoint.{LiveRangePoint}
-use Rattle.definition.specs.declared.VirtReg.{VirtReg}
-use Rattle.definition.specs.declared.VirtRegGroup.{VirtRegGroup}
-use Rattle.definition.specs.Types.{Job, Piece, Mapped, State}
-use Rattle.definition.specs.Admit.{register_at}
-use Rattle.definition.specs.Place.{has_room, lead_state, merge_state}
+use Rattle.std.specs.Prelude.{◌≡◌, List, ℕ, ◌+◌, ◌^◌, ◌≤◌, ◌<◌}
+use Rattle.definition.specs.Types.{Job, Piece, State}
 use Rattle.definition.specs.Build.{as_own}
 use Rattle.layout.specs.declared.Layout.{Layout}
 use Rattle.job.specs.Job.{job_of}
@@ -14,19 +8,15 @@ use Rattle.set_part.specs.declared.SetPart.{SetPart}
 use Rattle.set_part.specs.Part.{PartOk, part_segs}
 use Rattle.virt_regs.specs.declared.OutLayout.{OutLayout}
 use Rattle.virt_regs.specs.declared.Counts.{Counts}
-use Rattle.virt_regs.specs.Encoding.{tables_end, room_of, counts_of, Holds}
-use Rattle.vreg_find.specs.Ends.{place_of}
+use Rattle.virt_regs.specs.Encoding.{tables_end, counts_of, Holds}
 use Rattle.constraints.specs.declared.Held.{Held}
 use Rattle.work_layout.specs.declared.WorkLayout.{WorkLayout}
-use Rattle.constraints.specs.Held.{held_of}
 use Rattle.constraints.specs.Ready.{Ready, Stands}
 use Rattle.use_costs.specs.Book.{SmallBook}
 use Rattle.vreg_weight.specs.Fair.{Fair}
 use Rattle.part_maps.specs.Maps.{MapApart}
-use Rattle.place.specs.Ready.{Left}
-use Rattle.place_laws.specs.Held.{HeldFits, group_held}
-use Rattle.place_end.specs.declared.NotPlaced.TheVariants as not_placed
-use Rattle.place_end.specs.Ends.{Placed, Sane}
+use Rattle.place_laws.specs.Held.{HeldFits}
+use Rattle.place_end.specs.Ends.{Sane}
 
 -- the pieces that the part becomes
 abbrev pub new_pieces : List ℕ → WorkLayout → List ℕ → Layout → SetPart → List Piece
@@ -38,8 +28,8 @@ pub record Standing (J : Job) (ol : OutLayout) (O W K : List ℕ) (lay : Layout)
   pub counts : c ≡ counts_of st
   pub sane : Sane J st
 
--- the job is accepted, the work slice has its parts, the tables hold some state with the counts c that the held fits, and the part is one of the job
-pub record Asked (t w o : ℕ) (W K O : List ℕ) (lay : Layout) (ol : OutLayout) (wl : WorkLayout) (sp : SetPart) (h : Held) (c : Counts) : Type 0 where
+-- the job is accepted, the work slice has its parts, the tables hold some state with the counts c of which F is so, and the part is one of the job
+pub record Asks (t w o : ℕ) (W K O : List ℕ) (lay : Layout) (ol : OutLayout) (wl : WorkLayout) (sp : SetPart) (c : Counts) (F : State → Type 0) : Type 0 where
   pub ready : Ready t w W K lay wl
   pub apart : MapApart lay wl
   pub book : SmallBook W lay
@@ -52,26 +42,30 @@ pub record Asked (t w o : ℕ) (W K O : List ℕ) (lay : Layout) (ol : OutLayout
   pub st : State
   pub holds : Holds ol O st
   pub counts : c ≡ counts_of st
-  pub fits : HeldFits (job_of W lay) st h
+  pub fits : F st
   pub sane : Sane (job_of W lay) st
   pub fair : Fair (job_of W lay) 4096 (new_pieces K wl W lay sp)
 
--- by whether there is room: the table is full, or the words hold st
-pub record RoomEnds (ol : OutLayout) (O : List ℕ) (r : Placed) (b : Bool) (st : State) : Type 0 where
-  pub full : b ≡ false → r ≡ Err not_placed.Full
-  pub done : b ≡ true → (n : Counts) × (r ≡ Ok n) × Left ol O n st
+-- the state is one that what is held fits
+abbrev pub Asked : ℕ → ℕ → ℕ → List ℕ → List ℕ → List ℕ → Layout → OutLayout → WorkLayout → SetPart → Held → Counts → Type 0
+Asked t w o W K O lay ol wl sp h c = Asks t w o W K O lay ol wl sp c (λ st. HeldFits (job_of W lay) st h)
 
--- a register that leads a new group is placed, or there is no room, for every state that the words O hold
-abbrev pub LeadPut : Job → OutLayout → List ℕ → List ℕ → Counts → ValueSet → Held → Placed → List Piece → Type 0
-LeadPut J ol O O' c vs h r ps =
-    (st : State) (ms : List Mapped) → Holds ol O st → c ≡ counts_of st → HeldFits J st h → Fair J 4096 ps
-    → RoomEnds ol O' r (has_room (room_of ol) st 1 1 ps) (lead_state J vs (held_of h) (group_held h) ps st ms)
-
--- the place in register v for pieces from a up to b is before its piece k
-abbrev pub PlacedAt : OutLayout → List ℕ → VirtReg → LiveRangePoint → LiveRangePoint → ℕ → Type 0
-PlacedAt ol O v a b k = (st : State) → Holds ol O st → v.0 < length st.registers → Some k ≡ place_of a b (register_at st v).pieces
-
--- pieces are merged into register v, or there is no room, for every state that the words O hold
-abbrev pub MergePut : Job → OutLayout → List ℕ → List ℕ → Counts → Held → VirtRegGroup → VirtReg → Placed → List Piece → Type 0
-MergePut J ol O O' c h g v r ps =
-    (st : State) → Holds ol O st → c ≡ counts_of st → Sane J st → HeldFits J st h → Fair J 4096 ps → RoomEnds ol O' r (has_room (room_of ol) st 0 0 ps) (merge_state J (held_of h) (group_held h) g v ps st)
+pub asks_more : {t w o : ℕ} {W K O : List ℕ} {lay : Layout} {ol : OutLayout} {wl : WorkLayout} {sp : SetPart} {c : Counts} {F G : State → Type 0} → ((st : State) → F st → Sane (job_of W lay) st → G st)
+    → Asks t w o W K O lay ol wl sp c F → Asks t w o W K O lay ol wl sp c G
+asks_more f a = record {
+  ready = a.ready;
+  apart = a.apart;
+  book = a.book;
+  long = a.long;
+  part = a.part;
+  regs = a.regs;
+  segs = a.segs;
+  uses = a.uses;
+  groups = a.groups;
+  st = a.st;
+  holds = a.holds;
+  counts = a.counts;
+  fits = f a.st a.fits a.sane;
+  sane = a.sane;
+  fair = a.fair;
+}

@@ -1,4 +1,5 @@
--- The same by the frame and the slices that are lent. Assumes nothing.
+-- What placing a part asks, the state that the slices stand for, and the part's pieces, of the frame. Asked has it of
+-- words and layouts. Assumes nothing.
 use Rattle.std.specs.Prelude.{ℕ, List}
 use Rattle.words.specs.Words.{word_count, words_of}
 use Rattle.layout.specs.JobWords.{words_in}
@@ -11,7 +12,11 @@ use Rattle.virt_regs.specs.declared.Counts.{Counts}
 use Rattle.constraints.specs.declared.Held.{Held}
 use Rattle.place_part.specs.Asked as asked
 
--- what the placing of a part asks
+-- what the placing of a part asks, where F is so of the state
+abbrev pub Asks : Frame → List ℕ → List ℕ → SetPart → Counts → (State → Type 0) → Type 0
+Asks fr work out = asked.Asks (word_count fr.job.bytes.now) (word_count work) (word_count out) (words_in fr.job) (words_of work) (words_of out) fr.job.lay fr.ol fr.wl
+
+-- where what is held fits the state
 abbrev pub Asked : Frame → List ℕ → List ℕ → SetPart → Held → Counts → Type 0
 Asked fr work out = asked.Asked (word_count fr.job.bytes.now) (word_count work) (word_count out) (words_in fr.job) (words_of work) (words_of out) fr.job.lay fr.ol fr.wl
 

@@ -3,13 +3,13 @@ use mathlib.Core.Path.{◌≡◌, refl, sym, ap, subst, ◌∙◌}
 use mathlib.Core.Bool.{Bool, true, false, cond}
 use mathlib.Core.Option.{Option}
 use mathlib.Core.List.{List}
+use Rattle.std.specs.Prelude.{None}
 use Prim.Native.Nat.{ℕ, ◌+◌, ◌*◌, ◌<◌}
 use native.Mathlib.Omega.{arith}
 use lib.Dec.{eqb}
 use lib.ListN.{get_or}
 use Rattle.definition.specs.declared.Inst.{Inst}
 use Rattle.definition.specs.declared.RegClass.{RegClass}
-use Rattle.definition.specs.declared.ValueSet.{ValueSet}
 use Rattle.definition.specs.declared.Use.{Use}
 use Rattle.definition.specs.Types.{Job, State}
 use Rattle.definition.specs.Types as types
@@ -44,9 +44,9 @@ module _ (K : List ℕ) (marks : ℕ) (W : List ℕ) (lay : Layout) (n : ℕ) wh
       go true = h
       go false = backed_turned job (use_row W (lay.uses.at + n * 6))
 
-pub fresh_is : (top : RegClass) (sets : List ValueSet) → held_of (record { class = top; grouped = false; index = 0; mapped = 0; sets = sets; target = 0 }) ≡ fresh top
+pub fresh_is : (top : RegClass) → held_of (record { class = top; group = None; target = None }) ≡ fresh top
 unfolding held_of fresh
-fresh_is top sets = refl
+fresh_is top = refl
 
 -- the admission of the use that is read
 pub admit_marked : (K : List ℕ) (marks : ℕ) (W : List ℕ) (lay : Layout) (n : ℕ) (job : Job) (st : State) (h : types.Held) (o : Option types.Held) (u : Use)

@@ -1,20 +1,19 @@
 // builder.rs: the scans over uses, and the step that they lead to.
 #![tactic(auto)]
 
-ghost use Rattle.std.specs.Prelude.{◌≡◌, List, ℕ, ◌+◌, ◌-◌, ◌*◌, ◌≤◌, ◌<◌, length, IfSome};
+ghost use Rattle.std.specs.Prelude.{◌≡◌, ℕ, ◌+◌, ◌-◌, ◌*◌, ◌≤◌, ◌<◌, IfSome};
 ghost use Rattle.std.specs.Float.{binary32};
 ghost use Rattle.std.specs.Float.Ieee.{of_bits};
 ghost use Rattle.rows.specs.Tab.{tab, down};
 ghost use Rattle.words.specs.Words.{word_count, words_of};
 ghost use Rattle.layout.specs.JobWords.{words_in};
-ghost use Rattle.definition.specs.declared.BlockData.{BlockData};
 ghost use Rattle.definition.specs.Types.{State};
 ghost use Rattle.definition.specs.Entry.{insts_of};
-ghost use Rattle.definition.specs.SplitPlacement.{early_cut, late_cut, side_of};
+ghost use Rattle.definition.specs.SplitPlacement.{side_of};
 ghost use Rattle.definition.specs.RegInfo.{class_at};
 ghost use Rattle.definition.specs.Admit.{admit, fresh, turning, cut_side, parted, move};
 ghost use Rattle.use_costs.specs.Book.{SmallBook};
-ghost use Rattle.function.specs.Blocks.{blocks_at, Starts};
+ghost use Rattle.function.specs.Blocks.{blocks_at};
 ghost use Rattle.job.specs.Job.{job_in};
 ghost use Rattle.virt_regs.specs.Encoding.{tables_end};
 ghost use Rattle.constraints.specs.Held.{held_of, admission_of};
@@ -24,11 +23,12 @@ ghost use Rattle.constraints.specs.InFrame.{Ready, Stands};
 
 use block_starts::BlockStarts;
 use constraints::Held;
-use definition::{Inst, RegClass, Side, Stop, Use, ValueSet};
+use definition::{Inst, RegClass, Side, Stop, Use};
 use frame::Frame;
 use layout::Job;
 
 // The number of the use that a scan could not admit, if it did not go through; and what is held when it ends.
+// No Result: what is held is there in both cases, so that a Result would carry it twice.
 #[derive(Clone, Copy)]
 pub struct ScanAnswer {
     pub failed: Option<usize>,
@@ -60,11 +60,8 @@ pub fn fresh_held(top: RegClass) -> Held
 {
     Held {
         class: top,
-        grouped: false,
-        index: 0,
-        mapped: 0,
-        sets: [ValueSet(0); 8],
-        target: 0,
+        group: None,
+        target: None,
     }
 }
 
@@ -136,42 +133,6 @@ fn turn_at(fr: &Frame, work: &[u8], n: usize) -> Move
     Move::Turn(n)
 }
 
-// The early cut between instructions x and y. Uses do not fall, so x is before y.
-fn early_at(fr: &Frame, work: &[u8], x: Inst, y: Inst) -> Inst
-    requires { (0 < fr.now.job.lay.blocks.n) × (fr.now.job.lay.blocks.n ≤ 512)
-        × (fr.now.wl.starts + fr.now.job.lay.blocks.n * 2 + 2 ≤ word_count work.now) × (x.0 < 4096) }
-    ensures { (bs : List BlockData) → Starts (words_of work.now) fr.now.wl.starts bs
-        → length bs ≡ fr.now.job.lay.blocks.n → y.0 < insts_of bs → result.0 ≡ early_cut bs x.0 y.0 }
-{
-    if x < y {
-        let t = BlockStarts {
-            words: work,
-            at: fr.wl.starts,
-            n: fr.job.lay.blocks.n as u32,
-        };
-        return split_placement::cut(&t, x, y, Side::Early);
-    }
-    Inst(x.0 + 1)
-}
-
-// The late cut between them.
-fn late_at(fr: &Frame, work: &[u8], x: Inst, y: Inst) -> Inst
-    requires { (0 < fr.now.job.lay.blocks.n) × (fr.now.job.lay.blocks.n ≤ 512)
-        × (fr.now.wl.starts + fr.now.job.lay.blocks.n * 2 + 2 ≤ word_count work.now) × (x.0 < 4096) }
-    ensures { (bs : List BlockData) → Starts (words_of work.now) fr.now.wl.starts bs
-        → length bs ≡ fr.now.job.lay.blocks.n → y.0 < insts_of bs → result.0 ≡ late_cut bs x.0 y.0 }
-{
-    if x < y {
-        let t = BlockStarts {
-            words: work,
-            at: fr.wl.starts,
-            n: fr.job.lay.blocks.n as u32,
-        };
-        return split_placement::cut(&t, x, y, Side::Late);
-    }
-    y
-}
-
 // The bits of the cost of class c; an unknown class costs nothing.
 fn cost_bits(job: &Job, c: RegClass) -> u32
     requires { SmallBook (words_in job.now) job.now.lay }
@@ -202,30 +163,34 @@ fn cut_side(job: &Job, forward: RegClass, end: RegClass) -> Side
     Side::Late
 }
 
-// The cut between instructions x and y, of the side that the two classes lean to.
-fn cut_at(fr: &Frame, work: &[u8], forward: RegClass, end: RegClass, x: Inst, y: Inst) -> Inst
-    requires { Ready fr.now work.now
-        × SmallBook (words_in fr.now.job) fr.now.job.lay × (x.0 < 4096)
+// The cut between instructions x and y, of this side. Uses do not fall, so x is before y.
+fn cut_at(fr: &Frame, work: &[u8], side: Side, x: Inst, y: Inst) -> Inst
+    requires { Ready fr.now work.now × (x.0 < 4096)
         × (y.0 < insts_of (blocks_at (words_in fr.now.job) fr.now.job.lay.blocks.at fr.now.job.lay.blocks.n)) }
-    ensures { result.0 ≡ side_of (cut_side (job_in fr.now.job) forward end)
+    ensures { result.0 ≡ side_of side
         (blocks_at (words_in fr.now.job) fr.now.job.lay.blocks.at fr.now.job.lay.blocks.n) x.0 y.0 }
 {
-    let job = &fr.job;
-    let lay = &job.lay;
-    match cut_side(job, forward, end) {
-        Side::Early => early_at(fr, work, x, y),
-        Side::Late => late_at(fr, work, x, y),
+    if x < y {
+        let t = BlockStarts {
+            words: work,
+            at: fr.wl.starts,
+            n: fr.job.lay.blocks.n as u32,
+        };
+        return split_placement::cut(&t, x, y, side);
+    }
+    match side {
+        Side::Early => Inst(x.0 + 1),
+        Side::Late => y,
     }
 }
 
 // What start s and end e lead to. If they share an instruction the end is turned, or the start where the end is a
-// definition; else a cut is made between them, of the side of the classes that the scans held when they failed.
-fn part_at(fr: &Frame, work: &[u8], forward: RegClass, end: RegClass, s: usize, e: usize) -> Move
+// definition; else a cut is made between them, of this side.
+fn part_at(fr: &Frame, work: &[u8], side: Side, s: usize, e: usize) -> Move
     requires { Ready fr.now work.now
-        × (s < fr.now.job.lay.uses.n) × (e < fr.now.job.lay.uses.n) × (0 < fr.now.job.lay.segments.n) × SmallBook (words_in fr.now.job) fr.now.job.lay }
+        × (s < fr.now.job.lay.uses.n) × (e < fr.now.job.lay.uses.n) × (0 < fr.now.job.lay.segments.n) }
     ensures { (a b : ℕ) → a ≤ s → s < b → a ≤ e → e < b
-        → move_of a result ≡ parted (job_in fr.now.job)
-        (cut_side (job_in fr.now.job) forward end)
+        → move_of a result ≡ parted (job_in fr.now.job) side
         (tab (marked_use fr.now work.now) a (b - a))
         (s - a) (e - a) }
 {
@@ -237,10 +202,11 @@ fn part_at(fr: &Frame, work: &[u8], forward: RegClass, end: RegClass, s: usize, 
         }
         return turn_at(fr, work, e);
     }
-    Move::Cut(cut_at(fr, work, forward, end, x.pos, y.pos))
+    Move::Cut(cut_at(fr, work, side, x.pos, y.pos))
 }
 
-// The step that the scans over the uses with numbers a to b - 1 lead to, from the top class.
+// The step that the scans over the uses with numbers a to b - 1 lead to, from the top class. A cut is of the side of
+// the classes that the scans held when they failed.
 pub fn next_move(fr: &Frame, out: &[u8], work: &[u8], top: RegClass, a: usize, b: usize) -> Move
     requires { Ready fr.now work.now
         × (tables_end fr.now.ol ≤ word_count out.now) × (a ≤ b) × (b ≤ fr.now.job.lay.uses.n) × (0 < fr.now.job.lay.segments.n)
@@ -256,5 +222,6 @@ pub fn next_move(fr: &Frame, out: &[u8], work: &[u8], top: RegClass, a: usize, b
     let Some(s) = back.failed else {
         return Move::Halt(Stop::NoStart);
     };
-    part_at(fr, work, r.held.class, back.held.class, s, e)
+    let side = cut_side(&fr.job, r.held.class, back.held.class);
+    part_at(fr, work, side, s, e)
 }

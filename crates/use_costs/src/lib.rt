@@ -10,7 +10,9 @@ ghost use Rattle.definition.specs.declared.BlockData.{BlockData};
 ghost use Rattle.definition.specs.RegInfo.{class_at, value_at};
 ghost use Rattle.definition.specs.Uses.{cost_of};
 ghost use Rattle.definition.specs.Entry.{insts_of, small};
-ghost use Rattle.function.specs.Blocks.{Starts, block_of};
+ghost use Rattle.function.specs.Blocks.{block_of};
+ghost use Rattle.block_starts.specs.Table.{Encodes};
+ghost use Rattle.block_starts.specs.Table as table;
 ghost use Rattle.job.specs.Job.{job_in};
 ghost use Rattle.use_costs.specs.Book.{SmallBook};
 
@@ -20,7 +22,8 @@ use layout::Job;
 use spill_weight::{Cost, Plain, fixed_cost};
 
 // Class c; an unknown class costs nothing. That its cost is small stays a clause: `ClassData` is the definition's type,
-// whose cost is a number as a table has it.
+// whose cost is a number as a table has it. That the book is small is one too: a struct with that fact would be made at four
+// calls, each copying the job.
 pub fn class_data(job: &Job, c: RegClass) -> ClassData
     requires { SmallBook (words_in job.now) job.now.lay }
     ensures { (result ≡ class_at (job_in job.now) c) × T (small result.cost) }
@@ -99,29 +102,25 @@ pub fn use_cost(job: &Job, kind: UseKind) -> Cost
     }
 }
 
-// The block that holds an instruction, of n blocks: b if it does, else by search.
-pub fn block_near(starts: &[u8], at: usize, n: u32, b: Block, inst: Inst) -> Block
-    requires { (b.0 < n) × (at + n * 2 + 2 ≤ word_count starts.now) }
-    ensures { (result.0 < n) × ((bs : List BlockData) → Starts (words_of starts.now) at bs → length bs ≡ n → inst.0 < insts_of bs → result.0 ≡ block_of bs inst.0) }
+// The block that holds an instruction: b if it does, else by search.
+pub fn block_near(t: &BlockStarts, b: Block, inst: Inst) -> Block
+    requires { b.0 < t.now.n }
+    ensures { (result.0 < t.now.n)
+        × ((bs : List BlockData) → Encodes t.now bs → inst.0 < insts_of bs → result.0 ≡ block_of bs inst.0) }
 {
-    let t = BlockStarts {
-        words: starts,
-        at,
-        n,
-    };
-    let from = block_starts::start_at(&t, b);
-    if from <= inst && inst < block_starts::start_at(&t, Block(b.0 + 1)) {
+    let from = block_starts::start_at(t, b);
+    if from <= inst && inst < block_starts::start_at(t, Block(b.0 + 1)) {
         b
     } else {
-        block_starts::block_of(&t, inst)
+        block_starts::block_of(t, inst)
     }
 }
 
-// The frequency of block b. It asks for the room of b's row alone, so it takes the words and not the table.
-pub fn frequency_of(starts: &[u8], at: usize, b: Block) -> Plain
-    requires { (at + b.0 * 2 + 2 ≤ word_count starts.now) × (get_or (words_of starts.now) (at + b.0 * 2 + 1) 0 < 0x7f80_0000) }
-    ensures { result.value ≡ of_bits binary32 (get_or (words_of starts.now) (at + b.0 * 2 + 1) 0) }
+// The frequency of block b.
+pub fn frequency_of(t: &BlockStarts, b: Block) -> Plain
+    requires { (b.0 ≤ t.now.n) × (get_or (table.words_in t.now) (t.now.at + b.0 * 2 + 1) 0 < 0x7f80_0000) }
+    ensures { result.value ≡ of_bits binary32 (get_or (table.words_in t.now) (t.now.at + b.0 * 2 + 1) 0) }
 {
-    let value = floats::float_of(function::bits_at(starts, at, b));
+    let value = floats::float_of(block_starts::bits_at(t, b));
     Plain { value }
 }

@@ -1,4 +1,5 @@
--- The same by the frame and the slices that are lent. Assumes nothing.
+-- That what a weight is made from stands in the job and the work slice, of the frame. Weighed has it of bytes and a
+-- layout. Assumes nothing.
 use Rattle.std.specs.Prelude.{ℕ, List}
 use Rattle.frame.specs.declared.lent.Frame.{Frame}
 use Rattle.vreg_weight.specs.Weighed as weighed

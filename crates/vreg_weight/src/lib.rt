@@ -8,15 +8,14 @@ ghost use Rattle.std.specs.Float.{binary32};
 ghost use Rattle.std.specs.Float.Ieee.{to_bits, of_bits};
 ghost use Rattle.words.specs.Words.{word_count, words_of};
 ghost use Rattle.job.specs.Job.{job_in};
-ghost use Rattle.rows.specs.RowsAt.{rows_at};
 ghost use Rattle.definition.specs.Types.{Piece, State};
 ghost use Rattle.definition.specs.RegInfo.{zero_f, value_at};
 ghost use Rattle.definition.specs.LiveRange.{live_insts};
 ghost use Rattle.definition.specs.Weights.{min_f, sum_uses, sum_segs, weight_of};
 ghost use Rattle.definition.specs.Admit.{members_at};
 ghost use Rattle.definition.specs.Place.{least_weight, uses_of, segs_of};
-ghost use Rattle.uses.specs.Rows.{uses_at};
-ghost use Rattle.live_insts.specs.Ranges.{range_at, range_insts};
+ghost use Rattle.uses.specs.Rows.{uses_in};
+ghost use Rattle.live_insts.specs.Ranges.{ranges_in, range_insts};
 ghost use Rattle.virt_regs.specs.Encoding.{tables_end, Weighs};
 ghost use Rattle.vreg_weight.specs.Shown.{Shown, FirstShown};
 ghost use Rattle.vreg_weight.specs.Members.{Members};
@@ -27,29 +26,32 @@ ghost use Rattle.vreg_weight.specs.InWeighing.{weighed_job};
 mod weighing;
 mod weight_bits;
 
+use block_starts::BlockStarts;
 use definition::{Block, Inst, RegClass, Remat, VirtReg, VirtRegGroup};
 use frame::Frame;
 use spill_weight::Sum;
 use virt_regs::OutLayout;
 pub use weighing::Weighing;
 pub use weight_bits::WeightBits;
+use word_rows::{Rows, row_at};
 
-// The sum with the costs of n uses whose rows stand from word `at` on. The block of the use before is tried first.
-pub fn sum_uses(by: &Weighing, out: &[u8], at: usize, n: usize, remat: Remat, sum: Sum) -> Sum
-    requires { at + n * 6 ≤ word_count out.now }
-    ensures { Inside (weighed_job by.now) (uses_at (words_of out.now) at n) → result.value ≡ sum_uses (weighed_job by.now) remat sum.value (uses_at (words_of out.now) at n) }
+// The sum with the costs of uses. The block of the use before is tried first.
+pub fn sum_uses(by: &Weighing, uses: &Rows<6>, remat: Remat, sum: Sum) -> Sum
+    ensures { Inside (weighed_job by.now) (uses_in uses.now) → result.value ≡ sum_uses (weighed_job by.now) remat sum.value (uses_in uses.now) }
 {
     let job = &by.fr.job;
-    let starts = by.fr.wl.starts;
-    let lay = &job.lay;
-    let blocks = lay.blocks.n as u32;
+    let t = BlockStarts {
+        words: by.work,
+        at: by.fr.wl.starts,
+        n: job.lay.blocks.n as u32,
+    };
     let mut total = sum;
     let mut b = Block(0);
-    for i in 0..n {
-        let u = uses::use_at(out, at + i * 6);
-        b = use_costs::block_near(by.work, starts, blocks, b, u.pos);
+    for i in 0..uses.n {
+        let u = uses::use_at(uses.words, row_at(uses, i));
+        b = use_costs::block_near(&t, b, u.pos);
         let cost = use_costs::use_cost(job, u.kind);
-        let frequency = use_costs::frequency_of(by.work, starts, b);
+        let frequency = use_costs::frequency_of(&t, b);
         total = spill_weight::add_use(total, by.options, remat, cost, frequency);
     }
     total
@@ -69,8 +71,12 @@ pub fn sum_piece(by: &Weighing, out: &[u8], sum: Sum, i: usize) -> Sum
         return sum;
     }
     let remat = use_costs::remat_at(job, row.value);
-    let at = ol.use_base() + first * 6;
-    sum_uses(by, out, at, n, remat, sum)
+    let uses = Rows {
+        words: out,
+        at: ol.use_base() + first * 6,
+        n,
+    };
+    sum_uses(by, &uses, remat, sum)
 }
 
 // The sum of the n pieces from piece p on.
@@ -85,15 +91,15 @@ pub fn sum_pieces(by: &Weighing, out: &[u8], p: usize, n: usize) -> Sum
     sum
 }
 
-// The different instructions that n pieces touch, whose rows stand from word `at` on: `live_insts` where that is 1 to 4096.
-pub fn count_insts(out: &[u8], at: usize, n: usize) -> u32
-    requires { at + n * 7 ≤ word_count out.now }
-    ensures { (1 ≤ result) × (result ≤ 4096) × (1 ≤ range_insts (rows_at range_at (words_of out.now) at 7 n) → range_insts (rows_at range_at (words_of out.now) at 7 n) ≤ 4096 → result ≡ range_insts (rows_at range_at (words_of out.now) at 7 n)) }
+// The different instructions that pieces touch: `live_insts` where that is 1 to 4096.
+pub fn count_insts(pieces: &Rows<7>) -> u32
+    ensures { (1 ≤ result) × (result ≤ 4096)
+        × (1 ≤ range_insts (ranges_in pieces.now) → range_insts (ranges_in pieces.now) ≤ 4096 → result ≡ range_insts (ranges_in pieces.now)) }
 {
     let mut sum: u32 = 0;
     let mut counted = Inst(0);
-    for i in 0..n {
-        let s = live_insts::range_at(out, at + i * 7);
+    for i in 0..pieces.n {
+        let s = live_insts::range_at(pieces.words, row_at(pieces, i));
         let more = live_insts::new_insts(counted, s);
         if 4096 - sum < more {
             return 4096;
@@ -122,7 +128,12 @@ pub fn weight_of_pieces(
     let options = layout::options_at(job.bytes, lay.opts);
     let by = Weighing { fr, work, options };
     let sum = sum_pieces(&by, out, p, n);
-    let insts = count_insts(out, ol.seg_base() + p * 7, n);
+    let pieces = Rows {
+        words: out,
+        at: ol.seg_base() + p * 7,
+        n,
+    };
+    let insts = count_insts(&pieces);
     let data = use_costs::class_data(job, c);
     let w = spill_weight::weight(sum, insts, options.adjust, data.spillslots);
     let value = floats::bits_of(w);
@@ -130,6 +141,7 @@ pub fn weight_of_pieces(
 }
 
 // The lesser of w and the weight of the register that a place's word names, if any.
+// The word is as the lent table has it for C, so no Option: the register + 1, 0 for none, or any other.
 pub fn lesser_at(out: &[u8], ol: OutLayout, m: u32, w: WeightBits) -> WeightBits
     requires { tables_end ol ≤ word_count out.now }
     ensures { (m ≡ 0 → result.value ≡ w.value) × ((v : VirtReg) (x : Float) → m ≡ v.0 + 1 → v.0 < ol.regs → get_or (words_of out.now) (v.0 * 8 + 2) 0 ≡ to_bits binary32 x → Weighs x → of_bits binary32 result.value ≡ min_f (of_bits binary32 w.value) x) }

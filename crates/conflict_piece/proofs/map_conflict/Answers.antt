@@ -15,7 +15,7 @@ turned_use-u-requires c = let t = c.loop-i-test.true in
 pub map_use-requires : goal.map_use-requires
 map_use-requires c = let o = run_outside _ _ _ _ _ _ _ _ _ _ c.loop-i.invariant.0 in
     let r = ready_run _ _ _ _ _ _ _ _ _ _ _ c.loop-i.invariant.0 c.requires.1 c.loop-i.invariant.1 c.requires.0 in
-    (r, backed_row _ _ _ _ _ _ _ _ r c.requires.4 (known_kept _ _ _ _ o c.requires.1 _ _ _ _ c.requires.2 (omega arith) c.loop-i-test.true) c.turned_use-u.ensures, c.requires.3)
+    (r, backed_row _ _ _ _ _ _ _ _ r c.requires.3 (known_kept _ _ _ _ o c.requires.1 _ _ _ _ c.requires.2 (omega arith) c.loop-i-test.true) c.turned_use-u.ensures)
 
 pub returns-then-not-map_use : goal.returns-then-not-map_use
 returns-then-not-map_use c = let o = run_outside _ _ _ _ _ _ _ _ _ _ c.loop-i.invariant.0 in

@@ -1,8 +1,8 @@
 use Rattle.members.proofs.Joining.{group_free, group_mapped}
 use Rattle.members.proofs.in_group.Goals as goal
 
-pub returns-then-m-eq0 : goal.returns-then-m-eq0
-returns-then-m-eq0 c st h hs ec et = group_free _ _ h _ _ _ _ c.if-m-eq0.true et
+pub returns-in-None : goal.returns-in-None
+returns-in-None c st h hs ec et = group_free _ _ h _ _ _ _ c.in-None.is et
 
-pub returns : goal.returns
-returns c st h hs ec et = group_mapped _ _ h _ _ _ _ c.if-m-eq0.false (c.at_place.ensures st h hs ec et)
+pub returns-in-Some : goal.returns-in-Some
+returns-in-Some c st h hs ec et = group_mapped _ _ h _ _ _ _ _ c.in-Some.is (c.at_place.ensures st h hs ec et)

@@ -1,8 +1,8 @@
 use Rattle.members.proofs.Narrowing.{narrow_none, narrow_some}
 use Rattle.members.proofs.narrow.Goals as goal
 
-pub returns-then-w-eq0 : goal.returns-then-w-eq0
-returns-then-w-eq0 c st h l = narrow_none _ _ _ _ c.if-w-eq0.true
+pub returns-in-None : goal.returns-in-None
+returns-in-None c st h l = narrow_none _ _ _ _ c.in-None.is
 
-pub returns : goal.returns
-returns c st h l = narrow_some _ _ _ _ _ c.if-w-eq0.false l (c.shared_class.ensures st h)
+pub returns-in-Some : goal.returns-in-Some
+returns-in-Some c st h l = narrow_some _ _ _ _ _ _ c.in-Some.is l (c.shared_class.ensures st h)

@@ -6,10 +6,10 @@ pub loop-i-init : goal.loop-i-init
 loop-i-init c = narrow_start _ _ _ _ _
 
 pub returns-in_err-class : goal.returns-in_err-class
-returns-in_err-class c = rw c.from_residual.ensures (narrow_stop c.loop-i.invariant _ _ c.place_word-w.ensures c.narrow.ensures c.in_err-class.was)
+returns-in_err-class c = rw c.from_residual.ensures (narrow_stop c.loop-i.invariant _ _ c.member_at-m.ensures c.narrow.ensures c.in_err-class.was)
 
 pub loop-i-preserved : goal.loop-i-preserved
-loop-i-preserved c = narrow_next c.loop-i.invariant _ _ c.place_word-w.ensures c.narrow.ensures _ c.in_ok-class.was
+loop-i-preserved c = narrow_next c.loop-i.invariant _ _ c.member_at-m.ensures c.narrow.ensures _ c.in_ok-class.was
 
 pub returns : goal.returns
 returns c = narrow_end c.loop-i.invariant (omega arith)

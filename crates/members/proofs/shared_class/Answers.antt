@@ -6,4 +6,4 @@ pub returns-then-ol-n : goal.returns-then-ol-n
 returns-then-ol-n c st h l = absurd (omega (arith, h.fit_registers))
 
 pub returns : goal.returns
-returns c st h l = shared_is _ _ st h _ _ _ _ _ l c.class_of-c.ensures (c.common_subclass.ensures _ (job_classes _ _))
+returns c st h l = shared_is _ _ st h _ _ _ _ _ l c.class_of-c.ensures (c.common_subclass.ensures _ (rw c.classes.ensures (job_classes _ _)))

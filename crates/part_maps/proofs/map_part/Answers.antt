@@ -12,7 +12,7 @@ marked_use-u-requires c = (omega (arith, c.loop-i-test.true, c.requires.2.fits),
 
 pub map_use-requires : goal.map_use-requires
 map_use-requires c = let r = ready_run _ _ _ _ _ _ _ _ _ _ _ c.loop-i.invariant.0 c.requires.1 c.loop-i.invariant.1 c.requires.0 in
-    (r, backed_marked _ _ _ _ _ _ _ _ r (omega (arith, c.requires.2.within)) (omega (arith, c.loop-i-test.true, c.requires.2.fits)) c.marked_use-u.ensures, c.requires.3)
+    (r, backed_marked _ _ _ _ _ _ _ _ r (omega (arith, c.requires.2.within)) (omega (arith, c.loop-i-test.true, c.requires.2.fits)) c.marked_use-u.ensures)
 
 pub returns-then-not-map_use : goal.returns-then-not-map_use
 returns-then-not-map_use c = let o = run_outside _ _ _ _ _ _ _ _ _ _ c.loop-i.invariant.0 in

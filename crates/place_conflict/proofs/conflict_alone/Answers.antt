@@ -1,29 +1,20 @@
-use mathlib.Core.Path.{refl}
+use mathlib.Core.Path.{refl, ap, ◌∙◌}
 use native.Mathlib.Omega.{arith}
+use Rattle.std.specs.Prelude.{Err}
+use Rattle.place_end.specs.Ends.{err_kept}
+use Rattle.place_laws.specs.Puts.{new_ok, new_err}
 use Rattle.place_laws.specs.Ways.{alone_full, alone_done}
-use Rattle.place_conflict.specs.Asks.{asks_fair, asks_inst, asks_full, asks_room, asks_fit, asks_space, asks_ready}
+use Rattle.place_conflict.specs.Asks.{asks_fair}
 use Rattle.place_conflict.proofs.conflict_alone.Goals as goal
 
-pub returns-then-not-has_room : goal.returns-then-not-has_room
-returns-then-not-has_room c = λ st h sd ec sane eh.
-    alone_full _ _ _ _ _ _ _ st _ h _ _
-    (asks_full _ _ _ _ _ _ _ _ _ _ _ _ _ _ c.requires.1 c.args.x.value c.args.x.param _ _ _ _ c.has_room.ensures c.use_count-nu.ensures c.if-not-has_room.true-raw st ec) refl
+pub returns-in_err-new : goal.returns-in_err-new
+returns-in_err-new c = let n = new_err _ _ _ _ _ _ _ _ c.write_new.ensures _ c.in_err-new.was in
+    λ st h sd ec sane eh. alone_full _ _ _ _ _ _ _ st _ h _ _ (n.1 st sd.tables ec) (err_kept _ _ c.from_residual.ensures.1 ∙ ap Err n.0)
 
-pub write_conflict-requires : goal.write_conflict-requires
-write_conflict-requires c = let k = c.requires.1 in
-    let e = c.use_count-nu.ensures in
-    let f = asks_fit _ _ _ _ _ _ _ _ _ _ _ _ _ _ k c.args.x.value c.args.x.param _ _ _ _ c.has_room.ensures e c.if-not-has_room.false-raw in
-    let i = asks_inst _ _ _ _ _ _ _ _ _ _ _ _ _ _ k c.args.x.value c.args.x.param in
-    record { fits = (k.rows, k.long); room = (omega (arith, f.1), omega (arith, e, f.2), omega (arith, e, f.2, k.small.2), omega (arith, i)) }
-
-pub finish_alone-n-requires : goal.finish_alone-n-requires
-finish_alone-n-requires c = let k = c.requires.1 in
-    (c.requires.0, omega (arith, c.write_conflict, k.long), asks_space _ _ _ _ _ _ _ _ _ _ _ _ _ _ k c.args.x.value c.args.x.param _ _ _ c.has_room.ensures c.use_count-nu.ensures c.if-not-has_room.false-raw)
+pub finish_alone-requires : goal.finish_alone-requires
+finish_alone-requires c = (c.requires.0, omega (arith, c.write_new, c.requires.1.long), (new_ok _ c.write_new.ensures _ c.in_ok-new.was).space)
 
 pub returns : goal.returns
-returns c = let k = c.requires.1 in
-    let e = c.use_count-nu.ensures in
+returns c = let n = new_ok _ c.write_new.ensures _ c.in_ok-new.was in
     λ st h sd ec sane eh.
-    alone_done _ _ _ _ _ _ _ st _ h _ _ _ _ sd sane (asks_fair _ _ _ _ _ _ _ _ _ _ _ _ _ _ k c.args.x.value c.args.x.param)
-    (asks_room _ _ _ _ _ _ _ _ _ _ _ _ _ _ k c.args.x.value c.args.x.param _ _ _ _ c.has_room.ensures e c.if-not-has_room.false-raw st ec)
-    (c.finish_alone-n.ensures.1 _ st _ h (asks_ready _ _ _ _ _ _ _ _ _ _ _ _ _ _ k c.args.x.value c.args.x.param _ _ st sd.tables ec (c.write_conflict.ensures _ refl) e) eh) refl
+    alone_done _ _ _ _ _ _ _ st _ h _ _ _ _ sd sane (asks_fair c.requires.1 _ _) (n.room st sd.tables ec) (c.finish_alone.ensures.1 _ st _ h (n.ready st sd.tables ec) eh) refl

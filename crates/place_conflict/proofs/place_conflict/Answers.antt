@@ -1,43 +1,40 @@
 use mathlib.Core.Path.{refl}
-use borrow.Author.Tests.{not-true, not-false}
-use Rattle.constraints.specs.Held.{held_of}
-use Rattle.place_laws.specs.Held.{group_held, group_some, reg_some, way_alone, way_lead, way_join, way_merge, class_held}
+use Rattle.constraints.specs.Held.{group_held, held_of}
+use Rattle.place_laws.specs.Held.{way_alone, way_lead, way_join, way_merge, class_held}
 use Rattle.place_end.specs.Ends.{ends_by}
 use Rattle.place_conflict.specs.Asks.{asks_more}
 use Rattle.place_conflict.proofs.place_conflict.Goals as goal
 
 pub conflict_alone-requires : goal.conflict_alone-requires
-conflict_alone-requires c = (c.requires.0, asks_more _ _ _ _ _ _ _ _ _ _ _ _ _ _ _ (λ st x. tt) c.requires.1)
+conflict_alone-requires c = (c.requires.0, asks_more (λ st x. tt) c.requires.1)
 
-pub returns-then-not-held : goal.returns-then-not-held
-returns-then-not-held c = λ st sd ec sane hf.
-    ends_by _ _ _ _ _ _ _ _ _ _ _ (way_alone _ _ _ c.args.held _ st (not-true _ c.if-not-held.true)) (c.conflict_alone.ensures st (held_of c.args.held) sd ec sane (class_held c.args.held))
+pub returns-in_default : goal.returns-in_default
+returns-in_default c = let h = c.args.held in
+    λ st sd ec sane hf. ends_by _ _ _ _ _ _ _ _ _ _ _ (way_alone _ _ _ h _ st c.in_default.is) (c.conflict_alone.ensures st (held_of h) sd ec sane (class_held h))
 
 pub conflict_lead-requires : goal.conflict_lead-requires
-conflict_lead-requires c = let i = c.requires.1.more.0.index (not-false _ c.if-not-held.false) in
-    (c.requires.0, asks_more _ _ _ _ _ _ _ _ _ _ _ _ _ _ _ (λ st x. tt) c.requires.1, i.0, i.1)
+conflict_lead-requires c = let i = c.requires.1.more.0.index _ c.in-Some.is in
+    (c.requires.0, asks_more (λ st x. tt) c.requires.1, i.0, i.1)
 
-pub returns-then-held-eq0 : goal.returns-then-held-eq0
-returns-then-held-eq0 c = λ st sd ec sane hf.
-    ends_by _ _ _ _ _ _ _ _ _ _ _ (way_lead _ _ _ c.args.held _ st (not-false _ c.if-not-held.false) c.if-held-eq0.true)
-    (c.conflict_lead.ensures st (held_of c.args.held) (group_held c.args.held) sd ec sane (class_held c.args.held) refl)
+pub returns-in_default-mapped : goal.returns-in_default-mapped
+returns-in_default-mapped c = let h = c.args.held in
+    λ st sd ec sane hf.
+    ends_by _ _ _ _ _ _ _ _ _ _ _ (way_lead _ _ _ h _ st _ c.in-Some.is c.in_default-mapped.is) (c.conflict_lead.ensures st (held_of h) (group_held _) sd ec sane (class_held h) refl)
 
 pub conflict_join-requires : goal.conflict_join-requires
-conflict_join-requires c = (c.requires.0, asks_more _ _ _ _ _ _ _ _ _ _ _ _ _ _ _ (λ st x. x.0.group (not-false _ c.if-not-held.false) _ (group_some _ c.if-held-eq0.false)) c.requires.1)
+conflict_join-requires c = (c.requires.0, asks_more (λ st x. x.0.group _ _ c.in-Some.is c.in-Some-mapped.is) c.requires.1)
 
-pub returns-then-held-eq0-2 : goal.returns-then-held-eq0-2
-returns-then-held-eq0-2 c = let g = not-false _ c.if-not-held.false in
-    let q = group_some _ c.if-held-eq0.false in
+pub returns-in-None : goal.returns-in-None
+returns-in-None c = let h = c.args.held in
     λ st sd ec sane hf.
-    ends_by _ _ _ _ _ _ _ _ _ _ _ (way_join _ _ _ c.args.held _ st _ g q c.if-held-eq0-2.true) (c.conflict_join.ensures st (held_of c.args.held) (group_held c.args.held) sd ec sane (class_held c.args.held) refl (hf.group g _ q))
+    ends_by _ _ _ _ _ _ _ _ _ _ _ (way_join _ _ _ h _ st _ c.in-Some.is _ c.in-Some-mapped.is c.in-None.is)
+    (c.conflict_join.ensures st (held_of h) (group_held _) sd ec sane (class_held h) refl (hf.group _ _ c.in-Some.is c.in-Some-mapped.is))
 
 pub conflict_merge-requires : goal.conflict_merge-requires
-conflict_merge-requires c = let g = not-false _ c.if-not-held.false in
-    (c.requires.0, asks_more _ _ _ _ _ _ _ _ _ _ _ _ _ _ _ (λ st x. ((x.0.group g _ (group_some _ c.if-held-eq0.false)).0, x.0.target g _ (reg_some _ c.if-held-eq0-2.false), x.1)) c.requires.1)
+conflict_merge-requires c = (c.requires.0, asks_more (λ st x. ((x.0.group _ _ c.in-Some.is c.in-Some-mapped.is).0, x.0.target _ _ c.in-Some.is c.in-Some-target.is, x.1)) c.requires.1)
 
-pub returns : goal.returns
-returns c = let g = not-false _ c.if-not-held.false in
-    let q = group_some _ c.if-held-eq0.false in
-    let v = reg_some _ c.if-held-eq0-2.false in
+pub returns-in-Some-target : goal.returns-in-Some-target
+returns-in-Some-target c = let h = c.args.held in
     λ st sd ec sane hf.
-    ends_by _ _ _ _ _ _ _ _ _ _ _ (way_merge _ _ _ c.args.held _ st _ _ g q v) (c.conflict_merge.ensures st (held_of c.args.held) (group_held c.args.held) sd ec sane (class_held c.args.held) refl (hf.group g _ q).0 (hf.target g _ v))
+    ends_by _ _ _ _ _ _ _ _ _ _ _ (way_merge _ _ _ h _ st _ c.in-Some.is _ c.in-Some-mapped.is _ c.in-Some-target.is)
+    (c.conflict_merge.ensures st (held_of h) (group_held _) sd ec (class_held h) refl ((hf.group _ _ c.in-Some.is c.in-Some-mapped.is).0, hf.target _ _ c.in-Some.is c.in-Some-target.is, sane))

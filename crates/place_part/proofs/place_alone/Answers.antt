@@ -1,30 +1,21 @@
-use mathlib.Core.Path.{refl, sym, ◌∙◌}
+use mathlib.Core.Path.{refl, ap, ◌∙◌}
 use native.Mathlib.Omega.{arith}
-use Rattle.set_part.proofs.Bounds.{first_le_end}
+use Rattle.std.specs.Prelude.{Err}
+use Rattle.place_end.specs.Ends.{err_kept}
 use Rattle.place_laws.specs.Kept.{weighable}
-use Rattle.place_part.proofs.Parts.{not-true, not-false, part_ready, said_at, asked_write, asked_space, held_class, alone_full, alone_done}
+use Rattle.place_laws.specs.Puts.{new_ok, new_err}
+use Rattle.place_laws.specs.Ways.{alone_full, alone_done}
 use Rattle.place_part.proofs.place_alone.Goals as goal
 
-pub overflow_add-np : goal.overflow_add-np
-overflow_add-np c = omega (arith, c.requires.part.within, c.args.fr.now.job.fits.segments, c.args.fr.now.short)
+pub returns-in_err-new : goal.returns-in_err-new
+returns-in_err-new c = let n = new_err _ _ _ _ _ _ _ _ c.write_new.ensures _ c.in_err-new.was in
+    λ st h q eh. alone_full _ _ _ _ _ _ _ st _ h _ _ (n.1 st q.stands.tables q.counts) (err_kept _ _ c.from_residual.ensures.1 ∙ ap Err n.0)
 
-pub overflow_sub-nu : goal.overflow_sub-nu
-overflow_sub-nu c = first_le_end _ _ _ c.requires.part
-
-pub returns-then-not-has_room : goal.returns-then-not-has_room
-returns-then-not-has_room c = let a = c.requires in
-    λ st q f. alone_full _ _ _ _ _ _ _ _ _ st _ _ _ _ q (sym (said_at _ _ _ _ _ st _ _ _ _ _ a.part q.counts c.has_room.ensures) ∙ not-true c.has_room.result c.if-not-has_room.true-raw) refl
-
-pub write_part-requires : goal.write_part-requires
-write_part-requires c = let a = c.requires in
-    record { fits = (a.part, a.ready.marks, a.long); room = asked_write _ _ _ _ _ _ _ _ _ _ _ _ a _ _ c.has_room.ensures (not-false c.has_room.result c.if-not-has_room.false-raw) }
-
-pub finish_alone-n-requires : goal.finish_alone-n-requires
-finish_alone-n-requires c = let a = c.requires in
-    (weighable _ _ _ _ a.ready a.book, omega (arith, a.long, c.write_part), asked_space _ _ _ _ _ _ _ _ _ _ _ _ a _ _ c.has_room.ensures (not-false c.has_room.result c.if-not-has_room.false-raw))
+pub finish_alone-requires : goal.finish_alone-requires
+finish_alone-requires c = let a = c.requires in
+    (weighable _ _ _ _ a.ready a.book, omega (arith, a.long, c.write_new), (new_ok _ c.write_new.ensures _ c.in_ok-new.was).space)
 
 pub returns : goal.returns
-returns c = let a = c.requires in
-    λ st q f.
-    alone_done _ _ _ _ _ _ _ _ _ st _ _ _ _ q _ (sym (said_at _ _ _ _ _ st _ _ _ _ _ a.part q.counts c.has_room.ensures) ∙ not-false c.has_room.result c.if-not-has_room.false-raw) refl f
-    (c.finish_alone-n.ensures.1 _ st _ _ (part_ready _ _ _ _ _ _ st _ _ _ _ _ q.stands.tables q.counts a.part f c.write_part.ensures c.hint_in_part-hint.ensures) (held_class _))
+returns c = let n = new_ok _ c.write_new.ensures _ c.in_ok-new.was in
+    λ st h q eh.
+    alone_done _ _ _ _ _ _ _ st _ h _ _ _ _ q.stands q.sane c.requires.fair (n.room st q.stands.tables q.counts) (c.finish_alone.ensures.1 _ st _ h (n.ready st q.stands.tables q.counts) eh) refl

@@ -1,42 +1,34 @@
-use mathlib.Core.Path.{refl, sym, ◌∙◌}
+use mathlib.Core.Path.{refl, ap, ◌∙◌}
 use native.Mathlib.Omega.{arith}
-use Rattle.set_part.proofs.Bounds.{first_le_end}
+use Rattle.std.specs.Prelude.{Err}
+use Rattle.virt_regs.specs.Reads.{size_le}
 use Rattle.place.specs.Laws.{spreadable_written}
+use Rattle.place_end.specs.Ends.{err_kept}
 use Rattle.place_laws.specs.Kept.{weighable}
-use Rattle.place_part.proofs.Parts.{not-true, not-false, part_ready, said_at, asked_write, asked_space, held_class}
-use Rattle.place_part.proofs.Groups.{asked_index, asked_group, join_full, join_done}
+use Rattle.place_laws.specs.Puts.{new_ok, new_err}
+use Rattle.place_laws.specs.Ways.{join_full, join_done}
+use Rattle.place_part.specs.Asked.{asks_more}
 use Rattle.place_part.proofs.place_join.Goals as goal
 
-pub overflow_add-np : goal.overflow_add-np
-overflow_add-np c = omega (arith, c.requires.0.part.within, c.args.fr.now.job.fits.segments, c.args.fr.now.short)
+pub write_new-requires : goal.write_new-requires
+write_new-requires c = asks_more (λ st x s. tt) c.requires
 
-pub overflow_sub-nu : goal.overflow_sub-nu
-overflow_sub-nu c = first_le_end _ _ _ c.requires.0.part
+pub returns-in_err-new : goal.returns-in_err-new
+returns-in_err-new c = let n = new_err _ _ _ _ _ _ _ _ c.write_new.ensures _ c.in_err-new.was in
+    λ st h hg q eh ei ig. join_full _ _ _ _ _ _ _ st _ h _ _ hg _ (n.1 st q.stands.tables q.counts) (err_kept _ _ c.from_residual.ensures.1 ∙ ap Err n.0)
 
-pub returns-then-not-has_room : goal.returns-then-not-has_room
-returns-then-not-has_room c = let a = c.requires.0 in
-    λ st q hf f. join_full _ _ _ _ _ _ _ _ _ st _ _ _ _ _ _ q (sym (said_at _ _ _ _ _ st _ _ _ _ _ a.part q.counts c.has_room.ensures) ∙ not-true c.has_room.result c.if-not-has_room.true-raw) refl
-
-pub write_part-requires : goal.write_part-requires
-write_part-requires c = let a = c.requires.0 in
-    record { fits = (a.part, a.ready.marks, a.long); room = asked_write _ _ _ _ _ _ _ _ _ _ _ _ a _ _ c.has_room.ensures (not-false c.has_room.result c.if-not-has_room.false-raw) }
-
-pub finish_join-n-requires : goal.finish_join-n-requires
-finish_join-n-requires c = let p = c.requires in
-    let a = p.0 in
-    let yes = not-false c.has_room.result c.if-not-has_room.false-raw in (
+pub finish_join-requires : goal.finish_join-requires
+finish_join-requires c = let a = c.requires in
+    let n = new_ok _ c.write_new.ensures _ c.in_ok-new.was in (
       weighable _ _ _ _ a.ready a.book,
-      omega (arith, a.long, c.write_part),
-      asked_space _ _ _ _ _ _ _ _ _ _ _ _ a _ _ c.has_room.ensures yes,
-      spreadable_written _ _ _ a.st _ _ _ _ _ a.holds c.write_part.ensures (a.fits.group p.1 _ p.2).0,
-      asked_group _ _ _ _ _ _ _ _ _ _ _ _ a _ p.1 p.2,
-      asked_index _ _ _ _ _ _ _ _ _ _ _ _ a p.1,
+      omega (arith, a.long, c.write_new),
+      n.space,
+      spreadable_written _ _ _ a.st c.args.g _ _ _ _ a.holds n.written a.fits.0,
+      omega (arith, a.fits.0, a.holds.fit_groups, a.groups),
+      omega (arith, a.fits.1, size_le _ _ a.st a.holds c.args.g a.fits.0),
     )
 
 pub returns : goal.returns
-returns c = let p = c.requires in
-    let a = p.0 in
-    let yes = not-false c.has_room.result c.if-not-has_room.false-raw in
-    λ st q hf f.
-    join_done _ _ _ _ _ _ _ _ _ st _ _ _ _ _ _ q _ (sym (said_at _ _ _ _ _ st _ _ _ _ _ a.part q.counts c.has_room.ensures) ∙ yes) refl f
-    (c.finish_join-n.ensures.1 _ st _ _ _ (part_ready _ _ _ _ _ _ st _ _ _ _ _ q.stands.tables q.counts a.part f c.write_part.ensures c.hint_in_part-hint.ensures) (held_class _) refl (hf.group p.1 _ p.2).0 (hf.group p.1 _ p.2).1)
+returns c = let n = new_ok _ c.write_new.ensures _ c.in_ok-new.was in
+    λ st h hg q eh ei ig.
+    join_done _ _ _ _ _ _ _ st _ h _ _ hg _ _ _ q.stands q.sane c.requires.fair (n.room st q.stands.tables q.counts) (c.finish_join.ensures.1 _ st _ h hg (n.ready st q.stands.tables q.counts) eh ei ig.0 ig.1) refl

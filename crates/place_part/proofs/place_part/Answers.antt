@@ -1,25 +1,39 @@
-use Rattle.place_part.proofs.Parts.{not-true, not-false}
-use Rattle.place_laws.specs.Held.{group_some, reg_some, way_alone, way_lead, way_join, way_merge}
+use mathlib.Core.Path.{refl}
+use Rattle.constraints.specs.Held.{group_held, held_of}
+use Rattle.place_laws.specs.Held.{way_alone, way_lead, way_join, way_merge, class_held}
 use Rattle.place_end.specs.Ends.{ends_by}
+use Rattle.place_part.specs.Asked.{asks_more}
 use Rattle.place_part.proofs.place_part.Goals as goal
 
-pub returns-then-not-held : goal.returns-then-not-held
-returns-then-not-held c = λ st q hf f. ends_by _ _ _ _ _ _ _ _ _ _ _ (way_alone _ _ _ _ _ st (not-true _ c.if-not-held.true)) (c.place_alone.ensures st q f)
+pub place_alone-requires : goal.place_alone-requires
+place_alone-requires c = asks_more (λ st x s. tt) c.requires
+
+pub returns-in_default : goal.returns-in_default
+returns-in_default c = let h = c.args.held in
+    λ st q hf f. ends_by _ _ _ _ _ _ _ _ _ _ _ (way_alone _ _ _ h _ st c.in_default.is) (c.place_alone.ensures st (held_of h) q (class_held h))
 
 pub place_lead-requires : goal.place_lead-requires
-place_lead-requires c = (c.requires, not-false _ c.if-not-held.false)
+place_lead-requires c = let i = c.requires.fits.index _ c.in-Some.is in
+    (asks_more (λ st x s. tt) c.requires, i.0, i.1)
 
-pub returns-then-held-eq0 : goal.returns-then-held-eq0
-returns-then-held-eq0 c = λ st q hf f. ends_by _ _ _ _ _ _ _ _ _ _ _ (way_lead _ _ _ _ _ st (not-false _ c.if-not-held.false) c.if-held-eq0.true) (c.place_lead.ensures st q hf f)
+pub returns-in_default-mapped : goal.returns-in_default-mapped
+returns-in_default-mapped c = let h = c.args.held in
+    λ st q hf f. ends_by _ _ _ _ _ _ _ _ _ _ _ (way_lead _ _ _ h _ st _ c.in-Some.is c.in_default-mapped.is) (c.place_lead.ensures st (held_of h) (group_held _) q (class_held h) refl)
 
 pub place_join-requires : goal.place_join-requires
-place_join-requires c = (c.requires, not-false _ c.if-not-held.false, group_some _ c.if-held-eq0.false)
+place_join-requires c = asks_more (λ st x s. x.group _ _ c.in-Some.is c.in-Some-mapped.is) c.requires
 
-pub returns-then-held-eq0-2 : goal.returns-then-held-eq0-2
-returns-then-held-eq0-2 c = λ st q hf f. ends_by _ _ _ _ _ _ _ _ _ _ _ (way_join _ _ _ _ _ st _ (not-false _ c.if-not-held.false) (group_some _ c.if-held-eq0.false) c.if-held-eq0-2.true) (c.place_join.ensures st q hf f)
+pub returns-in-None : goal.returns-in-None
+returns-in-None c = let h = c.args.held in
+    λ st q hf f.
+    ends_by _ _ _ _ _ _ _ _ _ _ _ (way_join _ _ _ h _ st _ c.in-Some.is _ c.in-Some-mapped.is c.in-None.is)
+    (c.place_join.ensures st (held_of h) (group_held _) q (class_held h) refl (hf.group _ _ c.in-Some.is c.in-Some-mapped.is))
 
 pub place_merge-requires : goal.place_merge-requires
-place_merge-requires c = (c.requires, not-false _ c.if-not-held.false, group_some _ c.if-held-eq0.false, reg_some _ c.if-held-eq0-2.false)
+place_merge-requires c = asks_more (λ st x s. ((x.group _ _ c.in-Some.is c.in-Some-mapped.is).0, x.target _ _ c.in-Some.is c.in-Some-target.is, s)) c.requires
 
-pub returns : goal.returns
-returns c = λ st q hf f. ends_by _ _ _ _ _ _ _ _ _ _ _ (way_merge _ _ _ _ _ st _ _ (not-false _ c.if-not-held.false) (group_some _ c.if-held-eq0.false) (reg_some _ c.if-held-eq0-2.false)) (c.place_merge.ensures st q hf f)
+pub returns-in-Some-target : goal.returns-in-Some-target
+returns-in-Some-target c = let h = c.args.held in
+    λ st q hf f.
+    ends_by _ _ _ _ _ _ _ _ _ _ _ (way_merge _ _ _ h _ st _ c.in-Some.is _ c.in-Some-mapped.is _ c.in-Some-target.is)
+    (c.place_merge.ensures st (held_of h) (group_held _) q (class_held h) refl ((hf.group _ _ c.in-Some.is c.in-Some-mapped.is).0, hf.target _ _ c.in-Some.is c.in-Some-target.is, q.sane))

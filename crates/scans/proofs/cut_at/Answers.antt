@@ -1,24 +1,19 @@
-use mathlib.Core.Path.{sym, ◌∙◌}
+use native.Mathlib.Omega.{arith}
+use mathlib.Core.Path.{refl, sym, ◌∙◌}
+use Rattle.std.proofs.lemmas.Map.Keys.{ge_from_not_lt}
 use Rattle.rows.specs.RowsAt.{length_rows_at}
 use Rattle.function.specs.Blocks.{block_row}
-use Rattle.scans.proofs.Steps.{by_side}
+use Rattle.layout.specs.JobWords.{words_in}
+use Rattle.scans.proofs.Steps.{early_behind, late_behind, by_side}
 use Rattle.scans.proofs.cut_at.Goals as goal
 
-pub cut_side-requires : goal.cut_side-requires
-cut_side-requires c = c.requires.1
-
-pub early_at-requires : goal.early_at-requires
-early_at-requires c = let r = c.requires.0 in
-    (r.some_block, r.few_blocks, r.room, c.requires.2)
-
-pub late_at-requires : goal.late_at-requires
-late_at-requires c = let r = c.requires.0 in
-    (r.some_block, r.few_blocks, r.room, c.requires.2)
+pub returns-then-lt : goal.returns-then-lt
+returns-then-lt c = let r = c.requires.0 in
+    let job = c.args.fr.now.job in
+    c.cut.ensures _ (record { starts = r.starts; long = omega (arith, length_rows_at block_row (words_in job) job.lay.blocks.at 2 job.lay.blocks.n, r.few_blocks) }) c.requires.2
 
 pub returns-in-Early : goal.returns-in-Early
-returns-in-Early c = by_side _ _ _ _ _ _ (sym c.cut_side.ensures ∙ c.in-Early.is)
-    (c.early_at.ensures _ c.requires.0.starts (length_rows_at block_row _ _ 2 _) c.requires.3)
+returns-in-Early c = by_side _ _ _ _ _ _ c.in-Early.is (early_behind _ _ _ _ (ge_from_not_lt _ _ (sym c.lt.ensures ∙ c.if-lt.false)) refl)
 
 pub returns-in-Late : goal.returns-in-Late
-returns-in-Late c = by_side _ _ _ _ _ _ (sym c.cut_side.ensures ∙ c.in-Late.is)
-    (c.late_at.ensures _ c.requires.0.starts (length_rows_at block_row _ _ 2 _) c.requires.3)
+returns-in-Late c = by_side _ _ _ _ _ _ c.in-Late.is (late_behind _ _ _ (ge_from_not_lt _ _ (sym c.lt.ensures ∙ c.if-lt.false)))

@@ -17,11 +17,11 @@ returns-in_default-failed c st hs = let r = rw c.in-Some.is at c.scan_uses-r.ens
 pub part_at-requires : goal.part_at-requires
 part_at-requires c = let r = rw c.in-Some.is at c.scan_uses-r.ensures.within in
     let b = rw c.in-Some-failed.is at c.scan_back-back.ensures.within in
-    (c.requires.0, omega (arith, r, b), omega (arith, r, b), c.requires.4, c.requires.5)
+    (c.requires.0, omega (arith, r, b), omega (arith, r, b), c.requires.4)
 
 pub returns : goal.returns
 returns c st hs = let r = rw c.in-Some.is at c.scan_uses-r.ensures.within in
     let b = rw c.in-Some-failed.is at c.scan_back-back.ensures.within in
     move_part _ st _ _ _ c.fresh_held-first.ensures _ _ (c.scan_uses-r.ensures.ends st hs) _ c.in-Some.is _
     (back_is _ st _ _ _ _ _ _ _ r.0 r.1 (c.scan_back-back.ensures.ends st hs)) _ _ c.in-Some-failed.is b.0 b.1
-    (c.part_at.ensures _ _ b.0 (omega (arith, b.1, r.1)) r.0 r.1)
+    (rw c.cut_side-side.ensures at (c.part_at.ensures _ _ b.0 (omega (arith, b.1, r.1)) r.0 r.1))

@@ -19,7 +19,7 @@ pub cut_at-requires : goal.cut_at-requires
 cut_at-requires c = let r = c.requires.0 in
     let px = pos_within _ _ _ c.args.fr.now.job.lay _ _ _ c.marked_use-x.ensures (r.within c.requires.3 _ c.requires.1) in
     let py = pos_within _ _ _ c.args.fr.now.job.lay _ _ _ c.marked_use-y.ensures (r.within c.requires.3 _ c.requires.2) in
-    (r, c.requires.4, omega (arith, r.few_insts, px, py), omega (arith, px, py))
+    (r, omega (arith, r.few_insts, px, py), omega (arith, px, py))
 
 pub returns : goal.returns
 returns c a b ls ms le me = part_cut _ _ _ a b _ _ ls ms le me _ _ c.marked_use-x.ensures c.marked_use-y.ensures _ _

@@ -7,4 +7,5 @@ pub returns-then-lt : goal.returns-then-lt
 returns-then-lt c =
     let le : c.start_at-from.result.0 ≤ c.args.inst.0 = grind (arith, nat_tests, c.if-le.ensures) in
     let lt : c.args.inst.0 < c.start_at.result.0 = grind (arith, nat_tests, c.if-lt.ensures) in
-    near_here _ _ _ _ _ _ _ c.start_at-from.ensures c.start_at.ensures c.requires.0 le lt
+    let near = near_here _ _ _ _ _ _ _ c.start_at-from.ensures c.start_at.ensures c.requires le lt in
+    (near.0, λ bs e. near.1 bs e.starts e.long)
