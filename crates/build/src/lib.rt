@@ -6,7 +6,6 @@ ghost use Rattle.words.specs.Words.{word_count, words_of};
 ghost use Rattle.definition.specs.Build.{build};
 ghost use Rattle.definition.specs.Entry.{answer};
 ghost use Rattle.job.specs.Job.{raw_job, raw_in};
-ghost use Rattle.job_shape.specs.Shape.{Shaped};
 ghost use Rattle.job_shape.specs.Answer.{binary_answer};
 ghost use Rattle.virt_regs.specs.Encoding.{room_of};
 ghost use Rattle.work_layout.specs.Regions.{max_work};
@@ -18,20 +17,19 @@ use build_answer::{BuildEnd, out_layout, refuse, tables_bytes};
 use build_sets::build_sets;
 use definition::Refusal;
 use entry::{Entered, enter_prepared};
-use frame::frame_of;
-use job_shape::find_layout;
+use job_shape::{ShapedJob, find_layout};
 use layout::Job;
 use place_end::NotPlaced;
 use spans::clear;
 use virt_regs::{Counts, OutLayout};
 
-// The number of why the sets are not built: 8 for a stop, 9 for a full table.
+// The number of why the sets are not built, which C gets: 8 for a stop, 9 for a full table.
 fn end_number(e: NotPlaced) -> u32
     ensures { result ≡ end_number e }
 {
     match e {
-        NotPlaced::Stopped(_) => 8,
-        NotPlaced::Full => 9,
+        NotPlaced::Stopped(s) => Refusal::Stopped(s).number(),
+        NotPlaced::Full => Refusal::Full.number(),
     }
 }
 
@@ -61,12 +59,7 @@ pub fn build_entered(
     ensures { Answered (length out.old) ol
         (build (raw_job (words_of job.now) e.lay) (room_of ol)) result out.new }
 {
-    let job = Job {
-        bytes: job,
-        lay: e.lay,
-    };
-    let fr = frame_of(&job, ol, e.wl);
-    match build_sets(&fr, out, work) {
+    match build_sets(job, &e.lay, out, ol, work, e.wl) {
         Err(why) => {
             let number = end_number(why);
             clear(out);
@@ -77,12 +70,12 @@ pub fn build_entered(
 }
 
 // A job of good shape, in such tables.
-pub fn build_shaped(job: &Job, out: &mut [u8], ol: OutLayout, work: &mut [u8]) -> BuildEnd
-    requires { Shaped job.now.bytes.now job.now.lay × (max_work ≤ word_count work.old) × Cleared ol out.old }
-    ensures { Answered (length out.old) ol (answer (raw_in job.now) (room_of ol)) result out.new }
+pub fn build_shaped(shaped: &ShapedJob, out: &mut [u8], ol: OutLayout, work: &mut [u8]) -> BuildEnd
+    requires { (max_work ≤ word_count work.old) × Cleared ol out.old }
+    ensures { Answered (length out.old) ol (answer (raw_in shaped.now.job) (room_of ol)) result out.new }
 {
-    match enter_prepared(job, work) {
-        Ok(e) => build_entered(job.bytes, e, out, ol, work),
+    match enter_prepared(shaped, work) {
+        Ok(e) => build_entered(shaped.job.bytes, e, out, ol, work),
         Err(r) => refuse(r.number()),
     }
 }
@@ -108,5 +101,6 @@ pub fn build_initial_vregs(
     };
     let end = tables_bytes(ol);
     let job = Job { bytes: job, lay };
-    build_shaped(&job, &mut out[..end], ol, work)
+    let shaped = ShapedJob { job };
+    build_shaped(&shaped, &mut out[..end], ol, work)
 }

@@ -17,7 +17,6 @@ use Rattle.virt_regs.specs.Encoding.{seg_base, use_base, group_base, tables_end,
 use Rattle.work_layout.specs.declared.WorkLayout.{WorkLayout}
 use Rattle.entry.specs.Accepted.{Prepared}
 use Rattle.constraints.specs.Ready.{operands_in, Mapping}
-use Rattle.place_end.specs.Ends.{Sane}
 use Rattle.build_state.specs.Fits.{StandsAs}
 use Rattle.build_state.specs.Placing.{empty_fits}
 

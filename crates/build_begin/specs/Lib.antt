@@ -5,4 +5,3 @@ pub mod Empty
 pub mod Sets
 pub mod Laid
 pub mod Loop
-pub mod InFrame

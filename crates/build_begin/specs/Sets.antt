@@ -18,7 +18,7 @@ use Rattle.definition.proofs.Admission.{UseFits, SegFits}
 use Rattle.uses.specs.Rows.{use_row}
 use Rattle.layout.specs.declared.Layout.{Layout}
 use Rattle.layout.specs.Layout.{segment_of}
-use Rattle.job.specs.Job.{job_by, job_of}
+use Rattle.job.specs.Job.{job_of}
 use Rattle.virt_regs.specs.Each.{Each, each_front, each_back}
 use Rattle.vreg_weight.specs.Sorted.{fit_sorted}
 use Rattle.vreg_weight.specs.Sound.{Sound, all_each, each_uses, accepted_sound}

@@ -7,7 +7,7 @@ use lib.ListN.{length}
 use Rattle.words.specs.Words.{word_count, words_of}
 use Rattle.definition.specs.declared.RegClass.{RegClass}
 use Rattle.definition.specs.declared.ValueSet.{ValueSet}
-use Rattle.definition.specs.Types.{Out}
+use Rattle.definition.specs.Types.{Out, State}
 use Rattle.definition.specs.Build.{Built}
 use Rattle.layout.specs.declared.Layout.{Layout}
 use Rattle.job.specs.Job.{job_of}
@@ -26,7 +26,6 @@ use Rattle.build_part.specs.declared.Step.{Step}
 use Rattle.build_part.specs.declared.Step.TheVariants.{On, Over}
 use Rattle.build_part.specs.Steps.{BuiltFit, BuildsTo, StepReady, Onward, turned_by, OnwardBy, Stepped, GoesOn, StepTo, StepsTo}
 use Rattle.definition.proofs.Fuel.{run}
-use Rattle.definition.specs.Types.{State}
 use Rattle.set_part.specs.Part.{part_segs}
 use Rattle.virt_regs.specs.Encoding.{room_of}
 use Rattle.build_state.specs.Fits.{StandsAs}

@@ -32,7 +32,7 @@ use Rattle.constraints.specs.declared.Held.{Held}
 use Rattle.constraints.specs.Held.{held_of}
 use Rattle.constraints.specs.Ready.{Ready}
 use Rattle.part_maps.specs.Maps.{Outside}
-use Rattle.conflict_piece.specs.Conflict.{turned_rows_of}
+use Rattle.conflict_piece.specs.Conflict.{turned_rows_of, RowsOk}
 use Rattle.vreg_weight.specs.Fair.{Fair}
 use Rattle.std.specs.Prelude.{Result, Ok, Err}
 use Rattle.place_end.specs.declared.NotPlaced.{NotPlaced}
@@ -49,7 +49,6 @@ use Rattle.build_part.specs.declared.Step.{Step}
 use Rattle.build_part.specs.declared.Step.TheVariants.{On}
 use Rattle.build_part.specs.Steps.{BuiltFit, OnwardBy, Stepped, StepTo}
 use Rattle.steps.specs.Built.{Changed}
-use Rattle.conflict_piece.specs.Conflict.{RowsOk}
 use Rattle.build_part.proofs.Parts.{held_ok, state_ok, asked_ok}
 
 module _ {t w n : ℕ} {W K : List ℕ} {lay : Layout} {wl : WorkLayout} {sp : SetPart} (l : Laid t w W K lay wl sp n) (st : State) (top : RegClass) (p : Inst)

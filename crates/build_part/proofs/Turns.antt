@@ -13,7 +13,6 @@ use Rattle.definition.specs.Build.{turn_at}
 use Rattle.definition.proofs.Moves.{ClassAt, move_turn}
 use Rattle.definition.proofs.Fuel.{run}
 use Rattle.layout.specs.declared.Layout.{Layout}
-use Rattle.layout.specs.Layout.{Fits}
 use Rattle.job.specs.Job.{job_of}
 use Rattle.set_part.specs.declared.SetPart.{SetPart}
 use Rattle.set_part.specs.Part.{PartOk, part_segs}

@@ -1,4 +1,5 @@
--- The same by the frame and the slices that are lent. Assumes nothing.
+-- What a step asks and does, and how all steps end, of the frame and the slices. Steps has it of words and layouts.
+-- Assumes nothing.
 use Rattle.std.specs.Prelude.{ℕ, List, Result}
 use Rattle.definition.specs.Types.{Out}
 use Rattle.definition.specs.Build.{Built}

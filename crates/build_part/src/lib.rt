@@ -1,7 +1,7 @@
 // The steps over the working part of a set (builder.rs `compute_constraints`): uses are turned, cuts are made and the parts before them placed, until all is placed or there is a stop.
 #![tactic(auto)]
 
-ghost use Rattle.std.specs.Prelude.{IfOk, ◌+◌, ◌≤◌};
+ghost use Rattle.std.specs.Prelude.{IfOk, ◌+◌};
 ghost use Rattle.words.specs.Words.{words_of};
 ghost use Rattle.layout.specs.JobWords.{words_in};
 ghost use Rattle.definition.specs.Types.{State};

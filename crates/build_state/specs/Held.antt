@@ -1,6 +1,7 @@
 -- What a scan holds fits the state: a place of the class, a group and a register of the state; every group operand that was scanned has
 -- as many places as the class held. Subclassing need not be transitive. Assumes nothing.
-use Rattle.std.specs.Prelude.{◌≡◌, ℕ, ◌≤◌, ◌<◌, Bool, true, get_or}
+use Rattle.std.specs.Prelude.{◌≡◌, ℕ, ◌≤◌, ◌<◌, get_or, Some}
+use Rattle.std.specs.Prelude as code
 use Rattle.std.proofs.Math.Path.{refl, sym, ap, subst}
 use Rattle.std.proofs.Common.{◌∙◌}
 use native.Mathlib.Omega.{arith}
@@ -24,10 +25,11 @@ use Rattle.definition.proofs.Scans.{scan_step}
 use Rattle.definition.proofs.Classes.{Masks, common_in}
 use Rattle.definition.proofs.Tables.{kind_cases}
 use Rattle.definition.proofs.Admission.{asked, size_of, GroupUse, KindFits, UseFits, Sizes}
-use Rattle.members.specs.Places.{reg_of, group_of, given}
+use Rattle.members.specs.Places.{option_of}
 use Rattle.constraints.specs.declared.Held.{Held}
-use Rattle.constraints.specs.Held.{held_of}
-use Rattle.place_laws.specs.Held.{HeldFits}
+use Rattle.constraints.specs.declared.HeldGroup as held
+use Rattle.constraints.specs.Held.{group_held, group_of, held_of}
+use Rattle.place_laws.specs.Held.{InGroup, HeldFits}
 use Rattle.build_state.specs.Fits.{GroupsFit, StateFits}
 
 module _ (J : Job) (st : State) where
@@ -151,26 +153,29 @@ module _ (J : Job) (ms : Masks J) (sz : Sizes J) (st : State) (ok : GroupsFit J 
   -- ---- as the code holds it
 
   module _ (us : List Use) (top : RegClass) (h : Held) (kf : All (UseFits J) us) (e : scan J st us (fresh top) ≡ through (held_of h)) where
-    held_group : h.grouped ≡ true → GroupFit J st h.class (some (record { index = h.index; mapped = group_of h.mapped; sets = h.sets }))
+    held_group : GroupFit J st h.class (group_of h.group)
     unfolding held_of fresh
-    held_group g =
-        subst (λ (b : Bool). GroupFit J st h.class (given b (record { index = h.index; mapped = group_of h.mapped; sets = h.sets }))) g (scan_fit us (fresh top) (held_of h) tt kf e).0
+    held_group = (scan_fit us (fresh top) (held_of h) tt kf e).0
 
-    pub index_fits : h.grouped ≡ true → h.index < (class_at J h.class).size
-    index_fits g = (held_group g).0
+    module _ (g : held.HeldGroup) (eg : h.group ≡ Some g) where
+      group_fit : GroupFit J st h.class (some (group_held g))
+      group_fit = subst (λ (o : code.Option held.HeldGroup). GroupFit J st h.class (group_of o)) eg held_group
 
-    pub group_fits_lem : h.grouped ≡ true → (g : VirtRegGroup) → group_of h.mapped ≡ some g → (g.0 < length st.groups) × (h.index < length (members_at st g))
-    group_fits_lem t g q = let z = subst (λ (m : Option VirtRegGroup). MapFit J st h.class h.index m) q (held_group t).2 in (z.0, z.1)
+      pub index_fits : g.index < (class_at J h.class).size
+      index_fits = group_fit.0
 
-    pub target_fits : Groups st → (v : VirtReg) → reg_of h.target ≡ some v → v.0 < length st.registers
+      pub group_fits_lem : (m : VirtRegGroup) → g.mapped ≡ Some m → InGroup m g.index st
+      group_fits_lem m q = let z = subst (λ (o : code.Option VirtRegGroup). MapFit J st h.class g.index (option_of o)) q group_fit.2 in (z.0, z.1)
+
+    pub target_fits : Groups st → (v : VirtReg) → h.target ≡ Some v → v.0 < length st.registers
     unfolding held_of fresh
-    target_fits gs v q = subst (λ (o : Option VirtReg). Ok (length st.registers) o) q (scan_target J st gs us (fresh top) (held_of h) tt e)
+    target_fits gs v q = subst (λ (o : code.Option VirtReg). Ok (length st.registers) (option_of o)) q (scan_target J st gs us (fresh top) (held_of h) tt e)
 
 -- what a scan holds, from the top class, fits the state
 pub held_fits : (J : Job) → Masks J → Sizes J → ((c : RegClass) → (class_at J c).size ≤ 8) → (st : State) → StateFits J st → (us : List Use) (top : RegClass) (h : Held) → All (UseFits J) us
     → scan J st us (fresh top) ≡ through (held_of h) → HeldFits J st h
 held_fits J ms sz w st f us top h kf e = record {
-  index = λ g. (index_fits J ms sz st f.fit us top h kf e g, w h.class);
-  group = λ t g q. group_fits_lem J ms sz st f.fit us top h kf e t g q;
-  target = λ t v q. target_fits J ms sz st f.fit us top h kf e f.groups v q;
+  index = λ g q. (index_fits J ms sz st f.fit us top h kf e g q, w h.class);
+  group = λ g m q r. group_fits_lem J ms sz st f.fit us top h kf e g q m r;
+  target = λ g v q t. target_fits J ms sz st f.fit us top h kf e f.groups v t;
 }

@@ -1,4 +1,5 @@
--- The same by the frame and the slices that are lent. Assumes nothing.
+-- When the slices stand for a state that fits, and what the builder needs of a job and its tables, of the frame. Fits
+-- and Builds have it of words and layouts. Assumes nothing.
 use Rattle.std.specs.Prelude.{ℕ, List}
 use Rattle.words.specs.Words.{word_count, words_of}
 use Rattle.layout.specs.JobWords.{words_in}

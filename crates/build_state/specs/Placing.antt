@@ -1,9 +1,9 @@
 -- Placing keeps what a state is: groups have as many places as the classes of their members and of the operands mapped to them. Subclassing need not be transitive. Assumes nothing.
 use Rattle.std.proofs.Math.Path.{◌≡◌, refl, subst}
-use Rattle.std.proofs.Common.{ap, sym, ◌∙◌, inl, inr, arith, length-append, get_or-append-add, ltb-true, ltb-false, eqb-true}
-use Rattle.std.specs.Prelude.{◌⊎◌, ℕ, zero, suc, ◌≤◌, ◌<◌, Bool, true, false, cond, ◌&&◌, replicate, ltb, eqb, Float}
+use Rattle.std.proofs.Common.{ap, sym, ◌∙◌, inl, inr, arith, length-append, get_or-append-add, eqb-true}
+use Rattle.std.specs.Prelude.{◌⊎◌, ℕ, zero, suc, ◌<◌, Bool, true, false, cond, ◌&&◌, replicate, eqb, Float}
 use Rattle.std.proofs.Math.Option.{Option, none, some, some-injective}
-use mathlib.Core.List.{List, [], ◌∷◌, ◌++◌, map}
+use mathlib.Core.List.{List, [], ◌∷◌, ◌++◌}
 use Rattle.std.proofs.Math.ListN.{length, get_or, set, length-set, length-replicate, get_or-append}
 use Rattle.definition.specs.declared.Inst.{Inst}
 use Rattle.definition.specs.declared.RegClass.{RegClass}
@@ -18,7 +18,7 @@ use Rattle.definition.specs.Weights.{weight_of}
 use Rattle.definition.specs.Admit.{scan, through, fresh, members_at, mapped_at, register_at, no_register}
 use Rattle.definition.specs.Place.{alone, alone_state, first_from, group_weight, has_room, if_unmapped, inserted, is_none, join, join_state, last_to, lead, lead_state, made, map_one, map_uses, merge, merge_state, on_mapping, or_else, overlaps, place, place_by, place_group, segs_of, spread, update, uses_of, with_pieces}
 use Rattle.definition.specs.Build.{as_own, empty}
-use Rattle.definition.proofs.Places.{All, Ok, Members, Groups, all_map, all_append, all_get_d, all_set, members_ok, gate_done, room_done, placed, scan_target, update_length, own_uses_lem}
+use Rattle.definition.proofs.Places.{All, Ok, Members, Groups, all_map, all_append, all_get_d, all_set, gate_done, room_done, placed, scan_target, update_length, own_uses_lem}
 use Rattle.definition.proofs.Classes.{Masks}
 use Rattle.definition.proofs.Tables.{nth, memb, memb_all, Inside, spread_in, spread_out, spread_len, nth_left, nth_last}
 use Rattle.definition.proofs.Admission.{asked, size_of, UseFits, Sizes}

@@ -1,8 +1,7 @@
 -- A round over turned uses: those that are taken scan through to what is held; and placing them keeps what a state is. Assumes nothing.
-use Rattle.std.specs.Prelude.{◌≡◌, length}
+use Rattle.std.specs.Prelude.{◌≡◌}
 use Rattle.std.proofs.Math.Path.{refl}
 use Prim.Native.Nat.{ℕ, zero, suc}
-use Rattle.std.proofs.Common.{arith}
 use Rattle.std.proofs.Math.Option.{Option, none, some}
 use mathlib.Core.List.{List, [], ◌∷◌, ◌++◌}
 use Rattle.definition.specs.declared.Inst.{Inst}

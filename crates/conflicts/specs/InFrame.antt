@@ -1,13 +1,11 @@
--- The same by the frame and the slices that are lent. Assumes nothing.
+-- What the conflict registers of turned rows ask, and how they and a round end, of the frame and the slices. Conflicts
+-- has it of words and layouts. Assumes nothing.
 use Rattle.std.specs.Prelude.{ℕ, List, Result}
-use Rattle.definition.specs.Types.{Out}
+use Rattle.definition.specs.Types.{Out, State, Turned, Room}
 use Rattle.words.specs.Words.{word_count, words_of}
 use Rattle.layout.specs.JobWords.{words_in}
 use Rattle.job.specs.Job.{job_in}
 use Rattle.frame.specs.declared.lent.Frame.{Frame}
-use Rattle.definition.specs.Types.{State}
-use Rattle.definition.specs.Types.{Turned}
-use Rattle.definition.specs.Types.{Room}
 use Rattle.definition.specs.declared.ValueSet.{ValueSet}
 use Rattle.definition.specs.declared.RegClass.{RegClass}
 use Rattle.virt_regs.specs.declared.Counts.{Counts}

@@ -108,6 +108,7 @@ pub fn place_rounds(
 {
     let mut i = a;
     let mut n = c;
+    // Round by round, and how many rows a round takes is known behind it: no index counts here.
     while i < b {
         let r = place_round(fr, out, work, set, top, x, i, b, n)?;
         n = r.counts;
@@ -161,6 +162,7 @@ pub fn conflicts(
 {
     let mut i = 0;
     let mut k = c;
+    // Instruction by instruction, and how many rows one has is known when it is reached: no index counts here.
     while i < n {
         let e = run_end(fr, work, i, n);
         k = at_inst(fr, out, work, set, top, i, e, k)?;

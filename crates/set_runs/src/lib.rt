@@ -20,7 +20,7 @@ pub fn set_at(job: &Job, i: usize) -> ValueSet
 {
     let lay = &job.lay;
     let s = layout::seg_at(job.bytes, lay.segments.at + i * 5);
-    coalescing::set_for_value(job.bytes, lay.values.at, lay.values.n, s.value)
+    coalescing::set_for_value(&job::values(job), s.value)
 }
 
 // The bank of value v; that of an unknown value is 0.

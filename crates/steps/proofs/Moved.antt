@@ -9,7 +9,7 @@ use Rattle.definition.specs.declared.Inst.{Inst}
 use Rattle.definition.specs.declared.RegClass.{RegClass}
 use Rattle.definition.specs.declared.Stop.{Stop}
 use Rattle.definition.specs.declared.Use.{Use}
-use Rattle.definition.specs.Types.{Job, Segment, State}
+use Rattle.definition.specs.Types.{State}
 use Rattle.definition.specs.Types as types
 use Rattle.definition.specs.Cuts.{left_cut}
 use Rattle.definition.specs.Admit.{whole, turn, cut, halt, move, scan, through, fresh}

@@ -1,4 +1,5 @@
--- The same by the frame and the slices that are lent. Assumes nothing.
+-- That a part is laid out, and that each use has room for a turned row, of the frame and the work slice. Laid and Turns
+-- have it of words and layouts. Assumes nothing.
 use Rattle.std.specs.Prelude.{ℕ, List}
 use Rattle.words.specs.Words.{word_count, words_of}
 use Rattle.layout.specs.JobWords.{words_in}

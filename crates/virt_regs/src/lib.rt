@@ -59,6 +59,7 @@ pub struct Counts {
 }
 
 // A register's row: group is the group's number + 1 or 0, hint 0 or 1.
+// They are words, and no Option and no bool: C reads the row, and a lent table may hold any word there.
 #[derive(Clone, Copy)]
 pub struct RegisterRow {
     pub set: ValueSet,
@@ -115,7 +116,7 @@ pub fn weight_of(out: &[u8], v: VirtReg) -> u32
     register_word(out, v, 2)
 }
 
-// Its group + 1, 0 where it has none.
+// Its group + 1, 0 where it has none: the word as the lent table has it for C, so no Option.
 pub fn group_of(out: &[u8], v: VirtReg) -> u32
     requires { v.0 * 8 + 8 ≤ word_count out.now }
     ensures { result ≡ get_or (words_of out.now) (v.0 * 8 + 3) 0 }
@@ -150,7 +151,8 @@ pub fn group_size(out: &[u8], ol: OutLayout, g: VirtRegGroup) -> u32
     group_word(out, ol, g, 0)
 }
 
-// The register at place i of group g, + 1; 0 where the place is empty.
+// The register at place i of group g, + 1; 0 where the place is empty: the word as the lent table has it for C, so no
+// Option.
 pub fn member_at(out: &[u8], ol: OutLayout, g: VirtRegGroup, i: usize) -> u32
     requires { (tables_end ol ≤ word_count out.now) × (g.0 < ol.groups) × (i < 8) }
     ensures { result ≡ get_or (words_of out.now) (group_base ol + (g.0 * 9 + (i + 1))) 0 }

@@ -22,6 +22,7 @@ pub fn set_class_weight(out: &mut [u8], v: usize, class: RegClass, weight: u32)
 }
 
 // The same for the register that a place's word names, if any.
+// The word is as the lent table has it for C, so no Option: the register + 1, 0 for none.
 pub fn set_at_place(out: &mut [u8], m: u32, class: RegClass, weight: u32)
     requires { m * 8 ≤ word_count out.old }
     ensures { words_of out.new ≡ at_place class.0 weight m (words_of out.old) }

@@ -8,7 +8,7 @@ ghost use Rattle.definition.specs.Admit.{register_at};
 ghost use Rattle.virt_regs.specs.Encoding.{tables_end, counts_of, Holds};
 ghost use Rattle.virt_regs.specs.Reads.{first_use};
 ghost use Rattle.vreg_insert.specs.Raised.{raised};
-ghost use Rattle.vreg_insert.specs.Flat.{or_word, grown, lifted, Liftable};
+ghost use Rattle.vreg_insert.specs.Flat.{grown, lifted, Liftable};
 ghost use Rattle.vreg_insert.specs.Ask.{Ask, Gaps₂};
 ghost use Rattle.vreg_insert.specs.Opened.{Opened};
 

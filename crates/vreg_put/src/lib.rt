@@ -1,7 +1,7 @@
 // Rows put into the result tables: a register's, a piece's, a use's; and whether the tables have room.
 #![tactic(auto)]
 
-ghost use Rattle.std.specs.Prelude.{◌≡◌, List, [], ◌∷◌, ◌+◌, ◌*◌, ◌≤◌, ◌<◌, leb, length};
+ghost use Rattle.std.specs.Prelude.{◌≡◌, List, ◌+◌, ◌*◌, ◌≤◌, ◌<◌, leb, length};
 ghost use Rattle.rows.specs.Parts.{splice};
 ghost use Rattle.words.specs.Words.{word_count, words_of};
 ghost use Rattle.definition.specs.Types.{Piece, State};
@@ -48,6 +48,7 @@ pub fn put_piece(out: &mut [u8], ol: OutLayout, i: usize, row: PieceRow)
 }
 
 // The kind, the instruction and the kind's fields in UseKind's order, zeros behind them.
+// The kind is written as its number, since C reads these rows.
 pub fn use_row(u: Use) -> [u32; 6]
     ensures { result ≡ use_words u }
 {

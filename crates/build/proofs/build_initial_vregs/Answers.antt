@@ -12,9 +12,11 @@ returns-in_default c = answered_as (c.refuse.ensures ∙ ap refused_end c.number
 pub slice_bounds-build_shaped-end-2 : goal.slice_bounds-build_shaped-end-2
 slice_bounds-build_shaped-end-2 c = sym (part_long (length c.args.out.now) _ _ _ _ _ _ _ _ c.clear.ensures.zeroed c.out_layout-ol.ensures refl c.tables_bytes-end.ensures)
 
+pub invariant_of-shaped : goal.invariant_of-shaped
+invariant_of-shaped c = record { shaped = shaped_found _ _ _ c.find_layout.ensures c.in-Some.is }
+
 pub build_shaped-requires : goal.build_shaped-requires
 build_shaped-requires c = (
-  shaped_found _ _ _ c.find_layout.ensures c.in-Some.is,
   omega arith,
   part_cleared (length c.args.out.now) _ _ _ _ _ _ _ _ c.clear.ensures.zeroed c.out_layout-ol.ensures refl c.tables_bytes-end.ensures,
 )

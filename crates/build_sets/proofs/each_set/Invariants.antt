@@ -3,7 +3,7 @@ use Prim.Native.Nat.{◌-◌}
 use lib.ListN.{length}
 use Rattle.words.specs.Words.{words_of, word_count}
 use Rattle.build_sets.proofs.All.{Setting}
-use Rattle.build_sets.proofs.build_sets.Given as goal
+use Rattle.build_sets.proofs.each_set.Given as goal
 
 abbrev pub invariant-loop-a : goal.invariant-loop-a
 invariant-loop-a l = Setting (word_count l.fr.job.bytes.now) (word_count l.initial.work) (word_count l.initial.out) (words_of l.fr.job.bytes.now) l.fr.job.lay l.fr.wl l.fr.ol (words_of l.work) (words_of l.out) l.a l.c × (length l.work ≡ length l.initial.work) × (length l.out ≡ length l.initial.out)
