@@ -10,9 +10,8 @@ use Rattle.definition.specs.Types.{Job}
 use Rattle.definition.specs.JobSheet.{Record}
 use Rattle.lines.specs.Wrote.{Wrote}
 use Rattle.register_sheet.specs.Typed.{refused_line}
-use Rattle.job_pages.specs.Cursors.{Cursor}
+use Rattle.job_pages.specs.Cursors.{Cursor, at_start}
 use Rattle.lines.specs.declared.Page.{Page}
-use Rattle.job_pages.specs.Cursors.{at_start}
 use Rattle.job_pages.specs.Left.{Left, text_left}
 use Rattle.job_pages.specs.Pages.{Shows, Filled, Paged}
 use Rattle.job_pages.specs.Over.{over_text}

@@ -18,6 +18,7 @@ use std::io::{Read, Write};
 use streams::{Broken, Cut, Noted, STDIN, STDOUT, Stream};
 
 // Writes the sheet of a table page by page, up to the first write that fails.
+// Not one with vregs_run::print: the cursor is another, and a closure for the page would carry its contract.
 // The buffer has 256 bytes or more, by a clause: an array would refuse a longer one.
 fn print<W: Write>(
     second: bool,
@@ -107,6 +108,7 @@ pub fn convert<R: Read, W: Write>(
 }
 
 // From a reader to a writer. The streams are descriptors, so the tape, the bytes that it gives and the paper, of one each, are looked at by nobody.
+// The five lines that make them stand in vregs and replay too: a type of all five would be longer to state.
 pub fn convert_input<R: Read, W: Write>(
     second: bool,
     buf: &mut [u8],
@@ -141,6 +143,8 @@ pub fn convert_input<R: Read, W: Write>(
 }
 
 // All of a program that is named `name`, but for its streams. What fails is said on standard error.
+// No clause: no trait promises what arguments, descriptors or standard error hold. What is promised is `convert`'s, and
+// the clauses of `convert_input` hold the tables to their sizes.
 pub fn run<P: Env + Eprint + Alloc, R: Read + Drop, W: Write + Drop>(
     rt: &P,
     name: &str,
@@ -158,7 +162,7 @@ pub fn run<P: Env + Eprint + Alloc, R: Read + Drop, W: Write + Drop>(
     let mut table = [0u8; 174680];
     let mut written = [0u8; 6144];
     let mut work = [0u8; 110600];
-    let r = convert_input(
+    let end = convert_input(
         second,
         &mut buf,
         &mut table,
@@ -167,17 +171,13 @@ pub fn run<P: Env + Eprint + Alloc, R: Read + Drop, W: Write + Drop>(
         &mut source,
         &mut sink,
     );
-    match r {
-        Ok(()) => Ok(()),
-        Err(Broken::Input) => {
-            eprint!(rt; "{name}: ")?;
-            let what = "the job sheet could not be read, and nothing is answered";
-            streams::fail(rt, what, source.reason)
-        }
-        Err(Broken::Output) => {
-            eprint!(rt; "{name}: ")?;
-            let what = "the job sheet could not be written, and is cut";
-            streams::fail(rt, what, sink.reason)
-        }
-    }
+    let unread = "the job sheet could not be read, and nothing is answered";
+    let unwritten = "the job sheet could not be written, and is cut";
+    streams::tell(
+        rt,
+        name,
+        end,
+        (unread, source.reason),
+        (unwritten, sink.reason),
+    )
 }

@@ -7,15 +7,14 @@ use native.Mathlib.Omega.{arith}
 use lib.Dec.{leb, eqb}
 use lib.ListN.{length, get_or, take, drop, length-drop, length-append}
 use lib.Seq.{get_or-take, take_all, take_at, drop-drop, length-take-le}
-use borrow.Author.Tests.{leb-true, le-leb, lt-leb, ne_eqb}
-use Rattle.std.specs.Prelude.{Result, Ok, Err, is_err}
+use borrow.Author.Tests.{leb-true, le-leb, ne_eqb}
+use Rattle.std.specs.Prelude.{Ok, Err}
 use Rattle.definition.specs.Text.{digit_of}
 use Rattle.streams.specs.declared.Stream.{Stream}
-use Rattle.streams.specs.declared.Cut.{Cut}
 use Rattle.streams.specs.Tape.{is_tape, at_of, AllPlayed, Filled}
+use Rattle.streams.proofs.Steps.{never}
 use Rattle.frames.specs.declared.Frame.{Frame}
-use Rattle.frames.specs.declared.NoFrame.{NoFrame}
-use Rattle.frames.specs.declared.NoFrame.TheVariants.{Failed, Ended, Other}
+use Rattle.frames.specs.declared.NoFrame.TheVariants.{Other}
 use Rattle.frames.specs.Frames.{spelled, sheet_size, frame_size, is_head, is_frame}
 use Rattle.frames.specs.Read.{Headed, HeadRead, FrameRead}
 
@@ -33,32 +32,11 @@ and_right : (a b : Bool) → a && b ≡ true → b ≡ true
 and_right true b e = e
 and_right false b e = absurd (false≢true e)
 
-never : {A : Type 0} → false ≡ true → A
-never e = absurd (false≢true e)
-
-ever : {A : Type 0} → true ≡ false → A
-ever e = never (sym e)
-
 no_head : (D : List ℕ) → is_head D ≡ false → is_frame D ≡ false
 no_head D e = ap (λ (b : Bool). b && leb (frame_size D) (length D)) e
 
-too_few : (D : List ℕ) → length D < frame_size D → is_frame D ≡ false
-too_few D h = ap (λ (b : Bool). is_head D && b) (lt-leb (frame_size D) (length D) h) ∙ and_false (is_head D)
-
 some_left : (D : List ℕ) → 1 ≤ length D → false ≡ eqb (length D) 0
 some_left D h = sym (ne_eqb (length D) 0 (λ e. absurd (omega (arith, h, e))))
-
--- ---- a call failed
-
-pub head_failed : (tape given : List ℕ) (s : Stream) (d : Cut) (t : Stream) (H : List ℕ) → Filled tape given s (Err d) t H → HeadRead tape given s (Err Failed) t
-head_failed tape given s d t H q =
-    record {
-      taped = q.taped;
-      bound = q.bound;
-      room = tt;
-      whole = tt;
-      missing = λ y. record { stopped = λ _. (q.played y).stopped refl; none = λ e. ever e; empty = λ e. ever e };
-    }
 
 -- ---- the head: the first 18 bytes say as much as all
 
@@ -74,38 +52,6 @@ module _ (tape given : List ℕ) (s : Stream) (n : ℕ) (t : Stream) (H : List �
 
   played : is_tape s ≡ true → AllPlayed tape given s (Ok n) t H
   played y = q.played y
-
-  left : n < 18 → is_tape s ≡ true → length D ≡ n
-  left g y = omega (arith, length-drop (at_of s) given, (played y).at, (played y).end refl (omega (arith, g, l)))
-
-  -- the input ended before it, or within it
-  pub head_ended : n ≡ 0 → HeadRead tape given s (Err Ended) t
-  head_ended z =
-      record {
-        taped = q.taped;
-        bound = q.bound;
-        room = tt;
-        whole = tt;
-        missing = λ y. record {
-          stopped = λ e. never e;
-          none = λ _. too_few D (omega (arith, left (omega (arith, z)) y, z));
-          empty = λ _. ap (λ (m : ℕ). eqb m 0) (sym (left (omega (arith, z)) y ∙ z));
-        };
-      }
-
-  pub head_short : (n ≡ 0 → ⊥) → n < 18 → HeadRead tape given s (Err Other) t
-  head_short z g =
-      record {
-        taped = q.taped;
-        bound = q.bound;
-        room = tt;
-        whole = tt;
-        missing = λ y. record {
-          stopped = λ e. never e;
-          none = λ _. too_few D (omega (arith, left g y, g));
-          empty = λ _. some_left D (omega (arith, left g y, z));
-        };
-      }
 
   module _ (g : 18 ≤ n) where
     eighteen : n ≡ 18
@@ -168,53 +114,13 @@ module _ (tape given : List ℕ) (s : Stream) (n : ℕ) (t : Stream) (H : List �
 
 -- ---- the parts
 
-pub no_frame_read : (tape given : List ℕ) (s : Stream) (e : NoFrame) (t : Stream) (S A : List ℕ) → HeadRead tape given s (Err e) t → FrameRead tape given s (Err e) t S A
-no_frame_read tape given s e t S A q = record { taped = q.taped; bound = q.bound; sheet = tt; answer = tt; whole = tt; missing = q.missing }
-
 module _ (tape given : List ℕ) (s : Stream) (f : Frame) (u : Stream) (q : HeadRead tape given s (Ok f) u) where
   headed : is_tape s ≡ true → Headed (drop (at_of s) given) s f u
   headed y = q.whole y
 
-  -- a call failed within a part
-  failed_behind : (a : Result ℕ Cut) (v t : Stream) (X S A : List ℕ) → is_err a ≡ true → is_tape v ≡ is_tape s → Filled tape given v a t X → FrameRead tape given s (Err Failed) t S A
-  failed_behind a v t X S A e w p =
-      record {
-        taped = p.taped ∙ w;
-        bound = p.bound;
-        sheet = tt;
-        answer = tt;
-        whole = tt;
-        missing = λ y. record { stopped = λ _. (p.played (w ∙ y)).stopped e; none = λ z. ever z; empty = λ z. ever z };
-      }
-
-  pub sheet_failed : (d : Cut) (t : Stream) (X S A : List ℕ) → Filled tape given u (Err d) t X → FrameRead tape given s (Err Failed) t S A
-  sheet_failed d t X S A p = failed_behind (Err d) u t X S A refl q.taped p
-
   module _ (n : ℕ) (v : Stream) (X : List ℕ) (lx : length X ≡ f.sheet) (p : Filled tape given u (Ok n) v X) where
     sheet_played : is_tape s ≡ true → AllPlayed tape given u (Ok n) v X
     sheet_played y = p.played (q.taped ∙ y)
-
-    -- the input ended within the sheet
-    pub sheet_short : (S A : List ℕ) → n < f.sheet → FrameRead tape given s (Err Other) v S A
-    sheet_short S A h =
-        record {
-          taped = p.taped ∙ q.taped;
-          bound = p.bound;
-          sheet = tt;
-          answer = tt;
-          whole = tt;
-          missing = λ y. record {
-            stopped = λ z. never z;
-            none = λ _. too_few (drop (at_of s) given) (omega (arith, h, (headed y).sheet, left y));
-            empty = λ _. some_left (drop (at_of s) given) (omega (arith, (headed y).long));
-          };
-        }
-      where
-        left : is_tape s ≡ true → length (drop (at_of s) given) ≡ 18 + n
-        left y = omega (arith, length-drop (at_of s) given, (headed y).at, (sheet_played y).at, (sheet_played y).end refl (omega (arith, h, lx)))
-
-    pub answer_failed : (d : Cut) (t : Stream) (Y S A : List ℕ) → Filled tape given v (Err d) t Y → FrameRead tape given s (Err Failed) t S A
-    answer_failed d t Y S A r = failed_behind (Err d) v t Y S A refl (p.taped ∙ q.taped) r
 
     module _ (h : f.sheet ≤ n) (m : ℕ) (t : Stream) (Y : List ℕ) (ly : length Y ≡ f.answer) (r : Filled tape given v (Ok m) t Y) where
       answer_played : is_tape s ≡ true → AllPlayed tape given v (Ok m) t Y
@@ -222,25 +128,6 @@ module _ (tape given : List ℕ) (s : Stream) (f : Frame) (u : Stream) (q : Head
 
       all_sheet : n ≡ f.sheet
       all_sheet = omega (arith, h, lx, p.within)
-
-      -- the same within the answer
-      pub answer_short : (S A : List ℕ) → m < f.answer → FrameRead tape given s (Err Other) t S A
-      answer_short S A k =
-          record {
-            taped = r.taped ∙ p.taped ∙ q.taped;
-            bound = r.bound;
-            sheet = tt;
-            answer = tt;
-            whole = tt;
-            missing = λ y. record {
-              stopped = λ z. never z;
-              none = λ _. too_few (drop (at_of s) given) (omega (arith, k, (headed y).sheet, (headed y).answer, left y));
-              empty = λ _. some_left (drop (at_of s) given) (omega (arith, (headed y).long));
-            };
-          }
-        where
-          left : is_tape s ≡ true → length (drop (at_of s) given) ≡ 18 + f.sheet + m
-          left y = omega (arith, length-drop (at_of s) given, (headed y).at, (sheet_played y).at, all_sheet, (answer_played y).at, (answer_played y).end refl (omega (arith, k, ly)))
 
       -- a front of a buffer that is full
       full : (i : ℕ) (Z R : List ℕ) → length Z ≡ i → (i ≤ length (Z ++ R)) × (i ≡ length (take i (Z ++ R)))

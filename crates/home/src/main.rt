@@ -29,11 +29,6 @@ struct Tally {
     cut: bool,
 }
 
-// Writes a text; whether it is cut.
-fn say(text: &[u8], sink: &mut Noted<Stdout>) -> bool {
-    streams::write_to(sink, text).is_err()
-}
-
 fn put_differs(out: &mut [u8], number: u64) -> usize
     requires { 64 ≤ length out.old }
     ensures { Wrote (64) 0 out.old result out.new (differs_line number) }
@@ -48,7 +43,7 @@ fn put_differs(out: &mut [u8], number: u64) -> usize
 fn tell(number: u64, sink: &mut Noted<Stdout>) -> bool {
     let mut line = [0u8; 64];
     let n = put_differs(&mut line, number);
-    say(&line[..n], sink)
+    streams::write_to(sink, &line[..n]).is_err()
 }
 
 // One more sheet.
@@ -97,7 +92,7 @@ fn way_of(
         };
     }
     let n = m.n;
-    if check::same(answer, &there[..n]) {
+    if answer == &there[..n] {
         Way::Refused
     } else {
         Way::Differs
@@ -150,7 +145,7 @@ fn show(t: Tally, sink: &mut Noted<Stdout>) -> bool
     let all = t.home + t.refused + t.differ;
     let mut line = [0u8; 160];
     let n = put_tally(&mut line, t.home, t.refused, t.differ, all);
-    say(&line[..n], sink)
+    streams::write_to(sink, &line[..n]).is_err()
 }
 
 // The same: it went on with something else.
@@ -160,7 +155,7 @@ fn show_broken(t: Tally, sink: &mut Noted<Stdout>) -> bool
     let all = t.home + t.refused + t.differ;
     let mut line = [0u8; 160];
     let n = put_broken(&mut line, all);
-    say(&line[..n], sink)
+    streams::write_to(sink, &line[..n]).is_err()
 }
 
 // Says on standard error that a line is cut.

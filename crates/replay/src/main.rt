@@ -2,18 +2,16 @@
 #![tactic(auto)]
 
 use std::io;
-use std::io::{Error, Read, Write};
+use std::io::{Read, Write};
 use streams::{Broken, Noted, STDIN, STDOUT, Stream};
+use vregs_answer::Space;
 
 // From a reader to a writer. The streams are descriptors, so the tape, the bytes that it gives and the paper, of one each, are looked at by nobody.
+// The five lines that make them stand in vregs and convert_run too: a type of all five would be longer to state.
 fn replay_input<R: Read, W: Write>(
     sheet: &mut [u8; 262144],
     answer: &mut [u8; 524288],
-    buf: &mut [u8; 65536],
-    table: &mut [u8; 174680],
-    written: &mut [u8; 6144],
-    out: &mut [u8; 460800],
-    work: &mut [u8; 110600],
+    space: &mut Space,
     source: &mut R,
     sink: &mut W,
 ) -> Result<(), Broken> {
@@ -31,35 +29,10 @@ fn replay_input<R: Read, W: Write>(
         &mut paper,
         sheet,
         answer,
-        buf,
-        table,
-        written,
-        out,
-        work,
+        space,
         source,
         sink,
     )
-}
-
-// What broke off, with the reason of its reader or its writer.
-// Not one with vregs::tell: two arms, and all that is said is another.
-fn tell(
-    rt: &HostRuntime,
-    end: Result<(), Broken>,
-    unread: Option<Error>,
-    unwritten: Option<Error>,
-) -> io::Result<()> {
-    match end {
-        Ok(()) => Ok(()),
-        Err(Broken::Input) => {
-            let what = "replay: the stored answers could not be read, and the report is cut";
-            streams::fail(rt, what, unread)
-        }
-        Err(Broken::Output) => {
-            let what = "replay: the report could not be written, and is cut";
-            streams::fail(rt, what, unwritten)
-        }
-    }
 }
 
 fn main(rt: HostRuntime) -> io::Result<()> {
@@ -72,16 +45,21 @@ fn main(rt: HostRuntime) -> io::Result<()> {
     let mut written = [0u8; 6144];
     let mut out = [0u8; 460800];
     let mut work = [0u8; 110600];
-    let end = replay_input(
-        &mut sheet,
-        &mut answer,
-        &mut buf,
-        &mut table,
-        &mut written,
-        &mut out,
-        &mut work,
-        &mut source,
-        &mut sink,
-    );
-    tell(&rt, end, source.reason, sink.reason)
+    let mut space = Space {
+        buf: &mut buf,
+        table: &mut table,
+        written: &mut written,
+        out: &mut out,
+        work: &mut work,
+    };
+    let end = replay_input(&mut sheet, &mut answer, &mut space, &mut source, &mut sink);
+    let unread = "the stored answers could not be read, and the report is cut";
+    let unwritten = "the report could not be written, and is cut";
+    streams::tell(
+        &rt,
+        "replay",
+        end,
+        (unread, source.reason),
+        (unwritten, sink.reason),
+    )
 }

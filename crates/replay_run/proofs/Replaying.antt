@@ -1,6 +1,6 @@
 -- Frame after frame. Assumes nothing.
 use mathlib.Core.Path.{◌≡◌, refl, sym, ap, subst, ◌∙◌}
-use mathlib.Core.Bool.{Bool, true, false, ◌&&◌, cond, false≢true}
+use mathlib.Core.Bool.{Bool, true, false, ◌&&◌, cond}
 use mathlib.Core.List.{List, [], ◌++◌, append_assoc, append-nil}
 use Prim.Native.Nat.{ℕ, zero, suc, ◌+◌, ◌≤◌}
 use native.Mathlib.Omega.{arith}
@@ -18,6 +18,7 @@ use Rattle.streams.specs.declared.Broken.{Broken}
 use Rattle.streams.specs.declared.Broken.TheVariants.{Input, Output}
 use Rattle.streams.specs.Tape.{is_tape, call_of, at_of, AllMarked, WroteAll, written as moved, in_broken, out_broken}
 use Rattle.streams.specs.Ends.{or_broken}
+use Rattle.streams.proofs.Steps.{never}
 use Rattle.frames.specs.declared.Frame.{Frame}
 use Rattle.frames.specs.Frames.{is_head, is_frame, frame_size, frame_answer, agrees, past_frame}
 use Rattle.frames.specs.Report.{differs_line, missed, summary, report_from, report}
@@ -25,18 +26,12 @@ use Rattle.frames.specs.declared.NoFrame.{NoFrame}
 use Rattle.frames.specs.Read.{Missing, Framed, FrameRead, failed, ended}
 use Rattle.replay_run.specs.Ran.{Compared, AnswerRead, Ran}
 
-never : {A : Type 0} → false ≡ true → A
-never e = absurd (false≢true e)
-
 -- what did not fail
 unbroken : (w : Result Unit Cut) → is_err w ≡ false → is_ok w ≡ true
 unbroken (Ok u) e = refl
 unbroken (Err d) e = never (sym e)
 
 -- ---- one frame
-
-pub found_none : (tape given : List ℕ) (s : Stream) (e : NoFrame) (t : Stream) (S A : List ℕ) → FrameRead tape given s (Err e) t S A → AnswerRead tape given s (Err e) t
-found_none tape given s e t S A q = record { taped = q.taped; bound = q.bound; whole = tt; missing = q.missing }
 
 pub found_some : (tape given : List ℕ) (s : Stream) (f : Frame) (t : Stream) (S A : List ℕ) (b : Bool) → FrameRead tape given s (Ok f) t S A → b ≡ same (take f.answer A) (vregs_of (take f.sheet S)) → AnswerRead tape given s (Ok b) t
 found_some tape given s f t S A b q i =
@@ -137,21 +132,6 @@ module _ (reads given : List ℕ) (input : Stream) (writes paper : List ℕ) (ou
   module _ (e : NoFrame) (next : Stream) (q : AnswerRead reads given at (Err e) next) where
     missing : is_tape input ≡ true → Missing reads (drop (at_of at) given) e next
     missing t = q.missing (h.in_taped ∙ t)
-
-    -- a read failed
-    pub replaying_unread : failed e ≡ true → Ran reads given input next writes paper output (Err Input) to P
-    replaying_unread z =
-        record {
-          on_tapes = λ ti tw.
-              let k : Kept given input paper output at to answers differ turn P = h.kept ti tw in
-              record {
-                rest = report_from k.fuel answers differ (drop (at_of at) given);
-                is = k.text;
-                whole = λ y _. never (sym y);
-                unread = λ _. (missing ti).stopped z;
-                unwritten = λ y. never y;
-              };
-        }
 
     -- no frame is left: the last line
     module _ (b : Bool) (eb : b ≡ ended e) (z : failed e ≡ false) (w : Result Unit Cut) (t : Stream) (Q : List ℕ) (a : WroteAll writes P (summary b answers differ) to w t Q) where

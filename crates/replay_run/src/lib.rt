@@ -2,9 +2,6 @@
 #![tactic(auto)]
 
 ghost use Rattle.std.specs.Prelude.{◌≡◌, ◌≤◌, length};
-ghost use Rattle.words.specs.Words.{word_count};
-ghost use Rattle.work_layout.specs.Regions.{max_work};
-ghost use Rattle.sheet_places.specs.Places.{table_words};
 ghost use Rattle.frames.specs.Report.{missed as Report·missed};
 ghost use Rattle.streams.specs.Tape.{at_of};
 ghost use Rattle.replay_run.specs.Ran.{AnswerRead, Ran};
@@ -12,6 +9,7 @@ ghost use Rattle.replay_run.specs.Ran.{AnswerRead, Ran};
 use frames::NoFrame;
 use std::io::{Read, Write};
 use streams::{Broken, Stream};
+use vregs_answer::Space;
 
 // The next frame, compared: whether its answer is the one given anew.
 fn next_answer<R: Read>(
@@ -20,20 +18,16 @@ fn next_answer<R: Read>(
     given: &[u8],
     sheet: &mut [u8],
     answer: &mut [u8],
-    buf: &mut [u8],
-    table: &mut [u8],
-    written: &mut [u8],
-    out: &mut [u8],
-    work: &mut [u8],
+    space: &mut Space,
     source: &mut R,
 ) -> Result<bool, NoFrame>
-    requires { (at_of s.old ≤ length given.now) × (262144 ≤ length sheet.old) × (524288 ≤ length answer.old) × (256 ≤ length buf.old) × (word_count table.old ≡ table_words) × (word_count written.old ≡ 1536) × (length out.old ≡ 460800) × (max_work ≤ word_count work.old) }
+    requires { (at_of s.old ≤ length given.now) × (262144 ≤ length sheet.old) × (524288 ≤ length answer.old) }
     ensures { AnswerRead tape.now given.now s.old result s.new }
 {
     let f = frames::read_frame(s, tape, given, sheet, answer, source)?;
     let n = f.sheet;
     let m = f.answer;
-    let same = sheet_replay::is_answer(&sheet[..n], &answer[..m], buf, table, written, out, work);
+    let same = sheet_replay::is_answer(&sheet[..n], &answer[..m], space);
     Ok(same)
 }
 
@@ -53,23 +47,17 @@ pub fn replay<R: Read, W: Write>(
     paper: &mut [u8],
     sheet: &mut [u8],
     answer: &mut [u8],
-    buf: &mut [u8],
-    table: &mut [u8],
-    written: &mut [u8],
-    out: &mut [u8],
-    work: &mut [u8],
+    space: &mut Space,
     source: &mut R,
     sink: &mut W,
 ) -> Result<(), Broken>
-    requires { (at_of input.old ≤ length given.now) × (at_of output.old ≤ length paper.old) × (262144 ≤ length sheet.old) × (524288 ≤ length answer.old) × (256 ≤ length buf.old) × (word_count table.old ≡ table_words) × (word_count written.old ≡ 1536) × (length out.old ≡ 460800) × (max_work ≤ word_count work.old) }
+    requires { (at_of input.old ≤ length given.now) × (at_of output.old ≤ length paper.old) × (262144 ≤ length sheet.old) × (524288 ≤ length answer.old) }
     ensures { Ran reads.now given.now input.old input.new writes.now paper.old output.old result output.new paper.new }
 {
     let mut answers = 0;
     let mut differ = 0;
     for _ in 0..u64::MAX {
-        match next_answer(
-            input, reads, given, sheet, answer, buf, table, written, out, work, source,
-        ) {
+        match next_answer(input, reads, given, sheet, answer, space, source) {
             Ok(same) => {
                 answers += 1;
                 differ += missed(same);

@@ -7,7 +7,6 @@ use mathlib.Core.List.{List, ◌++◌, append-nil}
 use Prim.Native.Nat.{ℕ, ◌≤◌, ◌<◌}
 use native.Mathlib.Omega.{arith}
 use lib.ListN.{length, get_or, take}
-use lib.Seq.{length-take-le}
 use Rattle.words.specs.Words.{word_count, words_of}
 use Rattle.definition.specs.declared.SheetRefusal.{SheetRefusal}
 use Rattle.definition.specs.SheetForms.{sheet_number_of}
@@ -21,15 +20,13 @@ use Rattle.sheet_form.specs.Stream.{Streamed}
 use Rattle.agree.specs.Agree.{all_bytes}
 use Rattle.sheet_verdict.specs.Judged.{LeadsTo}
 use Rattle.sheet_verdict.specs.Fed.{both_open}
-use Rattle.job_pages.specs.Cursors.{Cursor}
+use Rattle.job_pages.specs.Cursors.{Cursor, at_start}
 use Rattle.lines.specs.declared.Page.{Page}
-use Rattle.job_pages.specs.Cursors.{at_start}
 use Rattle.job_pages.specs.Left.{Left, text_left}
 use Rattle.job_pages.specs.Pages.{Shows, Filled}
 use Rattle.job_pages.specs.Over.{over_text}
 use Rattle.job_pages.specs.Starts.{Moves}
 use Rattle.move_verdict.specs.Settled.{Settled, Settles, line_text}
-use Rattle.sheet_home.specs.declared.Moved.{Moved}
 use Rattle.sheet_home.specs.Moved.{Whole}
 
 -- ---- the sheet that was fed
@@ -83,7 +80,3 @@ answered_moved asked sheet x c p B e s f w = record {
       ∙ ap (λ (k : Cursor). text_left asked m.job k m.records) e
       ∙ sym (ap moved_text m.is);
 }
-
-pub part_counts : (asked : Bool) (sheet : List ℕ) (r : Moved) (B : List ℕ) → Whole asked sheet r B
-    → r.n ≡ length (take r.n B)
-part_counts asked sheet r B a = sym (length-take-le r.n B a.within)

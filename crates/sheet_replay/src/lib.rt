@@ -2,17 +2,15 @@
 #![tactic(auto)]
 
 ghost use Rattle.std.specs.Prelude.{◌≡◌, ◌≤◌, length};
-ghost use Rattle.words.specs.Words.{word_count};
 ghost use Rattle.definition.specs.Text.{same};
 ghost use Rattle.definition.specs.SheetForms.{vregs_of};
-ghost use Rattle.work_layout.specs.Regions.{max_work};
-ghost use Rattle.sheet_places.specs.Places.{table_words};
 ghost use Rattle.sheet_output.specs.Left.{at_start};
 ghost use Rattle.answer_pages.specs.Pages.{Prints};
 ghost use Rattle.vregs_answer.specs.Sheet.{vregs_tables};
 ghost use Rattle.sheet_replay.specs.Same.{TellsSheet};
 
 use build_answer::BuildEnd;
+use vregs_answer::Space;
 
 // Whether the answer is the register sheet that the end and the tables print.
 fn same_sheet(end: BuildEnd, tables: &[u8], answer: &[u8], buf: &mut [u8]) -> bool
@@ -22,6 +20,7 @@ fn same_sheet(end: BuildEnd, tables: &[u8], answer: &[u8], buf: &mut [u8]) -> bo
     let ol = vregs_answer::vregs_tables();
     let mut cur = sheet_output::start();
     let mut rest = answer;
+    // Page by page, and how many lines a page takes is known behind it: no index counts here.
     while !cur.ended {
         let page = answer_pages::page(end, tables, ol, cur, buf);
         let Some(behind) = rest.strip_prefix(&buf[..page.n]) else {
@@ -34,20 +33,11 @@ fn same_sheet(end: BuildEnd, tables: &[u8], answer: &[u8], buf: &mut [u8]) -> bo
 }
 
 // Whether the answer is what `vregs` prints for the sheet.
-pub fn is_answer(
-    sheet: &[u8],
-    answer: &[u8],
-    buf: &mut [u8],
-    table: &mut [u8],
-    written: &mut [u8],
-    out: &mut [u8],
-    work: &mut [u8],
-) -> bool
-    requires { (256 ≤ length buf.old) × (word_count table.old ≡ table_words) × (word_count written.old ≡ 1536) × (length out.old ≡ 460800) × (max_work ≤ word_count work.old) }
+pub fn is_answer(sheet: &[u8], answer: &[u8], space: &mut Space) -> bool
     ensures { result ≡ same answer.now (vregs_of sheet.now) }
 {
-    let first = sheet_form::open(table, written);
-    let cur = sheet_form::feed(first, sheet, table, written);
-    let end = vregs_answer::answer_table(cur, table, written, out, work);
-    same_sheet(end, out, answer, buf)
+    let first = sheet_form::open(space.table, space.written);
+    let cur = sheet_form::feed(first, sheet, space.table, space.written);
+    let end = vregs_answer::answer_table(cur, space.table, space.written, space.out, space.work);
+    same_sheet(end, space.out, answer, space.buf)
 }

@@ -13,6 +13,7 @@ use std::fs::File;
 use std::io;
 use std::io::Stdout;
 use streams::Noted;
+use vregs_answer::Space;
 
 // Cut where a line could not be written: then no more are. `cut` is a flag and no Result: the numbers count on, and
 // the sink has the reason.
@@ -22,11 +23,6 @@ struct Tally {
     differ: u64,
     alone: u64,
     cut: bool,
-}
-
-// Writes a text; whether it is cut.
-fn say(text: &[u8], sink: &mut Noted<Stdout>) -> bool {
-    streams::write_to(sink, text).is_err()
 }
 
 fn put_differs(out: &mut [u8], number: u64) -> usize
@@ -43,26 +39,17 @@ fn put_differs(out: &mut [u8], number: u64) -> usize
 fn tell(number: u64, sink: &mut Noted<Stdout>) -> bool {
     let mut line = [0u8; 64];
     let n = put_differs(&mut line, number);
-    say(&line[..n], sink)
+    streams::write_to(sink, &line[..n]).is_err()
 }
 
 // One more block.
-fn count(
-    s: Sample<'_>,
-    t: &mut Tally,
-    buf: &mut [u8; 4096],
-    table: &mut [u8; 174680],
-    written: &mut [u8; 6144],
-    out: &mut [u8; 460800],
-    work: &mut [u8; 110600],
-    sink: &mut Noted<Stdout>,
-)
+fn count(s: Sample<'_>, t: &mut Tally, space: &mut Space, sink: &mut Noted<Stdout>)
     requires { t.old.agree + t.old.differ + t.old.alone < 2 ^ 63 }
     ensures { t.new.agree + t.new.differ + t.new.alone ≤ t.old.agree + t.old.differ + t.old.alone + 1 }
 {
     match s {
         Sample::Paired { sheet, answer } => {
-            if sheet_replay::is_answer(sheet, answer, buf, table, written, out, work) {
+            if sheet_replay::is_answer(sheet, answer, space) {
                 t.agree += 1;
             } else {
                 t.differ += 1;
@@ -77,15 +64,7 @@ fn count(
 }
 
 // All blocks of the document.
-fn count_all(
-    doc: &[u8],
-    buf: &mut [u8; 4096],
-    table: &mut [u8; 174680],
-    written: &mut [u8; 6144],
-    out: &mut [u8; 460800],
-    work: &mut [u8; 110600],
-    sink: &mut Noted<Stdout>,
-) -> Tally
+fn count_all(doc: &[u8], space: &mut Space, sink: &mut Noted<Stdout>) -> Tally
     requires { length doc.now < 2 ^ 62 }
 {
     let mut t = Tally::default();
@@ -93,7 +72,7 @@ fn count_all(
     // From block to block, and where a block ends is known behind it: no index counts here.
     while !rest.is_empty() {
         let (s, behind) = document::first_sample(rest);
-        count(s, &mut t, buf, table, written, out, work, sink);
+        count(s, &mut t, space, sink);
         rest = document::from_fence(behind);
     }
     t
@@ -118,7 +97,7 @@ fn show(t: Tally, sink: &mut Noted<Stdout>) -> bool {
     }
     let mut line = [0u8; 128];
     let n = put_tally(&mut line, t.agree, t.differ, t.alone);
-    say(&line[..n], sink)
+    streams::write_to(sink, &line[..n]).is_err()
 }
 
 fn run(rt: &HostRuntime, doc: &[u8]) -> io::Result<()>
@@ -130,15 +109,14 @@ fn run(rt: &HostRuntime, doc: &[u8]) -> io::Result<()>
     let mut out = [0u8; 460800];
     let mut work = [0u8; 110600];
     let mut sink = Noted::new(rt.stdout());
-    let t = count_all(
-        doc,
-        &mut buf,
-        &mut table,
-        &mut written,
-        &mut out,
-        &mut work,
-        &mut sink,
-    );
+    let mut space = Space {
+        buf: &mut buf,
+        table: &mut table,
+        written: &mut written,
+        out: &mut out,
+        work: &mut work,
+    };
+    let t = count_all(doc, &mut space, &mut sink);
     if show(t, &mut sink) {
         let what = "sheet_samples: the tally could not be written, and is cut";
         return streams::fail(rt, what, sink.reason);

@@ -1,16 +1,15 @@
 -- A buffer that is filled from its start on. Assumes nothing.
-use mathlib.Core.Path.{◌≡◌, refl, sym, ap, subst, ◌∙◌}
+use mathlib.Core.Path.{◌≡◌, refl, sym, ap, ◌∙◌}
 use mathlib.Core.Bool.{true, false}
 use mathlib.Core.List.{List, ◌++◌}
-use Prim.Native.Nat.{ℕ, ◌+◌, ◌-◌, ◌≤◌, ◌<◌}
+use Prim.Native.Nat.{ℕ, ◌+◌, ◌-◌, ◌≤◌}
 use native.Mathlib.Omega.{arith}
 use lib.ListN.{length, take, drop, length-drop, length-append}
 use lib.Seq.{length-take-le, take-add, take-append-add, take-append-le, drop-drop}
-use Rattle.std.specs.Prelude.{Result, Ok, Err, is_err}
+use Rattle.std.specs.Prelude.{Result, Ok, is_err}
 use Rattle.streams.specs.declared.Stream.{Stream}
 use Rattle.streams.specs.declared.Cut.{Cut}
-use Rattle.streams.specs.Tape.{is_tape, fd_of, call_of, at_of, Played, Read, Filled, got}
-use Rattle.streams.proofs.Steps.{never}
+use Rattle.streams.specs.Tape.{is_tape, fd_of, call_of, at_of, Played, Read, got}
 
 -- X with its elements from `done` on lent, and back as Y
 abbrev pub back : ℕ → ℕ → List ℕ → List ℕ → List ℕ
@@ -45,9 +44,6 @@ pub record Filling (given : List ℕ) (s cur : Stream) (done : ℕ) (B : List �
   pub bound : at_of cur ≤ length given
   pub kept : is_tape s ≡ true → Kept-filled given s cur done B
 
-pub filling_start : (given : List ℕ) (s : Stream) (B : List ℕ) → at_of s ≤ length given → Filling given s s 0 B
-filling_start given s B h = record { within = omega arith; taped = refl; fd = refl; bound = h; kept = λ _. record { at = omega arith; bytes = refl; call = omega arith; onward = λ e. absurd (omega (arith, e)) } }
-
 module _ (tape given : List ℕ) (s cur : Stream) (done k : ℕ) (X : List ℕ) (t : Stream) (Y : List ℕ) (h : Filling given s cur done X) (e : k ≡ length X - done) (l : length Y ≡ k) where
   module _ (r : Result ℕ Cut) (q : Read tape given cur r t Y) where
     played : is_tape s ≡ true → Played tape given cur (got r) (is_err r) t Y
@@ -66,12 +62,6 @@ module _ (tape given : List ℕ) (s cur : Stream) (done k : ℕ) (X : List ℕ) 
         ∙ ap (λ (x : List ℕ). take done D ++ x) ((played y).bytes ∙ ap (λ (m : ℕ). take n (drop m given)) z.at ∙ ap (take n) (sym (drop-drop done (at_of s) given)))
         ∙ sym (take-add done n D)
 
-    -- nothing more was read: bytes and place are as they were
-    stands : got r ≡ 0 → (y : is_tape s ≡ true) → (at_of t ≡ at_of s + done) × (take done (back done k X Y) ≡ take done (drop (at_of s) given))
-    stands e0 y =
-        let i : done + got r ≡ done = omega (arith, e0) in
-        (omega (arith, (played y).at, (h.kept y).at, e0), subst (λ (j : ℕ). take j (back done k X Y) ≡ take j (drop (at_of s) given)) i (filled_bytes y))
-
   pub filling_next : (n : ℕ) → (n ≡ 0 → ⊥) → Read tape given cur (Ok n) t Y → Filling given s t (done + n) (back done k X Y)
   filling_next n p q =
       record {
@@ -85,68 +75,3 @@ module _ (tape given : List ℕ) (s cur : Stream) (done k : ℕ) (X : List ℕ) 
             let o : call_of cur + 1 ≤ (call_of t) = w.onward refl in
             record { at = omega (arith, w.at, z.at); bytes = filled_bytes (Ok n) q y; call = omega (arith, o, z.call); onward = λ _. omega (arith, o, z.call) };
       }
-
-  -- the input ended
-  pub filling_end : done < length X → Read tape given cur (Ok 0) t Y → Filled tape given s (Ok done) t (back done k X Y)
-  filling_end m q =
-      let b : length (back done k X Y) ≡ length X = length_back done k X Y h.within e l in
-      record {
-        within = omega (arith, h.within, b);
-        short = λ f. never f;
-        counts = sym (length-take-le done (back done k X Y) (omega (arith, h.within, b)));
-        taped = q.taped ∙ h.taped;
-        fd = q.fd ∙ h.fd;
-        bound = q.bound;
-        played = λ y.
-            let z : Kept-filled given s cur done X = h.kept y in
-            let w : Played tape given cur 0 false t Y = played (Ok 0) q y in
-            record {
-              at = (stands (Ok 0) q refl y).0;
-              bytes = (stands (Ok 0) q refl y).1;
-              end = λ _ _. omega (arith, w.at, q.end (h.taped ∙ y) refl (omega (arith, l, e, m)));
-              stopped = λ f. never f;
-              call = λ _. omega (arith, z.call, w.onward refl);
-              onward = λ _ _. omega (arith, z.call, w.onward refl);
-            };
-      }
-
-  -- a call failed
-  pub filling_failed : (d : Cut) → done < length X → Read tape given cur (Err d) t Y → Filled tape given s (Err (record { after = done })) t (back done k X Y)
-  filling_failed d m q =
-      let b : length (back done k X Y) ≡ length X = length_back done k X Y h.within e l in
-      record {
-        within = omega (arith, h.within, b);
-        short = λ _. omega (arith, m, b);
-        counts = sym (length-take-le done (back done k X Y) (omega (arith, h.within, b)));
-        taped = q.taped ∙ h.taped;
-        fd = q.fd ∙ h.fd;
-        bound = q.bound;
-        played = λ y. record {
-          at = (stands (Err d) q (q.nothing refl) y).0;
-          bytes = (stands (Err d) q (q.nothing refl) y).1;
-          end = λ f _. never f;
-          stopped = λ _. (played (Err d) q y).stopped refl;
-          call = λ f. never f;
-          onward = λ _ f. never f;
-        };
-      }
-
--- the buffer is full
-pub filling_full : (tape given : List ℕ) (s cur : Stream) (done : ℕ) (B : List ℕ) → Filling given s cur done B → length B ≤ done → Filled tape given s (Ok done) cur B
-filling_full tape given s cur done B h z =
-    record {
-      within = h.within;
-      short = λ e. never e;
-      counts = sym (length-take-le done B h.within);
-      taped = h.taped;
-      fd = h.fd;
-      bound = h.bound;
-      played = λ y. record {
-        at = (h.kept y).at;
-        bytes = (h.kept y).bytes;
-        end = λ _ p. absurd (omega (arith, p, z));
-        stopped = λ e. never e;
-        call = λ _. (h.kept y).call;
-        onward = λ p _. (h.kept y).onward (omega (arith, p, z));
-      };
-    }

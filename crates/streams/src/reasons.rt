@@ -1,9 +1,11 @@
 // Why the last call failed. A `Stop` or a `Cut` has no room for the reason: it is kept beside the reader or the writer.
-ghost use Rattle.std.specs.Prelude.{◌≡◌, IfErr, OnOk, Some, None};
+ghost use Rattle.std.specs.Prelude.{◌≡◌, IfErr, OnOk, IsOk, Some, None};
 ghost use Rattle.std.specs.Io.{ReadsAtMost, WritesAtMost};
 ghost use Rattle.std.specs.Io.KnownBytes.{Keeps, ReadConsumes, WriteAppends};
 
+use super::Broken;
 use std::io::{Error, Read, Result, Write};
+use std::result;
 
 // A reader or a writer, and the reason of its last call that failed.
 #[derive(Drop)]
@@ -27,6 +29,7 @@ impl<T> Noted<T> {
 impl<R: Read> Read for Noted<R> {
     ghost remaining = { λ s. R.remaining s.inner };
 
+    // Not one with `write`: they are methods of two traits of the library, and each has its own promise.
     fn read(&mut self, buf: &mut [u8]) -> Result<usize>
         ensures bound { ReadsAtMost result buf.new }
         ensures bytes { ReadConsumes (R.remaining self.old.inner) (R.remaining self.new.inner) result buf.new }
@@ -49,6 +52,7 @@ impl<R: Read> Read for Noted<R> {
 impl<W: Write> Write for Noted<W> {
     ghost contents = { λ s. W.contents s.inner };
 
+    // Not one with `read`: they are methods of two traits of the library, and each has its own promise.
     fn write(&mut self, buf: &[u8]) -> Result<usize>
         ensures bound { WritesAtMost result buf.now }
         ensures bytes { WriteAppends (W.contents self.old.inner) (W.contents self.new.inner) result buf.now }
@@ -70,6 +74,25 @@ impl<W: Write> Write for Noted<W> {
     fn flush(&mut self) -> Result<()> {
         self.inner.flush()
     }
+}
+
+// Says what broke off of the program that is named `name`, and why; of nothing it says nothing.
+pub fn tell<P: Eprint + Alloc>(
+    rt: &P,
+    name: &str,
+    end: result::Result<(), Broken>,
+    unread: (&str, Option<Error>),
+    unwritten: (&str, Option<Error>),
+) -> Result<()>
+    ensures { IsOk end → IsOk result }
+{
+    let (what, reason) = match end {
+        Ok(()) => return Ok(()),
+        Err(Broken::Input) => unread,
+        Err(Broken::Output) => unwritten,
+    };
+    eprint!(rt; "{name}: ")?;
+    fail(rt, what, reason)
 }
 
 // Writes a line to standard error: what failed, as the caller names it, a colon and the reason in the system's words. Only a write that took nothing has failed with no reason of its own.

@@ -9,8 +9,11 @@ ghost use Rattle.sheet_form.specs.Front.{formed, open_form};
 ghost use Rattle.sheet_form.specs.Stream.{Streamed};
 ghost use Rattle.vregs_answer.specs.Sheet.{vregs_tables, Answers};
 
+mod space;
+
 use build_answer::{BuildEnd, refuse};
 use sheet_form::Reading;
+pub use space::Space;
 use virt_regs::OutLayout;
 
 // The result tables of `vregs`: 4,096 registers and segments, 8,192 uses, 512 groups; 460,800 bytes.

@@ -1,26 +1,10 @@
 use mathlib.Core.Path.{refl, sym, ◌∙◌}
 use native.Mathlib.Omega.{arith}
-use Rattle.convert_run.proofs.Pages.{showing_start, showing_next, showing_failed, showing_end}
+use Rattle.convert_run.proofs.Pages.{showing_next, showing_failed, showing_end}
 use Rattle.job_pages.specs.Cursors.{some_key, none_key}
 use borrow.Author.Rules.{rules}
 use Rattle.std.proofs.lemmas.Result.{err_from_is_err_and}
 use Rattle.convert_run.proofs.print.Goals as goal
-
-pub loop-cur-init : goal.loop-cur-init
-loop-cur-init g c = let p = c.requires in
-    (refl, refl, showing_start _ _ _ _ _ p.0 c.start-cur.ensures p.2)
-
-pub fill-page-requires : goal.fill-page-requires
-fill-page-requires g c = c.loop-cur.invariant.2.shows
-
-pub slice_bounds-write_all-end : goal.slice_bounds-write_all-end
-slice_bounds-write_all-end g c = c.fill-page.ensures.within
-
-pub slice_bounds-write_all-end-in-loop-cur : goal.slice_bounds-write_all-end-in-loop-cur
-slice_bounds-write_all-end-in-loop-cur g c = c.fill-page.ensures.counts
-
-pub write_all-requires : goal.write_all-requires
-write_all-requires g c = c.loop-cur.invariant.2.bound
 
 pub returns-in_err-write_all : goal.returns-in_err-write_all
 returns-in_err-write_all g c = let p = err_from_is_err_and c.from_residual.result c.from_residual.ensures.1 in

@@ -3,10 +3,6 @@ use Rattle.std.specs.Prelude.{is_ok}
 use Rattle.convert_run.proofs.Starts.{put_sheet, put_refusal}
 use Rattle.convert_run.proofs.put.Goals as goal
 
-pub print-requires : goal.print-requires
-print-requires g c = let p = c.requires in
-    (p.0 (ap is_ok c.in-Ok.is), p.1, p.2)
-
 pub returns-in-Ok : goal.returns-in-Ok
 returns-in-Ok g c = put_sheet _ _ _ _ _ _ _ _ _ (ap is_ok c.in-Ok.is) c.print.ensures
 

@@ -1,6 +1,4 @@
 use native.Mathlib.Omega.{arith}
-use mathlib.Core.Path.{subst}
-use Rattle.std.specs.Prelude.{Ok, Err}
 use Rattle.vregs_answer.specs.Laws.{cleared_long, cleared_tables, answers_refused, answers_built}
 use Rattle.vregs_answer.proofs.answer_table.Goals as goal
 

@@ -1,5 +1,6 @@
 use native.Mathlib.Omega.{arith}
-use Rattle.vregs_run.proofs.Starts.{streamed_in, prints_read, ran_unread, ran_written}
+use Rattle.sheet_verdict.specs.Fed.{streamed_in}
+use Rattle.vregs_run.proofs.Starts.{prints_read, ran_unread, ran_written}
 use borrow.Author.Rules.{rules}
 use Rattle.vregs_run.proofs.answer.Goals as goal
 
@@ -7,23 +8,26 @@ pub returns-in_default : goal.returns-in_default
 returns-in_default g c = ran_unread _ _ _ _ _ _ _ _ _ c.in_default.ensures
 
 pub answer_table-end-requires : goal.answer_table-end-requires
-answer_table-end-requires g c = let p = c.requires in (
-  streamed_in _ _ _ p.3 p.4 c.in-Ok.ensures.streamed,
-  omega (arith, p.3, c.feed_all.auto),
-  omega (arith, p.4, c.feed_all.auto),
-  search rules,
-  search rules,
-)
+answer_table-end-requires g c = let p = c.requires in
+    let sp = c.args.space.now in (
+      streamed_in _ _ _ sp.job sp.fields c.in-Ok.ensures.streamed,
+      omega (arith, sp.job, c.feed_all.auto),
+      omega (arith, sp.fields, c.feed_all.auto),
+      search rules,
+      search rules,
+    )
 
 pub print-requires : goal.print-requires
-print-requires g c = let p = c.requires in (
-  prints_read _ _ _ _ _ _ (streamed_in _ _ _ p.3 p.4 c.in-Ok.ensures.streamed)
-      c.answer_table-end.ensures,
-  omega (arith, p.2, c.feed_all.auto),
-  p.1,
-)
+print-requires g c = let p = c.requires in
+    let sp = c.args.space.now in (
+      prints_read _ _ _ _ _ _ (streamed_in _ _ _ sp.job sp.fields c.in-Ok.ensures.streamed)
+          c.answer_table-end.ensures,
+      omega (arith, sp.page, c.feed_all.auto),
+      p.1,
+    )
 
 pub returns : goal.returns
 returns g c = let p = c.requires in
-    ran_written _ _ _ _ _ _ _ _ _ _ _ _ _ _ _ _ _ _ _ p.3 p.4 c.in-Ok.ensures
+    let sp = c.args.space.now in
+    ran_written _ _ _ _ _ _ _ _ _ _ _ _ _ _ _ _ _ _ _ sp.job sp.fields c.in-Ok.ensures
     c.answer_table-end.ensures c.print.ensures c.or.ensures
