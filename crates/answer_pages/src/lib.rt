@@ -1,8 +1,7 @@
 // The register sheet of an answer, a refusal's too, page by page through a lent buffer.
 #![tactic(auto)]
 
-ghost use Rattle.std.specs.Prelude.{◌≡◌, ◌≤◌, length};
-ghost use Rattle.sheet_output.specs.Rows.{behind_end};
+ghost use Rattle.std.specs.Prelude.{◌≤◌, length};
 ghost use Rattle.answer_pages.specs.Pages.{Refuses, Prints, Turned};
 
 use build_answer::BuildEnd;

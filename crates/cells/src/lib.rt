@@ -28,5 +28,5 @@ pub fn put(out: &mut [u8], at: usize, v: u32)
 pub fn clear(out: &mut [u8])
     ensures { words_of out.new ≡ replicate (word_count out.old) 0 }
 {
-    out.fill(0);
+    spans::clear(out);
 }

@@ -9,6 +9,7 @@ use cut_moves::MovesEnd;
 // blocks: rows of two little-endian words, instruction count and frequency bits. side: 0 early, 1 late. list: rows of
 // three words, block, way (0 up, 1 down) and steps, from the fewest steps on, equal ones by block; zeros behind them.
 // work: what it holds does not matter.
+// side is a number and no Side: C may give any, and one that names none is refused.
 #[unsafe(no_mangle)]
 pub extern "C" fn find_cut_moves(
     blocks: &[u8],

@@ -8,6 +8,7 @@ ghost use Rattle.find_cut.specs.Answer.{cut_answer, work_left};
 use find_cut::Cut;
 
 // blocks: rows of two little-endian words, instruction count and frequency bits. side: 0 early, 1 late. work: what it holds does not matter.
+// side is a number and no Side: C may give any, and one that names none is refused.
 #[unsafe(no_mangle)]
 pub extern "C" fn find_optimal_split_point(
     blocks: &[u8],

@@ -23,8 +23,7 @@ use Rattle.sheet_rows.specs.Stands.{SmallRecords}
 use Rattle.sheet_rows.specs.Sheets.{On, Sound}
 use Rattle.sheet_rows.specs.Choices.{Chosen, record_chosen, ChosenRecords}
 use Rattle.form_agree.specs.Lines.{Parted, last_of}
-use Rattle.form_agree.specs.Bare.{bare_fields, fields_cut, fields_long, take_before, at_last, shrunk}
-use Rattle.form_agree.specs.Bare.{shrunk_ordered}
+use Rattle.form_agree.specs.Bare.{bare_fields, fields_cut, fields_long, take_before, at_last, shrunk, shrunk_ordered}
 
 -- ---- the job
 

@@ -13,8 +13,7 @@ use Rattle.sheet_places.specs.Places.{limit_of, count_at, place_of, tail_at, tai
 use Rattle.sheet_fields.specs.State.{St}
 use Rattle.sheet_fields.specs.Fields.{Next, Fed, fed, begin_of, start_of, next_of, byte_of, end_field, close_record}
 use Rattle.sheet.specs.Machine.{on_field, end_line, step_of, on_next, push_of, run_of, open_of, answer_of}
-use Rattle.sheet_form.specs.Fronts.{Front}
-use Rattle.sheet_form.specs.Fronts.{Opening, First, Word, Plain, Before, Written}
+use Rattle.sheet_form.specs.Fronts.{Front, Opening, First, Word, Plain, Before, Written}
 use Rattle.sheet_form.specs.Front.{stands, opening_of, Keeping, keeping, counts, Formed, onward}
 use Rattle.sheet_form.specs.Front.{push_form, run_form, open_form, second_of, finish_of}
 use Rattle.agree.specs.Words.{Bytes}

@@ -14,8 +14,7 @@ use Rattle.numeral.specs.declared.Num.{Num}
 use Rattle.sheet_fields.specs.State.{St}
 use Rattle.sheet_fields.specs.Fields.{Next, Fed, fed}
 use Rattle.sheet.specs.Machine.{step_of, push_of, answer_of}
-use Rattle.sheet_form.specs.Fronts.{Front}
-use Rattle.sheet_form.specs.Fronts.{Opening, First, Word, Plain, Before, Written}
+use Rattle.sheet_form.specs.Fronts.{Front, Opening, First, Word, Plain, Before, Written}
 use Rattle.sheet_form.specs.Front.{stands, stood, lost, standing, on_digit, front_after, in_word, in_plain}
 use Rattle.sheet_form.specs.Front.{before_of, written_of, close_of, Keeping, keep_of, Formed, onward, by_front, push_form}
 use Rattle.sheet_form.specs.Front.{run_form, second_of, finish_of}

@@ -1,4 +1,5 @@
--- The same by the frame and the slices that are lent. Assumes nothing.
+-- The uses and the segments of a working part, and that it is one, of the frame and the work slice. Crate set_part has
+-- them of words and layouts. Assumes nothing.
 use Rattle.std.specs.Prelude.{ℕ, List}
 use Rattle.words.specs.Words.{words_of}
 use Rattle.layout.specs.JobWords.{words_in}

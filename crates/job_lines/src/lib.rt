@@ -1,10 +1,11 @@
 // A line of a job sheet, of either form, from a row of words, put into a lent buffer behind its first `at` bytes. Each function answers where its text ends.
+// By hand: each contract names the bytes, as that of `write!` to a lent slice does not; a String would take the heap.
 #![tactic(auto)]
 
 ghost use Rattle.std.specs.Prelude.{◌≡◌, ◌∷◌, ◌+◌, ◌*◌, ◌≤◌, length, take, drop};
 ghost use Rattle.words.specs.Words.{word_count, words_of};
 ghost use Rattle.definition.specs.SheetForms.{form_line};
-ghost use Rattle.sheet_rules.specs.Kinds.{number_of};
+ghost use Rattle.sheet_rules.specs.Kinds.{key_number};
 ghost use Rattle.lines.specs.Wrote.{Wrote};
 ghost use Rattle.job_lines.specs.Rows.{word_text, bits_at, value_text, row_text, more_text, line_text};
 
@@ -16,24 +17,27 @@ const WORDS: [&[u8]; 12] = [
     b"use", b"end",
 ];
 
-// The word of a kind.
+// The word of a kind; that of none is the last.
 #[tactic(auto, unfolding(crate::specs::Rows::word_text))]
-fn word(key: Kind) -> &'static [u8]
-    ensures is { result.now ≡ word_text (number_of key) }
+fn word(key: Option<Kind>) -> &'static [u8]
+    ensures is { result.now ≡ word_text (key_number key) }
     ensures short { length result.now ≤ 7 }
 {
-    WORDS[key as usize]
+    match key {
+        Some(kind) => WORDS[kind as usize],
+        None => b"end",
+    }
 }
 
 // Whether field j of a record is a mask or a float: the scales of opt, mask and cost of a class, the frequency of a block.
 #[tactic(auto, unfolding(crate::specs::Rows::bits_at))]
-fn is_bits(key: Kind, j: usize) -> bool
-    ensures { result ≡ bits_at (number_of key) j }
+fn is_bits(key: Option<Kind>, j: usize) -> bool
+    ensures { result ≡ bits_at (key_number key) j }
 {
     match key {
-        Kind::Opt => 0 < j,
-        Kind::Class => j < 2,
-        Kind::Block => j == 1,
+        Some(Kind::Opt) => 0 < j,
+        Some(Kind::Class) => j < 2,
+        Some(Kind::Block) => j == 1,
         _ => false,
     }
 }
@@ -51,9 +55,9 @@ fn put_value(out: &mut [u8], at: usize, bits: bool, v: u32) -> usize
 }
 
 // The fields of a record: n words from word a on, each behind a tab.
-fn put_row(out: &mut [u8], at: usize, key: Kind, table: &[u8], a: usize, n: usize) -> usize
+fn put_row(out: &mut [u8], at: usize, key: Option<Kind>, table: &[u8], a: usize, n: usize) -> usize
     requires { (at + n * 21 ≤ length out.old) × (a + n ≤ word_count table.now) }
-    ensures { Wrote (n * 21) at out.old result out.new (row_text (number_of key) (take n (drop a (words_of table.now)))) }
+    ensures { Wrote (n * 21) at out.old result out.new (row_text (key_number key) (take n (drop a (words_of table.now)))) }
 {
     let mut end = at;
     for j in 0..n {
@@ -76,18 +80,18 @@ fn put_tail(out: &mut [u8], at: usize, more: Option<u32>) -> usize
     }
 }
 
-// A record of this kind, whose fields are n words from word a on.
+// A record of this kind, or of none, whose fields are n words from word a on.
 pub fn put_record(
     out: &mut [u8],
     at: usize,
-    key: Kind,
+    key: Option<Kind>,
     table: &[u8],
     a: usize,
     n: usize,
     more: Option<u32>,
 ) -> usize
     requires { (at + 248 ≤ length out.old) × (a + n ≤ word_count table.now) × (n ≤ 8) }
-    ensures { Wrote (248) at out.old result out.new (line_text (number_of key) (take n (drop a (words_of table.now))) more) }
+    ensures { Wrote (248) at out.old result out.new (line_text (key_number key) (take n (drop a (words_of table.now))) more) }
 {
     let w = lines::put_bytes(out, at, word(key));
     let end = put_row(out, w, key, table, a, n);

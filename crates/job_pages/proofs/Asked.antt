@@ -7,8 +7,7 @@ use native.Mathlib.Omega.{arith}
 use lib.Dec.{eqb}
 use Rattle.words.specs.Words.{word_count, words_of}
 use Rattle.sheet_places.specs.Places.{row_at}
-use Rattle.job_pages.specs.Cursors.{Cursor}
-use Rattle.job_pages.specs.Cursors.{shown_row, has_row, field_count, first_field}
+use Rattle.job_pages.specs.Cursors.{Cursor, shown_row, has_row, field_count, first_field}
 use Rattle.job_pages.specs.Pages.{Shows}
 use Rattle.job_pages.specs.Lines.{Ready, ready, going_on, passing, few_left}
 

@@ -9,9 +9,8 @@ use lib.Dec.{eqb}
 use lib.ListN.{length}
 use lib.Seq.{length-take-le}
 use Rattle.words.specs.Words.{words_of}
-use Rattle.job_pages.specs.Cursors.{Cursor}
+use Rattle.job_pages.specs.Cursors.{Cursor, steps_left}
 use Rattle.lines.specs.declared.Page.{Page}
-use Rattle.job_pages.specs.Cursors.{steps_left}
 use Rattle.job_pages.specs.Pages.{Shows, Goes, Stepped, Filled}
 
 -- nothing was done, or a step was

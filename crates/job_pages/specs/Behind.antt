@@ -15,8 +15,7 @@ use Rattle.form_agree.specs.Jobs.{same_word}
 use Rattle.sheet_places.specs.Places.{limits, limit_of}
 use Rattle.sheet_rows.specs.Stands.{Row, bump}
 use Rattle.sheet_rows.specs.Sheets.{ordered_first}
-use Rattle.job_pages.specs.Cursors.{Cursor}
-use Rattle.job_pages.specs.Cursors.{cursor, shown_row, rows_in, passed_on, behind_row}
+use Rattle.job_pages.specs.Cursors.{Cursor, cursor, shown_row, rows_in, passed_on, behind_row}
 use Rattle.job_pages.specs.Left.{insts_in, later, Going, Left}
 use Rattle.job_pages.specs.Order.{inside, ordered_more}
 use Rattle.job_pages.specs.Steps.{some_left}

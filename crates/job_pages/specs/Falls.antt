@@ -8,8 +8,7 @@ use Rattle.definition.specs.JobSheet.{Word, opt, bank, class, reg, block, value,
 use Rattle.definition.specs.JobSheet.{word_number, Record}
 use Rattle.definition.specs.Conversion.{rec}
 use Rattle.sheet_places.specs.Places.{limits, limit_of}
-use Rattle.job_pages.specs.Cursors.{Cursor}
-use Rattle.job_pages.specs.Cursors.{cursor, shown_row, passed_on, behind_row, phase, steps_left}
+use Rattle.job_pages.specs.Cursors.{Cursor, cursor, shown_row, passed_on, behind_row, phase, steps_left}
 use Rattle.job_pages.specs.Left.{Going}
 
 module _ (T : List ℕ) (c : Cursor) (x : ℕ) where

@@ -9,8 +9,7 @@ use Rattle.sheet_places.specs.Places.{limit_of}
 use Rattle.sheet_rows.specs.Stands.{Row, Stands}
 use Rattle.sheet_rows.specs.Choices.{Chosen}
 use Rattle.job_lines.specs.Records.{Long}
-use Rattle.job_pages.specs.Cursors.{Cursor}
-use Rattle.job_pages.specs.Cursors.{shown_row, rows_in, front_text}
+use Rattle.job_pages.specs.Cursors.{Cursor, shown_row, rows_in, front_text}
 
 -- ---- what is known of a record of a sheet that passes
 

@@ -5,8 +5,7 @@ use Rattle.definition.specs.Types.{Job}
 use Rattle.definition.specs.JobSheet.{Word, opt, bank, class, reg, block, value, vgroup, operand, hint, seg, use', end}
 use Rattle.definition.specs.JobSheet.{word_number, Record}
 use Rattle.definition.specs.Conversion.{lines_text, grown}
-use Rattle.job_pages.specs.Cursors.{Cursor}
-use Rattle.job_pages.specs.Cursors.{front_text}
+use Rattle.job_pages.specs.Cursors.{Cursor, front_text}
 use Rattle.job_pages.specs.Left.{Left, text_left}
 
 -- behind the end nothing is left

@@ -5,8 +5,7 @@ use Rattle.std.proofs.Common.{◌∙◌, arith, length-drop, length-take-le, get
 use Rattle.std.proofs.Math.ListN.{length, get_or}
 use Rattle.definition.specs.JobSheet.{Word, opt, bank, class, reg, block, value, vgroup, operand, hint, seg, use', end}
 use Rattle.definition.specs.JobSheet.{word_number, kind_fields}
-use Rattle.sheet_places.specs.Places.{base_of, width_of, limit_of, stored_fields, stored_of, row_at}
-use Rattle.sheet_places.specs.Places.{table_words}
+use Rattle.sheet_places.specs.Places.{base_of, width_of, limit_of, stored_fields, stored_of, row_at, table_words}
 use Rattle.sheet_rows.specs.Regions.{first_of, sizes, row_is, row_end}
 use Rattle.sheet_rows.specs.Stands.{Row}
 use Rattle.sheet_job.specs.Groups.{ups_few}

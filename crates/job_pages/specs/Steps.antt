@@ -13,8 +13,7 @@ use Rattle.sheet_rows.specs.Sheets.{ordered_first}
 use Rattle.sheet_job.specs.Segments.{next_first, Claim, claim}
 use Rattle.sheet_job.specs.Answers.{none_waits}
 use Rattle.form_agree.specs.Jobs.{same_word}
-use Rattle.job_pages.specs.Cursors.{Cursor}
-use Rattle.job_pages.specs.Cursors.{shown_row, rows_in, has_row}
+use Rattle.job_pages.specs.Cursors.{Cursor, shown_row, rows_in, has_row}
 use Rattle.job_pages.specs.Left.{later, Going}
 use Rattle.job_pages.specs.Order.{none_later, ordered_later}
 

@@ -15,6 +15,7 @@ ghost use Rattle.job_pages.specs.Pages.{page_at, Shows, Stepped, Filled};
 use definition::Value;
 use lines::Page;
 use sheet_rules::Kind;
+use word_rows::Rows;
 
 // The kind of record that comes next, or none behind the end; how many rows of this kind, how many segments and how many uses are printed; how many instructions the printed blocks have.
 #[derive(Clone, Copy)]
@@ -147,9 +148,13 @@ fn written(second: bool, table: &[u8], cur: Cursor, w: usize) -> Option<u32>
     match cur.key {
         Some(Kind::Block) => Some(cur.insts),
         Some(Kind::Seg) => {
-            let n = count(table, Kind::Value);
+            let values = Rows {
+                words: table,
+                at: 1430,
+                n: count(table, Kind::Value),
+            };
             let v = Value(words::word_at(table, w));
-            let set = coalescing::set_for_value(table, 1430, n, v);
+            let set = coalescing::set_for_value(&values, v);
             Some(set.0)
         }
         _ => None,
@@ -209,12 +214,12 @@ fn next_line(second: bool, table: &[u8], cur: Cursor, buf: &mut [u8], at: usize)
     ensures { Stepped second (words_of table.now) (cursor_of cur) at buf.old (page_at result) buf.new }
 {
     let Some(key) = cur.key else { unreachable!() };
-    let w = sheet_places::row_at(key, shown(cur) as u32);
+    let w = sheet_places::row_at(Some(key), shown(cur) as u32);
     let n = fields(table, key, w);
     let a = first_field(key, w);
     let more = written(second, table, cur, w);
     let front = open(second, key, buf, at);
-    let end = job_lines::put_record(buf, front, key, table, a, n, more);
+    let end = job_lines::put_record(buf, front, Some(key), table, a, n, more);
     Page {
         cur: behind(table, cur, w),
         n: end,
@@ -237,12 +242,14 @@ fn put_next(second: bool, table: &[u8], cur: Cursor, buf: &mut [u8], at: usize) 
 }
 
 // A page: lines from the cursor on, as long as the buffer has room for any line.
+// Not one with sheet_output::fill: the cursor is another, and a closure for the line would carry its contract.
 // That the table holds what the cursor shows is a clause: a cursor is a value, and the table comes with each call.
 pub fn fill(second: bool, table: &[u8], cur: Cursor, buf: &mut [u8]) -> Page<Cursor>
     requires { Shows table.now (cursor_of cur) }
     ensures { Filled second table.now (cursor_of cur) (page_at result) buf.new }
 {
     let mut page = Page { cur, n: 0 };
+    // Line by line, and how many bytes a line takes is known behind it: no index counts here.
     while page.n + 256 <= buf.len() && page.cur.key.is_some() {
         page = put_next(second, table, page.cur, buf, page.n);
     }

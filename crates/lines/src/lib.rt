@@ -1,7 +1,8 @@
 // Text put into a lent buffer, behind the first `at` bytes of it. Each function answers where the text ends.
+// By hand: each contract names the bytes, as that of `write!` to a lent slice does not; a String would take the heap.
 #![tactic(auto)]
 
-ghost use Rattle.std.specs.Prelude.{◌≡◌, List, [], ◌∷◌, ◌++◌, ℕ, ◌+◌, ◌*◌, ◌≤◌, ◌<◌, length};
+ghost use Rattle.std.specs.Prelude.{[], ◌∷◌, ◌+◌, ◌*◌, ◌≤◌, ◌<◌, length};
 ghost use Rattle.definition.specs.Text.{decimal, eight_digits};
 ghost use Rattle.lines.specs.Wrote.{Wrote, fields_text, index_text, index_fields};
 
@@ -60,7 +61,7 @@ pub fn put_field(out: &mut [u8], at: usize, v: u32) -> usize
     put_number(out, a, v)
 }
 
-// A tab and eight hexadecimal digits.
+// A tab and eight hexadecimal digits. One with put_field, over a closure for the writer, would be longer to state.
 pub fn put_bits_field(out: &mut [u8], at: usize, v: u32) -> usize
     requires { at + 17 ≤ length out.old }
     ensures { Wrote (17) at out.old result out.new (9 ∷ eight_digits v) }
@@ -81,6 +82,7 @@ pub fn put_index(out: &mut [u8], at: usize, w: u32) -> usize
 }
 
 // A tab before each number.
+#[tactic(auto, unfolding(crate::specs::Wrote::fields_text))]
 pub fn put_fields(out: &mut [u8], at: usize, vals: &[u32]) -> usize
     requires { at + length vals.now * 21 ≤ length out.old }
     ensures { Wrote (length vals.now * 21) at out.old result out.new (fields_text vals.now) }
@@ -93,6 +95,7 @@ pub fn put_fields(out: &mut [u8], at: usize, vals: &[u32]) -> usize
 }
 
 // A tab before each index. A loop for both of them, over a closure, would carry the closure's contract: longer than this.
+#[tactic(auto, unfolding(crate::specs::Wrote::index_fields))]
 pub fn put_indices(out: &mut [u8], at: usize, vals: &[u32]) -> usize
     requires { at + length vals.now * 21 ≤ length out.old }
     ensures { Wrote (length vals.now * 21) at out.old result out.new (index_fields vals.now) }

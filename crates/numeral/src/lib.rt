@@ -1,7 +1,7 @@
 // Fields of a sheet read byte by byte: a number, a mask, a word.
 #![tactic(auto)]
 
-ghost use Rattle.std.specs.Prelude.{◌≡◌, ℕ, ◌+◌, ◌-◌, ◌*◌, ◌≤◌, ◌<◌};
+ghost use Rattle.std.specs.Prelude.{◌≡◌, ◌+◌, ◌-◌, ◌*◌, ◌<◌};
 ghost use Rattle.definition.specs.Text.{digit_of};
 ghost use Rattle.numeral.specs.Bytes.{number_byte, mask_byte, word_byte, take_byte, closed_of};
 
@@ -21,7 +21,8 @@ pub struct Num {
     pub len: u64,
 }
 
-// The digit that a byte is, to 15; 16 for none, and no Option: as the definition has it, 16 is a digit of no base.
+// The digit that a byte is, to 15; 16 for none, and no Option: as the definition has it, 16 is a digit of no base, so
+// that the test of the base, which each caller makes, finds it too.
 #[tactic(auto, unfolding(definition::specs::Text::digit_of))]
 pub fn digit(b: u8) -> u64
     ensures { result ≡ digit_of b }

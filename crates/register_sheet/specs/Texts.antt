@@ -1,6 +1,6 @@
 -- What the functions write one behind the other is the line. Assumes nothing.
 use Rattle.std.specs.Prelude.{◌≡◌, refl, List, [], ◌∷◌, ◌++◌, map, Bool, true, false, cond, ℕ, zero, suc, ◌+◌, ◌*◌, ◌/◌, ◌%◌, ◌≤◌, ◌<◌, length, get_or, take, eqb}
-use Rattle.std.proofs.Common.{sym, ap, ◌∙◌, append_assoc, arith}
+use Rattle.std.proofs.Common.{sym, ap, ◌∙◌, append_assoc, append-nil, arith}
 use Rattle.std.specs.Int.{from_bool}
 use borrow.Author.Tests.{eqb-true}
 use Rattle.definition.specs.Lines.{use_numbers, flags_number}
@@ -116,16 +116,12 @@ use_numbers_lem (suc (suc (suc (suc (suc (suc (suc (suc zero))))))) ∷ p ∷ a 
 use_numbers_lem (suc (suc (suc (suc (suc (suc (suc (suc (suc zero)))))))) ∷ p ∷ a ∷ b ∷ c ∷ d ∷ []) l h = refl
 use_numbers_lem (suc (suc (suc (suc (suc (suc (suc (suc (suc (suc k))))))))) ∷ p ∷ a ∷ b ∷ c ∷ d ∷ []) l h = absurd (omega (arith, h))
 
-append_end : {A : Type 0} (xs : List A) → xs ++ [] ≡ xs
-append_end [] = refl
-append_end (x ∷ xs) = ap (λ l. x ∷ l) (append_end xs)
-
 pub use_text_lem : (row : List ℕ) → length row ≡ 6 → get_or row 0 0 < 10 → use_numbers_line (take (use_length (get_or row 0 0)) row) ≡ use_line row
 unfolding use_numbers_line use_line line_bytes
 use_text_lem row l h =
     ap (λ (t : List ℕ). bytes "use" ++ t)
     (fields_tabbed (take (use_length (get_or row 0 0)) row) []
-    ∙ ap tabbed (append_end (map decimal (take (use_length (get_or row 0 0)) row)))
+    ∙ ap tabbed (append-nil (map decimal (take (use_length (get_or row 0 0)) row)))
     ∙ ap (λ (ns : List ℕ). tabbed (map decimal ns)) (use_numbers_lem row l h))
 
 indices : (ms : List ℕ) → map index_text ms ≡ map member_field (map member_of ms)
@@ -136,7 +132,7 @@ pub group_text_lem : (n : ℕ) (ms : List ℕ) → bytes "group" ++ ((9 ∷ deci
 unfolding group_line line_bytes index_fields
 group_text_lem n ms =
     ap (λ (t : List ℕ). bytes "group" ++ ((9 ∷ decimal n) ++ t))
-    (texts_tabbed index_text ms [] ∙ ap tabbed (append_end (map index_text ms)) ∙ ap tabbed (indices ms))
+    (texts_tabbed index_text ms [] ∙ ap tabbed (append-nil (map index_text ms)) ∙ ap tabbed (indices ms))
 
 pub end_text : (r g : ℕ) → bytes "end" ++ (fields_text (r ∷ g ∷ []) ++ (10 ∷ [])) ≡ end_line r g
 unfolding end_line line_bytes

@@ -1,13 +1,15 @@
 // The lines of a register sheet, put into a lent buffer behind its first `at` bytes. Each function answers where the line ends.
 // What stands in a line is taken as the words that the lent tables have of it.
+// By hand: each contract names the bytes, as that of `write!` to a lent slice does not; a String would take the heap.
 #![tactic(auto)]
 
-ghost use Rattle.std.specs.Prelude.{◌≡◌, List, [], ◌∷◌, ◌++◌, ℕ, ◌+◌, ◌*◌, ◌≤◌, ◌<◌, length, get_or};
+ghost use Rattle.std.specs.Prelude.{◌≡◌, ◌+◌, ◌≤◌, ◌<◌, length, get_or};
 ghost use Rattle.lines.specs.Wrote.{Wrote};
 ghost use Rattle.register_sheet.specs.Typed.{use_length, use_numbers_line, vreg_head, vreg_tail, origin_end, vreg_line, seg_line, use_line, group_line, end_line, refused_line};
 
 use definition::Origin;
 
+#[tactic(auto, unfolding(crate::specs::Typed::vreg_head))]
 fn vreg_head(out: &mut [u8], at: usize, n: u32, set: u32, class: u32, weight: u32) -> usize
     requires { at + 90 ≤ length out.old }
     ensures { Wrote (84) at out.old result out.new (vreg_head n set class weight) }
@@ -78,9 +80,12 @@ pub fn put_seg(
     put_origin(out, b, origin)
 }
 
+// By a use's kind. A list, as the contract's definition is one: a match would only spell it out.
 const LENGTHS: [usize; 10] = [3, 3, 6, 2, 4, 4, 5, 5, 3, 2];
 
 // How many numbers a use line has.
+// The kind is the word that the lent row has: a UseKind would first be made of all words of the row.
+#[tactic(auto, unfolding(crate::specs::Typed::use_length))]
 pub fn use_length(kind: u32) -> usize
     requires { kind < 10 }
     ensures { (result ≡ use_length kind) × (result ≤ 6) }
@@ -88,6 +93,7 @@ pub fn use_length(kind: u32) -> usize
     LENGTHS[kind as usize]
 }
 
+#[tactic(auto, unfolding(crate::specs::Typed::use_numbers_line))]
 fn use_line(out: &mut [u8], at: usize, vals: &[u32]) -> usize
     requires { (at + 130 ≤ length out.old) × (length vals.now ≤ 6) }
     ensures { Wrote (130) at out.old result out.new (use_numbers_line vals.now) }

@@ -1,7 +1,7 @@
 // The reader of job sheets: a sheet of any length goes through in parts of any length. `open`, `feed` for each part, `finish`.
 #![tactic(auto)]
 
-ghost use Rattle.std.specs.Prelude.{◌≡◌, ℕ, ◌+◌, ◌-◌, ◌*◌, ◌≤◌, ◌<◌};
+ghost use Rattle.std.specs.Prelude.{◌≡◌, ◌-◌, ◌*◌, ◌<◌};
 ghost use Rattle.words.specs.Words.{word_count, words_of};
 ghost use Rattle.sheet_fields.specs.State.{state_of, next_in};
 ghost use Rattle.sheet_fields.specs.Fields.{fed};

@@ -1,7 +1,7 @@
 // The reader of job sheets within a line: bytes, the end of a field, the end of a record. The state goes from call to call by value; the rows go into one lent table.
 #![tactic(auto)]
 
-ghost use Rattle.std.specs.Prelude.{◌≡◌, ℕ, ◌+◌, ◌-◌, ◌*◌, ◌≤◌, ◌<◌};
+ghost use Rattle.std.specs.Prelude.{◌≡◌, ◌+◌, ◌-◌, ◌<◌};
 ghost use Rattle.words.specs.Words.{words_of};
 ghost use Rattle.sheet_rules.specs.Kinds.{key_number};
 ghost use Rattle.sheet_fields.specs.State.{state_of, next_in};
@@ -13,6 +13,7 @@ use sheet_rules::Kind;
 // Where the reader stands: the record before, the record of this line (none: its word is not read yet), its first field, how many fields
 // it has so far, where its row goes, whether a table was full; and what was read of the field. A step gives None where the sheet is none.
 // It is copied with every byte, so the small fields stand together.
+// `kind` is a number: the first field of any record as it was read, and the kind of a use only where the record is one.
 #[derive(Clone, Copy)]
 pub struct St {
     pub prev: Option<Kind>,
@@ -62,11 +63,11 @@ fn start(s: St, out: &[u8]) -> Option<St>
     ensures { next_in result ≡ start_of (state_of s) (words_of out.now) }
 {
     let key = sheet_rules::key_of(s.value)?;
-    if !sheet_rules::follows(s.prev, key) {
+    if !sheet_rules::follows(s.prev, Some(key)) {
         return None;
     }
     let c = cells::get(out, sheet_places::count_at(Some(key)));
-    let row = sheet_places::row_at(key, c);
+    let row = sheet_places::row_at(Some(key), c);
     Some(St {
         key: Some(key),
         n: 1,

@@ -10,8 +10,7 @@ use Rattle.sheet_fields.specs.State.{next_in}
 use Rattle.sheet_fields.specs.Fields.{Next, Fed, fed}
 use Rattle.sheet.specs.declared.SheetError.TheVariants.{Malformed}
 use Rattle.sheet.specs.Machine.{Answer, push_of, open_of, answer_of}
-use Rattle.sheet_form.specs.Fronts.{Front, front_at}
-use Rattle.sheet_form.specs.Fronts.{Opening, First, Word, Plain, Before, Written}
+use Rattle.sheet_form.specs.Fronts.{Front, front_at, Opening, First, Word, Plain, Before, Written}
 use Rattle.sheet_form.specs.declared.Kept.{Kept}
 use Rattle.sheet_form.specs.declared.Stood.{Stood as Standing}
 use Rattle.sheet_form.specs.declared.Reading.{Reading}

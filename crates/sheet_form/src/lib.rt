@@ -10,7 +10,7 @@ ghost use Rattle.sheet_fields.specs.State.{next_in};
 ghost use Rattle.sheet_fields.specs.Fields.{fed};
 ghost use Rattle.sheet_rules.specs.Kinds.{number_of};
 ghost use Rattle.sheet_form.specs.Fronts.{front_at};
-ghost use Rattle.sheet_form.specs.Front.{stands, stood, stood_at, opening_of, front_after, in_word, in_plain, before_of, written_of, close_of};
+ghost use Rattle.sheet_form.specs.Front.{stood, stood_at, opening_of, front_after, in_word, in_plain, before_of, written_of, close_of};
 ghost use Rattle.sheet_form.specs.Front.{keeping, keep_of, formed, open_form, push_form, run_form, first_of, second_of, finish_of};
 
 use numeral::{Form, Num};
@@ -226,7 +226,8 @@ fn with_kept(s: Stood, kept: Kept) -> Reading
     Reading { front, next, kept }
 }
 
-// One more byte of the sheet.
+// One more byte of the sheet. A match, since where the reader stands is data that goes from byte to byte: a function
+// for the next byte may not be handed out.
 #[tactic(auto, unfolding(crate::specs::Front::push_form))]
 fn push(cur: Reading, b: u8, table: &mut [u8], written: &mut [u8]) -> Reading
     ensures { formed result (words_of table.new) (words_of written.new) ≡ push_form (formed cur (words_of table.old) (words_of written.old)) b }

@@ -1,7 +1,7 @@
 // The job that a job sheet's table stands for.
 #![tactic(auto)]
 
-ghost use Rattle.std.specs.Prelude.{◌≡◌, ◌+◌, ◌≤◌, ◌<◌};
+ghost use Rattle.std.specs.Prelude.{◌≡◌, ◌≤◌, ◌<◌};
 ghost use Rattle.words.specs.Words.{word_count, words_of};
 ghost use Rattle.sheet_job.specs.Fixed.{table_at, fixed_layout};
 

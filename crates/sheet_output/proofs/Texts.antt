@@ -23,7 +23,7 @@ use Rattle.definition.specs.declared.Origin.TheVariants.{Own, Conflict}
 use Rattle.definition.specs.Types.{Piece, Register, State, vset, cls, vreg, vrgroup}
 use Rattle.definition.specs.Place.{pieces_in, uses_in}
 use Rattle.definition.specs.Admit.{register_at, members_at, no_use}
-use Rattle.definition.specs.Lines.{Line, vreg_line_lem, seg_line_lem, use_line_lem, group_line_lem, numbers_of, use_numbers, flags_number, hint_in}
+use Rattle.definition.specs.Lines.{vreg_line_lem, seg_line_lem, use_line_lem, group_line_lem, numbers_of, use_numbers, flags_number, hint_in}
 use Rattle.definition.specs.Lines as lines
 use Rattle.definition.specs.JobSheet.{use_of, flags_of}
 use Rattle.definition.specs.RegisterSheet.{line_bytes}

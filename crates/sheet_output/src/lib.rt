@@ -1,11 +1,11 @@
 // The register sheet of the result tables, page by page through a lent buffer: a cursor has how many lines of each kind are printed.
 #![tactic(auto)]
 
-ghost use Rattle.std.specs.Prelude.{◌≡◌, false, ◌+◌, ◌*◌, ◌^◌, ◌≤◌, ◌<◌, length, get_or, take};
+ghost use Rattle.std.specs.Prelude.{◌≡◌, false, ◌+◌, ◌*◌, ◌^◌, ◌≤◌, ◌<◌, length, get_or};
 ghost use Rattle.words.specs.Words.{word_count, words_of};
 ghost use Rattle.virt_regs.specs.Encoding.{use_base, group_base, tables_end};
 ghost use Rattle.lines.specs.Wrote.{Wrote};
-ghost use Rattle.register_sheet.specs.Typed.{group_line, end_line};
+ghost use Rattle.register_sheet.specs.Typed.{end_line};
 ghost use Rattle.sheet_output.specs.Left.{at_start};
 ghost use Rattle.sheet_output.specs.Rows.{row_in, register_in, use_text, seg_text, vreg_text, group_text, behind_use, behind_seg, behind_vreg, behind_group, behind_end};
 ghost use Rattle.sheet_output.specs.Pages.{Shows, Stepped, Filled};
@@ -193,6 +193,7 @@ pub fn put_next(
 }
 
 // A page: lines from the cursor on, as long as the buffer has room for any line.
+// Not one with job_pages::fill: the cursor is another, and a closure for the line would carry its contract.
 pub fn fill(
     tables: &[u8],
     ol: OutLayout,

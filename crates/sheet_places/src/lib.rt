@@ -2,7 +2,7 @@
 // 4294967295 is nowhere: no table of words has that place.
 #![tactic(auto)]
 
-ghost use Rattle.std.specs.Prelude.{◌≡◌, ℕ, ◌+◌, ◌-◌, ◌*◌, ◌≤◌, ◌<◌, cond, ltb, get_or};
+ghost use Rattle.std.specs.Prelude.{◌≡◌, ◌+◌, ◌-◌, ◌*◌, ◌<◌, cond, ltb, get_or};
 ghost use Rattle.sheet_rules.specs.Kinds.{number_of, key_number};
 ghost use Rattle.sheet_places.specs.Places.{limit_of, base_of, width_of, stored_of, count_at, row_at, place_of, tail_at, tail_of, up_of};
 
@@ -41,17 +41,17 @@ pub fn limit(key: Option<Kind>) -> u32
 }
 
 #[tactic(auto, unfolding(crate::specs::Places::base_of, crate::specs::Places::bases))]
-fn base(key: Kind) -> u32
-    ensures { result ≡ base_of (number_of key) }
+fn base(key: Option<Kind>) -> u32
+    ensures { result ≡ base_of (key_number key) }
 {
-    BASES[key as usize]
+    entry(&BASES, key)
 }
 
 #[tactic(auto, unfolding(crate::specs::Places::width_of, crate::specs::Places::widths))]
-fn width(key: Kind) -> u32
-    ensures { result ≡ width_of (number_of key) }
+fn width(key: Option<Kind>) -> u32
+    ensures { result ≡ width_of (key_number key) }
 {
-    WIDTHS[key as usize]
+    entry(&WIDTHS, key)
 }
 
 // How many fields of a record are stored.
@@ -73,12 +73,12 @@ pub fn count_at(key: Option<Kind>) -> usize
     }
 }
 
-// The first word of row c of a kind of record; nowhere if its table is full.
+// The first word of row c of a kind of record; nowhere if its table is full, or there is no kind.
 #[tactic(auto, unfolding(crate::specs::Places::row_at), using(crate::proofs::Bounds::within))]
-pub fn row_at(key: Kind, c: u32) -> usize
-    ensures { result ≡ row_at (number_of key) c }
+pub fn row_at(key: Option<Kind>, c: u32) -> usize
+    ensures { result ≡ row_at (key_number key) c }
 {
-    if c < limit(Some(key)) {
+    if c < limit(key) {
         base(key) as usize + c as usize * width(key) as usize
     } else {
         NOWHERE

@@ -1,7 +1,7 @@
 // The rules of the job sheet's records as tables of numbers: the forms of their fields, their words, their order.
 #![tactic(auto)]
 
-ghost use Rattle.std.specs.Prelude.{◌≡◌, ℕ, ◌+◌, ◌-◌, ◌*◌, ◌≤◌, ◌<◌};
+ghost use Rattle.std.specs.Prelude.{◌≡◌, ◌+◌, ◌-◌, ◌*◌, ◌<◌};
 ghost use Rattle.sheet_rules.specs.Kinds.{number_of, key_number};
 ghost use Rattle.sheet_rules.specs.Rules.{form_row, code_at, form_of, form_at, more_after, key_of, follows_of, low_of, kind_after};
 
@@ -25,6 +25,7 @@ pub enum Kind {
 }
 
 // A line for each record, then one for each kind of use. An entry is the form of a field: 0 none, 1 number, 2 mask, 3 word, 4 up to 1, 5 up to 3, 6 up to 9, 7 up to 15.
+// Codes and no [Form; 242], as the definition has them: `Form::Number(9)` for a 6 would make it five times as long.
 const FORMS: [u8; 242] = [
     3, 1, 2, 2, 2, 0, 0, 0, 0, 0, 0, 3, 1, 0, 0, 0, 0, 0, 0, 0, 0, 0, 3, 2, 2, 1, 4, 0, 0, 0, 0, 0,
     0, 3, 4, 0, 0, 0, 0, 0, 0, 0, 0, 0, 3, 1, 2, 0, 0, 0, 0, 0, 0, 0, 0, 3, 1, 1, 5, 0, 0, 0, 0, 0,
@@ -37,6 +38,7 @@ const FORMS: [u8; 242] = [
 ];
 
 // A line for each record before, the last for none: 1 for each record that may follow.
+// Numbers and no bools, as the definition has them: `false` and `true` would make it twice as long.
 const FOLLOWS: [u8; 156] = [
     0, 1, 0, 0, 0, 0, 0, 0, 0, 0, 0, 0, 0, 1, 1, 0, 0, 0, 0, 0, 0, 0, 0, 0, 0, 0, 1, 1, 1, 0, 0, 0,
     0, 0, 0, 0, 0, 0, 0, 1, 1, 0, 0, 0, 0, 0, 0, 0, 0, 0, 0, 0, 1, 1, 1, 1, 1, 1, 0, 1, 0, 0, 0, 0,
@@ -46,6 +48,7 @@ const FOLLOWS: [u8; 156] = [
 ];
 
 // The line of FORMS: a use's own, by its kind, from its third field on; that of end for none.
+// The kind of a use is the number that was read, 10 and more too: an Option of an enum would first be made of it.
 #[tactic(auto, unfolding(crate::specs::Rules::form_row))]
 fn form_row(key: Option<Kind>, kind: u32, n: u32) -> usize
     ensures { result ≡ form_row (key_number key) kind n }
@@ -123,11 +126,14 @@ pub fn key_of(word: u64) -> Option<Kind>
     })
 }
 
-// Whether a record may follow another; none stands before the first.
+// Whether a record may follow another; none stands before the first, and what is none follows nothing.
 #[tactic(auto, unfolding(crate::specs::Rules::follows_of, crate::specs::Rules::order))]
-pub fn follows(prev: Option<Kind>, key: Kind) -> bool
-    ensures { result ≡ follows_of (key_number prev) (number_of key) }
+pub fn follows(prev: Option<Kind>, key: Option<Kind>) -> bool
+    ensures { result ≡ follows_of (key_number prev) (key_number key) }
 {
+    let Some(key) = key else {
+        return false;
+    };
     let before = match prev {
         Some(k) => k as usize,
         None => 12,
@@ -135,7 +141,7 @@ pub fn follows(prev: Option<Kind>, key: Kind) -> bool
     FOLLOWS[before * 12 + key as usize] != 0
 }
 
-// A number as a word; 0 for one that is too large.
+// A number as a word; 0 for one that is too large. No Option: each caller would put the same 0 in place of none.
 #[tactic(auto, unfolding(crate::specs::Rules::low_of))]
 pub fn low(v: u64) -> u32
     ensures { result ≡ low_of v }

@@ -9,11 +9,9 @@ use lib.Seq.{take_all, drop-cons}
 use Rattle.sheet_fields.specs.State.{next_in}
 use Rattle.sheet_fields.specs.Fields.{Next, Fed, fed}
 use Rattle.sheet.specs.Machine.{push_of, run_of}
-use Rattle.sheet_form.specs.Fronts.{Front, front_at}
-use Rattle.sheet_form.specs.Fronts.{Opening, First, Word, Plain, Before, Written}
+use Rattle.sheet_form.specs.Fronts.{Front, front_at, Opening, First, Word, Plain, Before, Written}
 use Rattle.sheet_form.specs.declared.Reading.{Reading}
-use Rattle.sheet_form.specs.Front.{stands, Keeping, keeping}
-use Rattle.sheet_form.specs.Front.{Formed, onward, formed, push_form, run_form, first_of}
+use Rattle.sheet_form.specs.Front.{stands, Keeping, keeping, Formed, onward, formed, push_form, run_form, first_of}
 use Rattle.sheet_form.proofs.feed.Goals as goal
 
 first_is : (f : Front) → first_of f ≡ true → f ≡ First
