@@ -5,6 +5,7 @@ use Rattle.std.specs.Bool.{beq}
 use Rattle.std.proofs.lemmas.Bool.{false≢true}
 use Rattle.std.proofs.Math.Option.{Option, none, some}
 use Rattle.definition.specs.JobSheet.{Word as Named, opt, bank, class, reg, block, value, vgroup, operand, hint, seg, use', end, word_number, all_words, next, among, Record, ordered}
+use Rattle.definition.proofs.Entries.{and_both}
 use Rattle.sheet_rules.specs.Rules.{order, follows_of}
 use Rattle.agree.specs.Words.{word_number_lem, none_some}
 use Rattle.agree.specs.Table.{keyed}
@@ -25,18 +26,14 @@ word_in [] k = none
 word_in (w ∷ ws) zero = some w
 word_in (w ∷ ws) (suc k) = word_in ws k
 
-both : (a b : Bool) → a && b ≡ true → (a ≡ true) × (b ≡ true)
-both true b e = (refl, e)
-both false b e = absurd (false≢true e)
-
 abbrev the : Named → Option Named → Named
 the d none = d
 the d (some w) = w
 
 all_at : (p : Named → Bool) (ws : List Named) → all p ws ≡ true → (k : ℕ) (w : Named) → word_in ws k ≡ some w → p w ≡ true
 all_at p [] e k w q = absurd (none_some q)
-all_at p (v ∷ ws) e zero w q = ap p (sym (ap (the v) q)) ∙ (both (p v) (all p ws) e).0
-all_at p (v ∷ ws) e (suc k) w q = all_at p ws (both (p v) (all p ws) e).1 k w q
+all_at p (v ∷ ws) e zero w q = ap p (sym (ap (the v) q)) ∙ (and_both (p v) (all p ws) e).0
+all_at p (v ∷ ws) e (suc k) w q = all_at p ws (and_both (p v) (all p ws) e).1 k w q
 
 each : (p : Named → Bool) → all p all_words ≡ true → (w : Named) → p w ≡ true
 each p e w = all_at p all_words e (word_number w) w (word_number_lem w)

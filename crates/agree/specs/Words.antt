@@ -7,6 +7,7 @@ use Rattle.std.proofs.Common.{arith, add-one, ltb-true, ltb-false, lt-ltb, le-lt
 use native.Mathlib.Nat.{pow-suc, pow-zero, pow-le-pow_right, mul_assoc, mul_comm}
 use Rattle.definition.specs.Text.{given, same, value_from, all_below, ◌>>=◌}
 use Rattle.definition.specs.JobSheet.{Word as Named, opt, bank, class, reg, block, value, vgroup, operand, hint, seg, use', end, spelling, word_number, all_words, word_among}
+use Rattle.definition.proofs.Same.{same_eq, same_refl}
 use Rattle.numeral.specs.Bytes.{num, word_byte, take_byte, closed_of}
 use Rattle.numeral.specs.declared.Form.TheVariants.{Word}
 use Rattle.sheet_rules.specs.Rules.{key_of}
@@ -147,20 +148,6 @@ one_word xs ys a b s t e = go (ltb (length xs) (length ys)) refl (ltb (length ys
 
 -- ---- the twelve words
 
-pub same_true : (f g : List ℕ) → same f g ≡ true → f ≡ g
-same_true [] [] e = refl
-same_true [] (c ∷ cs) e = absurd (false≢true e)
-same_true (b ∷ bs) [] e = absurd (false≢true e)
-same_true (b ∷ bs) (c ∷ cs) e = go (eqb b c) refl e (same_true bs cs)
-  where
-    go : (t : Bool) → eqb b c ≡ t → t && same bs cs ≡ true → (same bs cs ≡ true → bs ≡ cs) → b ∷ bs ≡ c ∷ cs
-    go true q h ih = ap (λ (x : ℕ). x ∷ bs) (eqb-true b c q) ∙ ap (λ (l : List ℕ). c ∷ l) (ih h)
-    go false q h ih = absurd (false≢true h)
-
-pub same_self : (f : List ℕ) → same f f ≡ true
-same_self [] = refl
-same_self (b ∷ bs) = rw (eq-eqb b b refl) (same_self bs)
-
 below_bytes : (f : List ℕ) → all_below 256 f ≡ true → Bytes f
 below_bytes [] e = tt
 below_bytes (b ∷ bs) e = go (ltb b 256) refl e (below_bytes bs)
@@ -200,10 +187,10 @@ same_value f g a b s t = go (same f g) refl (eqb (value_from 256 0 f) (value_fro
     go : (u : Bool) → same f g ≡ u → (v : Bool) → eqb (value_from 256 0 f) (value_from 256 0 g) ≡ v → u ≡ v
     go true e true q = refl
     go false e false q = refl
-    go true e false q = absurd (false≢true (sym q ∙ eq-eqb (value_from 256 0 f) (value_from 256 0 g) (ap (λ (l : List ℕ). value_from 256 0 l) (same_true f g e))))
+    go true e false q = absurd (false≢true (sym q ∙ eq-eqb (value_from 256 0 f) (value_from 256 0 g) (ap (λ (l : List ℕ). value_from 256 0 l) (same_eq f g e))))
     go false e true q =
         let i : f ≡ g = one_word f g a b s t (eqb-true (value_from 256 0 f) (value_from 256 0 g) q) in
-        absurd (false≢true (sym e ∙ ap (λ (l : List ℕ). same f l) (sym i) ∙ same_self f))
+        absurd (false≢true (sym e ∙ ap (λ (l : List ℕ). same f l) (sym i) ∙ same_refl f))
 
 -- the word of a number that it spells
 find_key : List Named → ℕ → Option Named
@@ -295,7 +282,7 @@ not_taken f e w = go (same f (spelling w)) refl
   where
     go : (t : Bool) → same f (spelling w) ≡ t → t ≡ false
     go false q = refl
-    go true q = absurd (none_some (sym e ∙ ap spelled (same_true f (spelling w) q) ∙ (plain w).taken))
+    go true q = absurd (none_some (sym e ∙ ap spelled (same_eq f (spelling w) q) ∙ (plain w).taken))
 
 no_word : (f : List ℕ) → spelled f ≡ none → (ws : List Named) → word_among ws f ≡ none
 unfolding word_among

@@ -19,8 +19,9 @@ use Rattle.definition.specs.SheetForms.{as_written, tenth_test, tests_of}
 use Rattle.definition.specs.Conversion.{field_text, field_texts, first_texts, second_texts, implied_field, longer}
 use Rattle.definition.specs.Conversion.{insts_behind, rec, grown, bare_fields, shrunk, moved_records}
 use Rattle.definition.proofs.Entries.{and_both, accepted_insts}
+use Rattle.definition.proofs.Same.{same_eq, same_refl}
 use Rattle.printed.specs.Round.{round_number}
-use Rattle.agree.specs.Words.{same_true, same_self, none_some}
+use Rattle.agree.specs.Words.{none_some}
 use Rattle.agree.specs.Values.{Small, AllSmall, record_small}
 use Rattle.sheet_rows.specs.Sheets.{On}
 use Rattle.form_agree.specs.Bare as Bare
@@ -296,7 +297,7 @@ sets_grown n job (r ∷ rs) h =
     go end ns e ih = ih
 
 same_equal : (f g : List ℕ) → f ≡ g → same f g ≡ true
-same_equal f g e = subst (λ (k : List ℕ). same f k ≡ true) e (same_self f)
+same_equal f g e = subst (λ (k : List ℕ). same f k ≡ true) e (same_refl f)
 
 pub written_grown : (rs : List Record) → Reads false rs → as_written (grown 0 (job_of_records rs) rs) ≡ true
 unfolding as_written
@@ -479,5 +480,5 @@ other false rs h o t =
           ∙ ap (λ (q : Option Refusal). tenth_test q true) p.0;
       back =
           ap (λ (j : Job). grown 0 j (shrunk rs)) (shrunk_job rs)
-          ∙ grown_shrunk 0 job rs h (same_true _ _ w.0 ∙ firsts_are rs) (same_true _ _ w.1 ∙ sets_are rs);
+          ∙ grown_shrunk 0 job rs h (same_eq _ _ w.0 ∙ firsts_are rs) (same_eq _ _ w.1 ∙ sets_are rs);
     }

@@ -16,8 +16,9 @@ use Rattle.definition.specs.SheetForms.{second_sheet, records_in}
 use Rattle.definition.specs.Conversion.{field_text, field_texts, first_texts, second_texts, texts_in, record_line, lines_text}
 use Rattle.definition.specs.Conversion.{sheet_text, rec}
 use Rattle.definition.proofs.Forms.{first_records, second_records_lem}
+use Rattle.definition.proofs.Same.{same_eq}
 use Rattle.printed.specs.Clean.{body, tabbed_body}
-use Rattle.agree.specs.Words.{same_true, none_some}
+use Rattle.agree.specs.Words.{none_some}
 use Rattle.conversion.specs.Spelling.{given_some, number_text, bits_text}
 
 -- what a bind that gives something went through
@@ -167,7 +168,7 @@ word_text (v ∷ ws) f w e = go (same f (spelling v)) refl e (word_text ws f w)
   where
     go : (t : Bool) → same f (spelling v) ≡ t → elim t [ true ↦ some v | false ↦ word_among ws f ] ≡ some w
         → (word_among ws f ≡ some w → spelling w ≡ f) → spelling w ≡ f
-    go true s h r = ap spelling (sym (some-injective v w h)) ∙ sym (same_true f (spelling v) s)
+    go true s h r = ap spelling (sym (some-injective v w h)) ∙ sym (same_eq f (spelling v) s)
     go false s h r = r h
 
 fields_line : (l : List ℕ) → (fields_of l).first ++ body (fields_of l).rest ≡ l
@@ -308,7 +309,7 @@ sheet_whole true bs rs s e =
     record {
       text =
           ap (λ (l : List ℕ). form_line ++ l) r.text
-          ∙ ap (λ (l : List ℕ). l ++ behind_form bs) (sym (same_true (take (length form_line) bs) form_line s))
+          ∙ ap (λ (l : List ℕ). l ++ behind_form bs) (sym (same_eq (take (length form_line) bs) form_line s))
           ∙ take-append-drop (length form_line) bs;
       reads = r.reads;
       order = r.order;

@@ -28,6 +28,7 @@ pub mod Marks
 pub mod Promises
 pub mod Touched
 pub mod Weighed
+pub mod Written
 mod SheetCases
 mod ConversionCases
 pub mod Forms

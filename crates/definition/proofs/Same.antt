@@ -51,7 +51,7 @@ same_eq [] (y ∷ ys) e = let z : ◌≡◌ {A = ℕ} 0 1 = cc in absurd (omega 
 same_eq (x ∷ xs) [] e = let z : ◌≡◌ {A = ℕ} 0 1 = cc in absurd (omega arith)
 same_eq (x ∷ xs) (y ∷ ys) e = let a = and_both (eqb x y) (same xs ys) e in let q : x ≡ y = eqb-true _ _ a.0 in let r : xs ≡ ys = same_eq xs ys a.1 in rw (q, r)
 
-same_refl : (xs : List ℕ) → same xs xs ≡ true
+pub same_refl : (xs : List ℕ) → same xs xs ≡ true
 same_refl [] = refl
 same_refl (x ∷ xs) = rw (eq-eqb x x refl) (same_refl xs)
 

@@ -4,15 +4,12 @@
 use mathlib.Core.Path.{◌≡◌, refl}
 use Prim.Native.Nat.{ℕ, ◌+◌}
 use Prim.Native.String.{String}
-use mathlib.Core.Bool.{Bool, true, false, cond}
+use mathlib.Core.Bool.{cond}
 use mathlib.Core.Option.{Option, none, some}
 use mathlib.Core.List.{List, [], ◌∷◌, ◌++◌, map}
 use lib.Dec.{eqb}
 use lib.ListN.{take, drop, set, replicate}
-use Rattle.definition.specs.Types.{UseKind, FixedDef, FixedUse, TiedUse, ConstraintConflict, ClassUse, ClassDef}
-use Rattle.definition.specs.Types.{GroupClassUse, GroupClassDef, BlockparamIn, BlockparamOut, UseFlags, inst}
-use Rattle.definition.specs.Lines.{numbers_of, flags_number}
-use Rattle.definition.specs.JobSheet.{Record, sheet_of, use_of, flags_of}
+use Rattle.definition.specs.JobSheet.{Record, sheet_of}
 use Rattle.definition.specs.Text.{bytes, tab, line_feed}
 use Rattle.definition.specs.SheetForms.{vregs_of}
 
@@ -398,40 +395,3 @@ order =
 order_holds : map (λ c. followers c.0) order ≡ map (λ c. bytes c.1) order
 unfolding followers order
 order_holds = refl
-
--- ---- what the writer makes of a use and of flags is what the reader reads
-
-use_back : (k : UseKind) (p : ℕ) → use_of (numbers_of k p) ≡ record { pos = inst p; kind = k }
-unfolding use_of
-use_back (FixedDef r) p = refl
-use_back (FixedUse r) p = refl
-use_back (TiedUse u d c i) p = refl
-use_back ConstraintConflict p = refl
-use_back (ClassUse s c) p = refl
-use_back (ClassDef s c) p = refl
-use_back (GroupClassUse s c i) p = refl
-use_back (GroupClassDef s c i) p = refl
-use_back (BlockparamIn q) p = refl
-use_back BlockparamOut p = refl
-
-flags_as : Bool → Bool → Bool → Bool → UseFlags
-flags_as a b c d = record { livein = a; liveout = b; fixedhint = c; fixeddef = d }
-
-flags_back : (a b c d : Bool) → flags_of (flags_number (flags_as a b c d)) ≡ flags_as a b c d
-unfolding flags_of flags_as
-flags_back false false false false = refl
-flags_back true false false false = refl
-flags_back false true false false = refl
-flags_back true true false false = refl
-flags_back false false true false = refl
-flags_back true false true false = refl
-flags_back false true true false = refl
-flags_back true true true false = refl
-flags_back false false false true = refl
-flags_back true false false true = refl
-flags_back false true false true = refl
-flags_back true true false true = refl
-flags_back false false true true = refl
-flags_back true false true true = refl
-flags_back false true true true = refl
-flags_back true true true true = refl

@@ -4,17 +4,14 @@ use Rattle.std.proofs.Common.{sym, ap, ◌∙◌, append_assoc, arith, ne_eqb}
 use Rattle.std.proofs.Math.Option.{Option, none, some}
 use Rattle.definition.specs.declared.VirtReg.{VirtReg}
 use Rattle.definition.specs.declared.VirtRegGroup.{VirtRegGroup}
-use Rattle.definition.specs.declared.UseFlags.{UseFlags}
-use Rattle.definition.specs.declared.UseKind.{UseKind}
-use Rattle.definition.specs.declared.UseKind.TheVariants.{FixedDef, FixedUse, TiedUse, ConstraintConflict, ClassUse, ClassDef, GroupClassUse, GroupClassDef, BlockparamIn, BlockparamOut}
-use Rattle.definition.specs.declared.Use.{Use}
 use Rattle.definition.specs.declared.Origin.{Origin}
 use Rattle.definition.specs.declared.Origin.TheVariants.{Own, Conflict}
 use Rattle.definition.specs.Types.{val, vset, cls, point, vreg, vrgroup}
-use Rattle.definition.specs.Lines.{Line, vreg_line_lem, seg_line_lem, use_line_lem, group_line_lem, end_line_lem, numbers_of, use_numbers, flags_number}
+use Rattle.definition.specs.Lines.{Line, vreg_line_lem, seg_line_lem, use_line_lem, group_line_lem, end_line_lem, use_numbers, flags_number}
 use Rattle.definition.specs.Text.{◌>>=◌, bytes, digit_of, value_from, glyph, digits, places, decimal, eight_digits, tabbed, Fields, fields_of, lines_of}
 use Rattle.definition.specs.JobSheet.{use_of, flags_of}
 use Rattle.definition.specs.RegisterSheet.{group_field, member_field, origin_field, hint_field, line_bytes, lines_bytes}
+use Rattle.definition.proofs.Written.{flags_back, use_back}
 use Rattle.lines.specs.Places.{fewest_decimal}
 use Rattle.printed.specs.Round.{digits_cons, spells, spells_bits}
 use Rattle.printed.specs.Clean.{Clean, AllClean, glyph_most, clean_decimal, clean_bits, body, tabbed_body, feed_line, fields_back, lines_back}
@@ -159,47 +156,6 @@ members_back (some r ∷ ms) =
 hint_back : (h : Bool) → eqb (number (hint_field h)) 1 ≡ h
 hint_back true = ap (λ (k : ℕ). eqb k 1) (number_back 1)
 hint_back false = ap (λ (k : ℕ). eqb k 1) (number_back 0)
-
-flags_back : (f : UseFlags) → flags_of (flags_number f) ≡ f
-unfolding flags_of
-flags_back f = go f.livein f.liveout f.fixedhint f.fixeddef
-  where
-    all : Bool → Bool → Bool → Bool → UseFlags
-    all a b c d = record { livein = a; liveout = b; fixedhint = c; fixeddef = d }
-
-    go : (a b c d : Bool) → flags_of (flags_number (all a b c d)) ≡ all a b c d
-    go true true true true = refl
-    go true true true false = refl
-    go true true false true = refl
-    go true true false false = refl
-    go true false true true = refl
-    go true false true false = refl
-    go true false false true = refl
-    go true false false false = refl
-    go false true true true = refl
-    go false true true false = refl
-    go false true false true = refl
-    go false true false false = refl
-    go false false true true = refl
-    go false false true false = refl
-    go false false false true = refl
-    go false false false false = refl
-
-use_back : (u : Use) → use_of (use_numbers u) ≡ u
-unfolding use_of
-use_back u = go u.kind
-  where
-    go : (k : UseKind) → use_of (numbers_of k u.pos.0) ≡ record { pos = u.pos; kind = k }
-    go (FixedDef r) = refl
-    go (FixedUse r) = refl
-    go (TiedUse a b c i) = refl
-    go ConstraintConflict = refl
-    go (ClassUse s c) = refl
-    go (ClassDef s c) = refl
-    go (GroupClassUse s c i) = refl
-    go (GroupClassDef s c i) = refl
-    go (BlockparamIn q) = refl
-    go BlockparamOut = refl
 
 origin_back : (o : Origin) → cond (eqb (get_or (origin_field o) 0 0) 99) Conflict Own ≡ o
 origin_back Own = refl

@@ -1,6 +1,6 @@
 -- The lines of rows that hold a state are the lines of what they hold. Assumes nothing.
 use mathlib.Core.Path.{◌≡◌, refl, ap, ◌∙◌}
-use mathlib.Core.Bool.{Bool, true, false, cond}
+use mathlib.Core.Bool.{Bool, true, false}
 use mathlib.Core.Option.{Option, none, some}
 use mathlib.Core.List.{List, [], ◌∷◌, map}
 use Prim.Native.Nat.{ℕ, zero, suc, ◌+◌, ◌*◌, ◌≤◌, ◌<◌}
@@ -14,7 +14,6 @@ use Rattle.rows.specs.Tab.{tab}
 use Rattle.definition.specs.declared.Inst.{Inst}
 use Rattle.definition.specs.declared.VirtReg.{VirtReg}
 use Rattle.definition.specs.declared.VirtRegGroup.{VirtRegGroup}
-use Rattle.definition.specs.declared.UseFlags.{UseFlags}
 use Rattle.definition.specs.declared.UseKind.{UseKind}
 use Rattle.definition.specs.declared.UseKind.TheVariants.{FixedDef, FixedUse, TiedUse, ConstraintConflict, ClassUse, ClassDef, GroupClassUse, GroupClassDef, BlockparamIn, BlockparamOut}
 use Rattle.definition.specs.declared.Use.{Use}
@@ -23,10 +22,11 @@ use Rattle.definition.specs.declared.Origin.TheVariants.{Own, Conflict}
 use Rattle.definition.specs.Types.{Piece, Register, State, vset, cls, vreg, vrgroup}
 use Rattle.definition.specs.Place.{pieces_in, uses_in}
 use Rattle.definition.specs.Admit.{register_at, members_at, no_use}
-use Rattle.definition.specs.Lines.{vreg_line_lem, seg_line_lem, use_line_lem, group_line_lem, numbers_of, use_numbers, flags_number, hint_in}
+use Rattle.definition.specs.Lines.{vreg_line_lem, seg_line_lem, use_line_lem, group_line_lem, numbers_of, use_numbers, hint_in}
 use Rattle.definition.specs.Lines as lines
-use Rattle.definition.specs.JobSheet.{use_of, flags_of}
+use Rattle.definition.specs.JobSheet.{use_of}
 use Rattle.definition.specs.RegisterSheet.{line_bytes}
+use Rattle.definition.proofs.Written.{flags_back}
 use Rattle.virt_regs.specs.declared.OutLayout.{OutLayout}
 use Rattle.virt_regs.specs.Encoding.{use_base, group_base, group_word, place_word, origin_word, hint_word, register_row, use_words, each_register, Holds}
 use Rattle.virt_regs.specs.Reads.{piece_at, first_piece, register_word, use_word, piece_held, size_held, size_le, member_held}
@@ -64,28 +64,6 @@ kind_most (GroupClassUse s c i) p = omega arith
 kind_most (GroupClassDef s c i) p = omega arith
 kind_most (BlockparamIn q) p = omega arith
 kind_most BlockparamOut p = omega arith
-
-flags_back : (f : UseFlags) → flags_of (flags_number f) ≡ f
-unfolding flags_of
-flags_back f = go f.livein f.liveout f.fixedhint f.fixeddef
-  where
-    go : (a b c d : Bool) → flags_of (cond a 1 0 + cond b 2 0 + cond c 4 0 + cond d 8 0) ≡ record { livein = a; liveout = b; fixedhint = c; fixeddef = d }
-    go false false false false = refl
-    go false false false true = refl
-    go false false true false = refl
-    go false false true true = refl
-    go false true false false = refl
-    go false true false true = refl
-    go false true true false = refl
-    go false true true true = refl
-    go true false false false = refl
-    go true false false true = refl
-    go true false true false = refl
-    go true false true true = refl
-    go true true false false = refl
-    go true true false true = refl
-    go true true true false = refl
-    go true true true true = refl
 
 origin_back : (o : Origin) → origin_of (origin_word o) ≡ o
 origin_back Own = refl

@@ -1,10 +1,10 @@
 -- What a comparison says, whether it found a difference or none. Assumes nothing.
-use Rattle.std.specs.Prelude.{◌≡◌, refl, Bool, true, false, ◌&&◌, List, [], ◌∷◌, ℕ, eqb}
-use Rattle.std.proofs.Common.{sym, ap, ◌∙◌, eq-eqb, eqb-true}
-use Rattle.std.proofs.lemmas.Bool.{false≢true}
+use Rattle.std.specs.Prelude.{◌≡◌, refl, Bool, true, false, List, ℕ}
+use Rattle.std.proofs.Common.{sym, ap, ◌∙◌}
 use Rattle.definition.specs.Build.{Result}
 use Rattle.definition.specs.Text.{same}
 use Rattle.definition.specs.SheetForms.{SheetOut, answer_text}
+use Rattle.definition.proofs.Same.{same_eq, same_refl}
 use Rattle.sheet_output.specs.Left.{at_start}
 use Rattle.build_answer.specs.declared.BuildEnd.{BuildEnd}
 use Rattle.answer_pages.specs.Pages.{Printing}
@@ -16,25 +16,11 @@ TellsSheet e x answer r = (o : SheetOut Result) → Printing vregs_tables o e x 
 
 -- ---- `same` is true of equal lists alone
 
-pub same_refl : (xs : List ℕ) → same xs xs ≡ true
-same_refl [] = refl
-same_refl (x ∷ xs) = ap (λ (b : Bool). b && same xs xs) (eq-eqb x x refl) ∙ same_refl xs
-
-pub same_true : (xs ys : List ℕ) → same xs ys ≡ true → xs ≡ ys
-same_true [] [] e = refl
-same_true [] (y ∷ ys) e = absurd (false≢true e)
-same_true (x ∷ xs) [] e = absurd (false≢true e)
-same_true (x ∷ xs) (y ∷ ys) e = go (eqb x y) refl e (same_true xs ys)
-  where
-    go : (b : Bool) → eqb x y ≡ b → b && same xs ys ≡ true → (same xs ys ≡ true → xs ≡ ys) → (x ∷ xs) ≡ (y ∷ ys)
-    go true p q h = ap (λ (z : ℕ). z ∷ xs) (eqb-true x y p) ∙ ap (λ (zs : List ℕ). y ∷ zs) (h q)
-    go false p q h = absurd (false≢true q)
-
 -- what is true exactly of equal lists is `same`
 pub same_is : (b : Bool) (xs ys : List ℕ) → (b ≡ true → xs ≡ ys) × (xs ≡ ys → b ≡ true) → b ≡ same xs ys
 same_is true xs ys h = sym (ap (λ (zs : List ℕ). same xs zs) (sym (h.0 refl)) ∙ same_refl xs)
 same_is false xs ys h = go (same xs ys) refl
   where
     go : (b : Bool) → same xs ys ≡ b → false ≡ same xs ys
-    go true e = h.1 (same_true xs ys e) ∙ sym e
+    go true e = h.1 (same_eq xs ys e) ∙ sym e
     go false e = sym e

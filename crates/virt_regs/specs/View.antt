@@ -1,10 +1,10 @@
 -- The registers and groups read back from the words: the tables lose nothing. Assumes nothing.
-use Rattle.std.specs.Prelude.{◌≡◌, refl, Bool, true, false, cond, eqb, take}
+use Rattle.std.specs.Prelude.{◌≡◌, refl, take}
 use Rattle.std.proofs.Common.{sym, ◌∙◌, zero-add, add-one}
 use Rattle.std.proofs.Math.Path.{ap}
 use Rattle.std.proofs.Math.Option.{Option, none, some}
 use mathlib.Core.List.{List, [], ◌∷◌, ◌++◌}
-use Prim.Native.Nat.{ℕ, zero, suc, ◌+◌, ◌*◌, ◌/◌, ◌%◌, ◌≤◌, ◌<◌}
+use Prim.Native.Nat.{ℕ, zero, suc, ◌+◌, ◌*◌, ◌≤◌, ◌<◌}
 use native.Mathlib.Omega.{arith}
 use Rattle.std.proofs.Math.ListN.{length, get_or, drop, length-append, get_or-append}
 use Rattle.std.specs.Float.Ieee.{binary32, of_bits}
@@ -13,14 +13,14 @@ use Rattle.rows.specs.Tab.{tab, length_tab, get_or_tab}
 use Rattle.rows.specs.RowsAt.{rows_at, length_rows_at, get_or_rows_at}
 use Rattle.definition.specs.declared.VirtReg.{VirtReg}
 use Rattle.definition.specs.declared.VirtRegGroup.{VirtRegGroup}
-use Rattle.definition.specs.declared.UseFlags.{UseFlags}
 use Rattle.definition.specs.declared.Use.{Use}
 use Rattle.definition.specs.declared.Origin.{Origin}
 use Rattle.definition.specs.declared.Origin.TheVariants.{Own, Conflict}
 use Rattle.definition.specs.Types.{Piece, Register, State, val, point, vset, cls, vreg, vrgroup}
 use Rattle.definition.specs.Place.{pieces_in, uses_in, uses_of, segs_of}
-use Rattle.definition.specs.Lines.{flags_number}
+use Rattle.definition.specs.JobSheet.{flags_of}
 use Rattle.definition.specs.Admit.{register_at, no_register, members_at, no_use}
+use Rattle.definition.proofs.Written.{flags_back}
 use Rattle.uses.specs.Rows.{use_row}
 use Rattle.virt_regs.specs.declared.OutLayout.{OutLayout}
 use Rattle.virt_regs.specs.declared.Counts.{Counts}
@@ -43,10 +43,6 @@ group_of (suc n) = some (vrgroup n)
 abbrev pub member_of : ℕ → Option VirtReg
 member_of zero = none
 member_of (suc n) = some (vreg n)
-
--- "Flags: 1 live-in, 2 live-out, 4 fixed hint, 8 fixed def."
-abbrev pub flags_of : ℕ → UseFlags
-flags_of n = record { livein = eqb (n % 2) 1; liveout = eqb (n / 2 % 2) 1; fixedhint = eqb (n / 4 % 2) 1; fixeddef = eqb (n / 8 % 2) 1 }
 
 -- the piece, the register and the group whose rows begin at word i
 unfoldable pub piece_of : OutLayout → List ℕ → ℕ → Piece
@@ -84,27 +80,6 @@ unfolding group_places
 groups_in ol O n = rows_at group_places O (group_base ol) 9 n
 
 -- ---- read back
-
-flags_back : (f : UseFlags) → flags_of (flags_number f) ≡ f
-flags_back f = go f.livein f.liveout f.fixedhint f.fixeddef
-  where
-    go : (a b c d : Bool) → flags_of (cond a 1 0 + cond b 2 0 + cond c 4 0 + cond d 8 0) ≡ record { livein = a; liveout = b; fixedhint = c; fixeddef = d }
-    go false false false false = refl
-    go false false false true = refl
-    go false false true false = refl
-    go false false true true = refl
-    go false true false false = refl
-    go false true false true = refl
-    go false true true false = refl
-    go false true true true = refl
-    go true false false false = refl
-    go true false false true = refl
-    go true false true false = refl
-    go true false true true = refl
-    go true true false false = refl
-    go true true false true = refl
-    go true true true false = refl
-    go true true true true = refl
 
 origin_back : (o : Origin) → origin_of (origin_word o) ≡ o
 origin_back Own = refl
