@@ -208,7 +208,9 @@ fn admit_group(
     admit_into(fr, out, held, k, u.index, g)
 }
 
-// Whether a use is admitted, and what is then held. Kinds other than class uses are always admitted.
+// Whether a use is admitted, and what is then held. Kinds other than class uses are always admitted. Inlined, so that
+// what is held is not copied in and out at each use.
+#[inline(always)]
 pub fn admit(fr: &Frame, out: &[u8], work: &[u8], held: Held, u: Use) -> Option<Held>
     requires { Ready fr.now work.now × (tables_end fr.now.ol ≤ word_count out.now) }
     ensures { (st : State) → Stands fr.now out.now work.now st → Backed (job_in fr.now.job) u → admission_of result ≡ admission.admit (job_in fr.now.job) st (held_of held) u }

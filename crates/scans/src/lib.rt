@@ -5,7 +5,7 @@ ghost use Rattle.std.specs.Prelude.{◌≡◌, ℕ, ◌+◌, ◌-◌, ◌*◌, �
 ghost use Rattle.std.specs.Float.{binary32};
 ghost use Rattle.std.specs.Float.Ieee.{of_bits};
 ghost use Rattle.rows.specs.Tab.{tab, down};
-ghost use Rattle.words.specs.Words.{word_count, words_of};
+ghost use Rattle.words.specs.Words.{word_count};
 ghost use Rattle.layout.specs.JobWords.{words_in};
 ghost use Rattle.definition.specs.Types.{State};
 ghost use Rattle.definition.specs.Entry.{insts_of};
@@ -65,7 +65,8 @@ pub fn fresh_held(top: RegClass) -> Held
     }
 }
 
-// Whether use n is admitted.
+// Whether use n is admitted. Inlined as admit is.
+#[inline(always)]
 fn admit_at(fr: &Frame, out: &[u8], work: &[u8], held: Held, n: usize) -> Option<Held>
     requires { Ready fr.now work.now × (tables_end fr.now.ol ≤ word_count out.now) × (n < fr.now.job.lay.uses.n) × (0 < fr.now.job.lay.segments.n) }
     ensures { (st : State) → Stands fr.now out.now work.now st → admission_of result ≡ admit (job_in fr.now.job) st (held_of held) (marked_use fr.now work.now n) }
