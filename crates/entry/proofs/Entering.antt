@@ -17,6 +17,7 @@ use Rattle.definition.specs.declared.Hint.{Hint}
 use Rattle.definition.specs.Types.{Job}
 use Rattle.definition.specs.Entry.{every, insts_of, insts, apart, same_place, chained, not_after, limits_ok, function_ok, hints_ok, entry_tests, entry}
 use Rattle.definition.proofs.Entries.{and_both, lowest_none}
+use Rattle.entry_function.proofs.Tables.{raw_insts}
 use Rattle.function.specs.Blocks.{blocks_at}
 use Rattle.hints.specs.Hints.{hint_at}
 use Rattle.operands.specs.declared.Chains.{Chains}
@@ -32,7 +33,7 @@ use Rattle.entry_book.specs.Limits.{Limited}
 use Rattle.entry_book.proofs.Limits.{limited}
 use Rattle.entry_book.proofs.Book.{book_bytes}
 use Rattle.entry_function.specs.Counts.{Indexes}
-use Rattle.entry_function.proofs.Tables.{raw_operands, raw_hints, raw_blocks, limits_within}
+use Rattle.entry_function.proofs.Tables.{raw_operands, raw_hints, limits_within}
 use Rattle.entry_function.proofs.Passed.{passed_apart, passed_operands}
 use Rattle.entry_kinds.specs.Tests.{Ready}
 use Rattle.entry_uses.proofs.Typed.{raw_is_job}
@@ -42,11 +43,6 @@ use Rattle.work_layout.proofs.Parts.{heads_are}
 use Rattle.entry.specs.Number.{refusal_in}
 use Rattle.entry.specs.Accepted.{Accepted}
 use Rattle.entry.proofs.Counts.{rising}
-
--- the number of instructions
-pub raw_insts : (W : List ℕ) (lay : Layout) → insts (raw_job W lay) ≡ insts_of (blocks_at W lay.blocks.at lay.blocks.n)
-unfolding insts
-raw_insts W lay = ap insts_of (raw_blocks W lay)
 
 -- what holds, holds where an answer is a job's
 pub if_ok : {A E : Type 0} {P : Type 0} (r : Result A E) → P → IfOk r (λ a. P)

@@ -14,6 +14,7 @@ use job_shape::ShapedJob;
 use layout::{Job, Layout};
 
 // The counts of all tables, in the order of the definition's tests.
+#[tactic(auto, unfolding(definition::specs::Entry::conj))]
 fn counts_ok(lay: &Layout) -> bool
     ensures { result ≡ conj (function_counts lay.now) && conj (other_counts lay.now) }
 {
@@ -95,6 +96,7 @@ fn classes_ok(job: &Job) -> bool
 }
 
 // The three scales of the options that begin at word i.
+#[tactic(auto, unfolding(definition::specs::Entry::conj))]
 fn scales_ok(job: &[u8], i: usize) -> bool
     requires { i + 4 ≤ word_count job.now }
     ensures { result ≡ conj (scale_tests (words_of job.now) i) }

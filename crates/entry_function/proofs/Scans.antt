@@ -1,16 +1,13 @@
 -- What two tests, a test over a table and a list of tests say of each, where all pass. Assumes nothing.
 use Prim.Native.Nat.{ℕ, zero, suc, ◌+◌, ◌<◌}
 use native.Mathlib.Omega.{arith}
-use mathlib.Core.Path.{◌≡◌, refl}
-use mathlib.Core.Bool.{Bool, true, false, ◌&&◌}
+use mathlib.Core.Path.{◌≡◌}
+use mathlib.Core.Bool.{Bool, true}
 use mathlib.Core.List.{List, [], ◌∷◌}
 use lib.ListN.{length, get_or}
 use Rattle.rows.specs.Tab.{tab}
 use Rattle.definition.specs.Entry.{conj, every}
-
-pub and_both : (p q : Bool) → p && q ≡ true → (p ≡ true) × (q ≡ true)
-and_both true q e = (refl, e)
-and_both false q e = let z : ◌≡◌ {A = ℕ} 0 1 = cc in absurd (omega arith)
+use Rattle.definition.proofs.Entries.{and_both}
 
 -- a test that all pass is passed by each
 pub each_at : {A : Type 0} (f : A → Bool) (g : ℕ → A) (i n k : ℕ) → every f (tab g i n) ≡ true → k < n → f (g (i + k)) ≡ true

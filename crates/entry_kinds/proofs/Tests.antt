@@ -27,12 +27,6 @@ use Rattle.entry_function.proofs.Tests.{operands_of_lem}
 use Rattle.entry_function.proofs.Passed.{operand_fits, members_few, passed_apart}
 use Rattle.entry_kinds.specs.Tests.{class_use_ok, tied_use_ok, Ready}
 
--- ---- a tied use whose slot and index fit
-
-pub tied_by : (n s d c i : ℕ) (t : Bool) → d < 65536 → i < 256 → t ≡ class_use_ok n s c → t ≡ tied_use_ok n s d c i
-unfolding tied_use_ok
-tied_by n s d c i t h k e = rw (lt-ltb _ _ h, lt-ltb _ _ k) e
-
 -- ---- a group use's operand
 
 module _ (W : List ℕ) (lay : Layout) (p : function_ok (raw_job W lay) ≡ true) (k : ℕ) (h : k < lay.operands.n) (o : Operand) (r : o ≡ operand_row W (lay.operands.at + k * 4)) where

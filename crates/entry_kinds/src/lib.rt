@@ -19,6 +19,7 @@ pub use indexed::Indexed;
 use operands::Index;
 
 // Whether a slot fits its type and a class is one of n.
+#[tactic(auto, unfolding(crate::specs::Tests::class_use_ok))]
 fn class_use_ok(n: usize, slot: u32, class: u32) -> bool
     ensures { result ≡ class_use_ok n slot class }
 {
@@ -26,6 +27,7 @@ fn class_use_ok(n: usize, slot: u32, class: u32) -> bool
 }
 
 // Whether two slots and a group index fit their types and a class is one of n.
+#[tactic(auto, unfolding(crate::specs::Tests::tied_use_ok))]
 fn tied_use_ok(n: usize, slot: u32, def: u32, class: u32, index: u32) -> bool
     ensures { result ≡ tied_use_ok n slot def class index }
 {

@@ -16,6 +16,7 @@ use layout::Job;
 
 // Whether a segment from p to q is not empty, neither point has slot 3, and it ends at the latest where `count`
 // instructions do.
+#[tactic(auto, unfolding(crate::specs::Tests::span_ok))]
 fn span_ok(p: LiveRangePoint, q: LiveRangePoint, count: usize) -> bool
     ensures { result ≡ span_ok p q count }
 {

@@ -25,7 +25,8 @@ use Rattle.uses.proofs.Typed.{typed_row_lem}
 use Rattle.layout.specs.declared.Layout.{Layout}
 use Rattle.layout.specs.Layout.{seg_at, next_use, job_uses, segment_of}
 use Rattle.job.specs.Job.{job_by, raw_job, job_of}
-use Rattle.entry_function.proofs.Scans.{and_both, each_at, conj_at}
+use Rattle.definition.proofs.Entries.{and_both}
+use Rattle.entry_function.proofs.Scans.{each_at, conj_at}
 use Rattle.entry_function.proofs.Tables.{raw_segments}
 use Rattle.entry_function.proofs.Passed.{operand_fits, members_few, passed_apart}
 

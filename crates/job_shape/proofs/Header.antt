@@ -1,31 +1,11 @@
 -- The tables of a header, one behind the other. Assumes nothing.
-use Prim.Native.Nat.{ℕ, ◌+◌, ◌*◌, ◌≤◌, ◌<◌}
-use native.Mathlib.Omega.{arith}
-use native.Mathlib.Nat.{mul-le-mul_left}
+use Prim.Native.Nat.{ℕ}
 use mathlib.Core.Path.{◌≡◌}
-use mathlib.Core.Bool.{true}
 use mathlib.Core.List.{List}
-use lib.Dec.{leb}
 use lib.ListN.{get_or}
-use borrow.Author.Tests.{leb-true}
 use Rattle.layout.specs.declared.Table.{Table}
 use Rattle.layout.specs.declared.Layout.{Layout}
-use Rattle.job_shape.specs.Shape.{table, table_behind, layout_of, Placed}
-
--- a row has at most nine words
-pub nine : (n stride : ℕ) → n < 4294967296 → stride ≤ 9 → n * stride ≤ 38654705664
-nine n stride h l = omega (arith, mul-le-mul_left n l)
-
--- the call for table k + 1
-pub ready : {N : ℕ} {t : Table} (k stride : ℕ) → 14 ≤ N → leb k 8 ≡ true → leb stride 9 ≡ true → Placed k t → (14 ≤ N) × (k ≤ 8) × (stride ≤ 9) × Placed k t
-ready k stride n a b p = (n, leb-true k 8 a, leb-true stride 9 b, p)
-
--- the table that it gives
-pub placed_behind : {k : ℕ} {t : Table} (stride n : ℕ) → Placed k t → stride ≤ 9 → n < 4294967296 → Placed (k + 1) (table_behind t stride n)
-placed_behind {k} {t} stride n p h l = record { at = omega (arith, nine t.n stride p.rows h); rows = l }
-
-pub placed_first : (n : ℕ) → n < 4294967296 → Placed 0 (table 14 n)
-placed_first n h = record { at = omega arith; rows = h }
+use Rattle.job_shape.specs.Shape.{table, table_behind, layout_of}
 
 abbrev pub layout_with : Table → Table → Table → Table → Table → Table → Table → Table → Table → Table → Layout
 layout_with banks classes regs blocks values vgroups operands hints segments uses = record {

@@ -72,6 +72,7 @@ pub fn all_below(job: &[u8], t: Table, stride: usize, col: usize, bound: u32) ->
 }
 
 // Every choice is on its list: spillslots, memory, remat, incoming, flags, kind.
+#[tactic(auto, unfolding(crate::specs::Shape::choices_ok, definition::specs::Entry::conj))]
 fn choices_ok(job: &Job) -> bool
     ensures { result ≡ choices_ok (words_in job.now) job.now.lay }
 {
@@ -113,6 +114,7 @@ fn counts_rise(job: &Job) -> bool
 }
 
 // The tests behind the length: at least one bank, class and block, choices on their lists, use counts that rise.
+#[tactic(auto, unfolding(crate::specs::Shape::tables_ok, crate::specs::Shape::counts_ok, definition::specs::Entry::conj))]
 fn tables_ok(job: &Job) -> bool
     ensures { result ≡ tables_ok (words_in job.now) job.now.lay }
 {

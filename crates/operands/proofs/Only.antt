@@ -15,16 +15,13 @@ use Rattle.definition.specs.declared.Operand.{Operand}
 use Rattle.definition.specs.Types.{Job, val}
 use Rattle.definition.specs.Admit.{vgroup_at}
 use Rattle.definition.specs.Entry.{conj, every, some_is, apart, same_place, insts, vgroup_values, operand_ok, group_use_tests, group_use_ok}
+use Rattle.definition.proofs.Entries.{and_both}
 use Rattle.std.specs.Prelude.{Option, Some, None, is_some, cond}
 use Rattle.operands.specs.Rows.{op_at, is_at, last_place, fits_use, fits_found, vgroup_found}
 use Rattle.operands.specs.declared.Chains.{Chains}
 use Rattle.operands.specs.Chains.{operands_of, Under}
 use Rattle.operands.proofs.Rows.{long}
 use Rattle.operands.proofs.Twice.{never, some_place}
-
-both : (p q : Bool) → p && q ≡ true → (p ≡ true) × (q ≡ true)
-both true q e = (refl, e)
-both false q e = never (sym e)
 
 -- what the search finds is there
 pub found_at : (os : List Operand) (n i s k : ℕ) → last_place os n i s ≡ Some k → (k < n) × (is_at i s (op_at os k) ≡ true)
@@ -68,15 +65,15 @@ some_ext f g h (o ∷ os) = ap₂ (λ (a b : Bool). a || b) (h o) (some_ext f g 
 pub alone : (x : Operand) (xs : List Operand) (i s : ℕ) → apart same_place (x ∷ xs) ≡ true → is_at i s x ≡ true → some_is (is_at i s) xs ≡ false
 unfolding apart
 alone x xs i s a e =
-    let b = both _ _ e in
+    let b = and_both _ _ e in
     let ei : i ≡ x.inst.0 = sym (eqb-true _ _ b.0) in
     let es : s ≡ x.slot = sym (eqb-true _ _ b.1) in
     some_ext (is_at i s) (same_place x) (λ o. rw (ei, es) (ap₂ (λ (p q : Bool). p && q) (eqb_sym o.inst.0 x.inst.0) (eqb_sym o.slot x.slot))) xs
-    ∙ not-true (some_is (same_place x) xs) (both _ _ a).0
+    ∙ not-true (some_is (same_place x) xs) (and_both _ _ a).0
 
 rest_apart : (x : Operand) (xs : List Operand) → apart same_place (x ∷ xs) ≡ true → apart same_place xs ≡ true
 unfolding apart
-rest_apart x xs a = (both (not (some_is (same_place x) xs)) (apart same_place xs) a).1
+rest_apart x xs a = (and_both (not (some_is (same_place x) xs)) (apart same_place xs) a).1
 
 -- an operand further back is at the place, so the first is not
 others : (x : Operand) (xs : List Operand) (i s k : ℕ) → apart same_place (x ∷ xs) ≡ true → k < length xs → is_at i s (op_at xs k) ≡ true → is_at i s x ≡ false
@@ -113,14 +110,14 @@ found_of T c job i s e =
 every_at : (f : Operand → Bool) (os : List Operand) (k : ℕ) → every f os ≡ true → k < length os → f (op_at os k) ≡ true
 unfolding every
 every_at f [] k e h = absurd (omega arith)
-every_at f (x ∷ os) zero e h = (both (f x) (every f os) e).0
-every_at f (x ∷ os) (suc k) e h = every_at f os k (both (f x) (every f os) e).1 (omega arith)
+every_at f (x ∷ os) zero e h = (and_both (f x) (every f os) e).0
+every_at f (x ∷ os) (suc k) e h = every_at f os k (and_both (f x) (every f os) e).1 (omega arith)
 
 -- rule 4's test of each operand puts them below the number of instructions
 pub under_of : (job : Job) → every (operand_ok job) job.operands ≡ true → Under (insts job) job.operands
 unfolding operand_ok conj
 under_of job e =
-    record { under = λ k h. ltb-true (op_at job.operands k).inst.0 (insts job) (both (ltb (op_at job.operands k).inst.0 (insts job)) _ (every_at (operand_ok job) job.operands k e h)).0 }
+    record { under = λ k h. ltb-true (op_at job.operands k).inst.0 (insts job) (and_both (ltb (op_at job.operands k).inst.0 (insts job)) _ (every_at (operand_ok job) job.operands k e h)).0 }
 
 -- ---- the operand's value group
 

@@ -1,33 +1,17 @@
 -- Laws that the code of the register book is proved by. Assumes nothing.
-use mathlib.Core.Path.{◌≡◌, refl, sym, ap, ◌∙◌}
-use mathlib.Core.Option.{none, some}
-use mathlib.Core.List.{List, [], ◌∷◌}
-use Prim.Native.Nat.{ℕ, zero, suc, ◌+◌, ◌*◌, ◌≤◌, ◌<◌}
+use mathlib.Core.Path.{◌≡◌, sym, ap, ◌∙◌}
+use mathlib.Core.List.{List}
+use Prim.Native.Nat.{ℕ, ◌+◌, ◌*◌, ◌≤◌, ◌<◌}
 use native.Mathlib.Omega.{arith}
 use lib.Bits.{bit_and}
-use lib.Count.{count_trailing_zeros}
 use lib.ListN.{length, get_or}
 use Rattle.rows.specs.RowsAt.{rows_at, get_or_rows_at, length_rows_at}
 use Rattle.definition.specs.declared.RegClass.{RegClass}
 use Rattle.definition.specs.declared.ClassData.{ClassData}
-use Rattle.definition.specs.Types.{Job, cls}
+use Rattle.definition.specs.Types.{Job}
 use Rattle.definition.specs.RegInfo.{no_class, class_at, lowest, common_subclass}
+use Rattle.std.proofs.Math.ListN.{get_or-eq_default}
 use Rattle.reginfo.specs.Rows.{found_of, class_row, classes_at, mask_in}
-
-pub lowest_none : (m : ℕ) → m ≡ 0 → lowest m ≡ none
-unfolding lowest
-lowest_none zero e = refl
-lowest_none (suc m) e = absurd (omega arith)
-
-pub lowest_some : (m : ℕ) → (m ≡ 0 → ⊥) → lowest m ≡ some (cls (count_trailing_zeros 32 m))
-unfolding lowest
-lowest_some zero h = absurd (h refl)
-lowest_some (suc m) h = refl
-
-get_d_over : {A : Type 0} (l : List A) (i : ℕ) (d : A) → length l ≤ i → get_or l i d ≡ d
-get_d_over [] i d h = refl
-get_d_over (x ∷ l) zero d h = absurd (omega arith)
-get_d_over (x ∷ l) (suc i) d h = get_d_over l i d (omega arith)
 
 -- the mask of a class of the table, and of one past it
 pub mask_known : (W : List ℕ) (at n k w : ℕ) (c : RegClass) → k ≡ c.0 → k < n → w ≡ get_or W (at + k * 4) 0 → w ≡ mask_in (classes_at W at n) c
@@ -38,7 +22,7 @@ pub mask_past : (W : List ℕ) (at n k : ℕ) (c : RegClass) → k ≡ c.0 → n
 unfolding mask_in classes_at
 mask_past W at n k c e l =
     let p : length (rows_at class_row W at 4 n) ≤ c.0 = omega (arith, length_rows_at class_row W at 4 n) in
-    ap (λ (d : ClassData). d.mask) (sym (get_d_over (rows_at class_row W at 4 n) c.0 no_class p))
+    ap (λ (d : ClassData). d.mask) (sym (get_or-eq_default (rows_at class_row W at 4 n) no_class {n = c.0} p))
 
 pub common_of : (W : List ℕ) (at n x y : ℕ) (a b : RegClass) → x ≡ mask_in (classes_at W at n) a → y ≡ mask_in (classes_at W at n) b
     → (job : Job) → job.classes ≡ classes_at W at n → found_of (lowest (bit_and x y)) ≡ found_of (common_subclass job a b)

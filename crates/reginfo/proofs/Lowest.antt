@@ -2,13 +2,13 @@
 use mathlib.Core.Path.{◌≡◌, refl, subst}
 use mathlib.Core.Option.{Option, none, some}
 use Prim.Native.Nat.{ℕ, zero, suc, ◌/◌, ◌%◌, ◌^◌, ◌<◌}
-use native.Mathlib.Nat.{pow-suc}
 use native.Mathlib.Omega.{arith}
 use lib.Bits.{bit_and, and_step, and_lt}
 use lib.Count.{count_trailing_zeros, under}
 use Rattle.definition.specs.declared.RegClass.{RegClass}
 use Rattle.definition.specs.RegInfo.{lowest}
 use Rattle.definition.specs.Promised.{bit_at}
+use Rattle.definition.proofs.Classes.{bit_lowest}
 
 -- class k is in both masks
 abbrev pub InBoth : ℕ → ℕ → ℕ → Type 0
@@ -35,16 +35,6 @@ no_bit : (k : ℕ) → bit_at k 0 ≡ 0
 no_bit zero = refl
 no_bit (suc k) = no_bit k
 
--- the bit that the trailing zeros count up to is set, and those below it are not
-at_zeros : (d m : ℕ) → 0 < m → m < 2 ^ d → bit_at (count_trailing_zeros d m) m ≡ 1
-unfolding count_trailing_zeros
-at_zeros zero m h k = absurd (omega arith)
-at_zeros (suc d) m h k = go (m % 2) refl (λ p q. at_zeros d (m / 2) p q)
-  where
-    go : (r : ℕ) → m % 2 ≡ r → (0 < m / 2 → m / 2 < 2 ^ d → bit_at (count_trailing_zeros d (m / 2)) (m / 2) ≡ 1) → bit_at (under r (count_trailing_zeros d (m / 2))) m ≡ 1
-    go zero e ih = ih (omega arith) (omega (arith, pow-suc 2 d))
-    go (suc r) e ih = omega arith
-
 below_zeros : (d m k : ℕ) → k < count_trailing_zeros d m → bit_at k m ≡ 0
 unfolding count_trailing_zeros
 below_zeros zero m k h = absurd (omega arith)
@@ -63,7 +53,7 @@ lowest_both a b ha hb = go (bit_and a b) refl
     go zero e = λ k i. let z : bit_at k (bit_and a b) ≡ 0 = rw e (no_bit k) in absurd (omega (arith, z, bits_and k a b i))
     go (suc m) e =
         let s : suc m < 2 ^ 32 = subst (λ (n : ℕ). n < 2 ^ 32) e (and_lt 32 a b ha hb) in
-        let at : bit_at (count_trailing_zeros 32 (suc m)) (bit_and a b) ≡ 1 = rw e (at_zeros 32 (suc m) (omega arith) s) in (
+        let at : bit_at (count_trailing_zeros 32 (suc m)) (bit_and a b) ≡ 1 = rw e (bit_lowest 32 (suc m) (omega arith) s) in (
           and_bits (count_trailing_zeros 32 (suc m)) a b at,
           λ k l i. let z : bit_at k (bit_and a b) ≡ 0 = rw e (below_zeros 32 (suc m) k l) in absurd (omega (arith, z, bits_and k a b i)),
         )

@@ -8,6 +8,7 @@ ghost use Rattle.sheet_job.specs.Fixed.{table_at, fixed_layout};
 use layout::{Layout, Table};
 
 // The table whose count is word i.
+#[tactic(auto, unfolding(crate::specs::Fixed::table_at))]
 fn table_at(t: &[u8], i: usize, at: usize) -> Table
     requires { i < word_count t.now }
     ensures { result ≡ table_at (words_of t.now) i at }
@@ -19,6 +20,7 @@ fn table_at(t: &[u8], i: usize, at: usize) -> Table
 }
 
 // Where the reader of job sheets puts the tables of a job.
+#[tactic(auto, unfolding(crate::specs::Fixed::fixed_layout))]
 pub fn fixed_layout(t: &[u8]) -> Layout
     requires { 10 ≤ word_count t.now }
     ensures { result ≡ fixed_layout (words_of t.now) }

@@ -1,8 +1,8 @@
 -- Laws that the code is proved by. Assumes nothing.
-use mathlib.Core.Path.{◌≡◌, refl, sym, ap, ◌∙◌, subst}
+use mathlib.Core.Path.{◌≡◌, sym, ap, ◌∙◌, subst}
 use mathlib.Core.Bool.{Bool, false}
-use mathlib.Core.List.{List, [], ◌∷◌}
-use Prim.Native.Nat.{ℕ, zero, suc, ◌+◌, ◌*◌, ◌≤◌, ◌<◌}
+use mathlib.Core.List.{List}
+use Prim.Native.Nat.{ℕ, suc, ◌+◌, ◌*◌, ◌≤◌, ◌<◌}
 use native.Mathlib.Nat.{mul-one}
 use native.Mathlib.Omega.{arith}
 use lib.Dec.{T}
@@ -19,6 +19,7 @@ use Rattle.definition.specs.declared.BlockData.{BlockData}
 use Rattle.definition.specs.declared.Remat.TheVariants.{Never}
 use Rattle.definition.specs.RegInfo.{no_class, no_value, class_at, value_at}
 use Rattle.definition.specs.Entry.{insts_of, plain, small}
+use Rattle.std.proofs.Math.ListN.{get_or-eq_default}
 use Rattle.floats.proofs.Bits.{small_test, bits_plain}
 use Rattle.reginfo.specs.Rows.{class_row, memory_row, classes_at}
 use Rattle.coalescing.specs.Rows.{value_row, values_at}
@@ -27,11 +28,6 @@ use Rattle.function.specs.BlockLaws.{block_found}
 use Rattle.layout.specs.declared.Layout.{Layout}
 use Rattle.job.specs.Job.{job_by, job_of}
 use Rattle.use_costs.specs.Book.{SmallBook}
-
-get_d_over : {A : Type 0} (l : List A) (i : ℕ) (d : A) → length l ≤ i → get_or l i d ≡ d
-get_d_over [] i d h = refl
-get_d_over (x ∷ l) zero d h = absurd (omega arith)
-get_d_over (x ∷ l) (suc i) d h = get_d_over l i d (omega arith)
 
 -- small bits, a small number
 pub bits_small : (b : ℕ) → b ≤ 0x4980_0000 → T (small (of_bits binary32 b))
@@ -50,7 +46,7 @@ module _ (W : List ℕ) (lay : Layout) where
   pub class_past : (c : RegClass) (k : ℕ) → k ≡ c.0 → lay.classes.n ≤ k → no_class ≡ class_at (job_of W lay) c
   unfolding class_at job_of job_by classes_at
   class_past c k e l =
-      sym (get_d_over (rows_at class_row W lay.classes.at 4 lay.classes.n) c.0 no_class (omega (arith, length_rows_at class_row W lay.classes.at 4 lay.classes.n)))
+      sym (get_or-eq_default (rows_at class_row W lay.classes.at 4 lay.classes.n) no_class {n = c.0} (omega (arith, length_rows_at class_row W lay.classes.at 4 lay.classes.n)))
 
   -- ---- registers
   pub memory_known : (r : PhysReg) (k : ℕ) (b : Bool) → k ≡ r.0 → k < lay.regs.n → b ≡ memory_row W (lay.regs.at + k) → b ≡ get_or (job_of W lay).memory r.0 false
@@ -64,7 +60,7 @@ module _ (W : List ℕ) (lay : Layout) where
   pub memory_past : (r : PhysReg) (k : ℕ) → k ≡ r.0 → lay.regs.n ≤ k → false ≡ get_or (job_of W lay).memory r.0 false
   unfolding job_of job_by
   memory_past r k e l =
-      sym (get_d_over (rows_at memory_row W lay.regs.at 1 lay.regs.n) r.0 false (omega (arith, length_rows_at memory_row W lay.regs.at 1 lay.regs.n)))
+      sym (get_or-eq_default (rows_at memory_row W lay.regs.at 1 lay.regs.n) false {n = r.0} (omega (arith, length_rows_at memory_row W lay.regs.at 1 lay.regs.n)))
 
   -- ---- values
   pub remat_known : (v : Value) (k : ℕ) (d : ValueData) → k ≡ v.0 → k < lay.values.n → d ≡ value_row W (lay.values.at + k * 3) → d.remat ≡ (value_at (job_of W lay) v).remat
@@ -77,7 +73,7 @@ module _ (W : List ℕ) (lay : Layout) where
   unfolding value_at job_of job_by values_at
   remat_past v k e l =
       ap (λ (x : ValueData). x.remat)
-      (sym (get_d_over (rows_at value_row W lay.values.at 3 lay.values.n) v.0 no_value (omega (arith, length_rows_at value_row W lay.values.at 3 lay.values.n))))
+      (sym (get_or-eq_default (rows_at value_row W lay.values.at 3 lay.values.n) no_value {n = v.0} (omega (arith, length_rows_at value_row W lay.values.at 3 lay.values.n))))
 
 -- the block at hand holds the instruction
 pub near_here : (W : List ℕ) (at n b a e i : ℕ) → a ≡ get_or W (at + b * 2) 0 → e ≡ get_or W (at + (b + 1) * 2) 0 → b < n → a ≤ i → i < e

@@ -1,6 +1,6 @@
 -- Where the fields fit their types, a row read modulo them is the row as it stands. Assumes nothing.
 use mathlib.Core.Path.{◌≡◌, refl, sym, ap, ◌∙◌}
-use mathlib.Core.Bool.{Bool, true, false, ◌&&◌}
+use mathlib.Core.Bool.{Bool, true, false}
 use mathlib.Core.List.{List}
 use Prim.Native.Nat.{ℕ, ◌+◌, ◌%◌, ◌≤◌, ◌<◌}
 use native.Mathlib.Nat.{mod-eq_of_lt}
@@ -12,18 +12,15 @@ use Rattle.definition.specs.declared.UseKind.{UseKind}
 use Rattle.definition.specs.declared.UseKind.TheVariants.{FixedDef, FixedUse, TiedUse, ConstraintConflict, ClassUse, ClassDef, GroupClassUse, GroupClassDef, BlockparamIn, BlockparamOut}
 use Rattle.definition.specs.declared.Use.{Use}
 use Rattle.definition.specs.Types.{inst, cls}
+use Rattle.definition.proofs.Entries.{and_both}
 use Rattle.std.specs.Prelude.{Some, None}
 use Rattle.uses.specs.Rows.{pick_k, pick_b, reg, raw_kind, kind_of, fit, typed_kind, use_row, raw_row, typed_row, decoded_row}
-
-both : (p q : Bool) → p && q ≡ true → (p ≡ true) × (q ≡ true)
-both true q e = (refl, e)
-both false q e = let z : ◌≡◌ {A = ℕ} 0 1 = cc in absurd (omega arith)
 
 fits : (a b i : ℕ) → fit a b i ≡ true → (a < 65536) × (b < 65536) × (i < 256)
 unfolding fit
 fits a b i e =
-    let p = both _ _ e in
-    let q = both _ _ p.1 in
+    let p = and_both _ _ e in
+    let q = and_both _ _ p.1 in
     (below _ _ p.0, below _ _ q.0, below _ _ q.1)
   where
     below : (x y : ℕ) → ltb x y ≡ true → x < y

@@ -2,7 +2,7 @@
 // A use row has six words: kind, instruction, and the kind's fields in UseKind's order, zeros behind them.
 #![tactic(auto)]
 
-ghost use Rattle.std.specs.Prelude.{◌≡◌, ℕ, ◌+◌, ◌*◌, ◌≤◌, ◌<◌, length};
+ghost use Rattle.std.specs.Prelude.{◌≡◌, ◌+◌, ◌*◌, ◌≤◌, ◌<◌, length};
 ghost use Rattle.words.specs.Words.{word_count, words_of};
 ghost use Rattle.definition.specs.Uses.{is_def, is_class_use, end_slot, end_point};
 ghost use Rattle.definition.specs.Cuts.{uses_before};

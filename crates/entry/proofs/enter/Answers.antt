@@ -3,8 +3,9 @@ use mathlib.Core.Path.{refl, sym, ◌∙◌}
 use Rattle.job_shape.proofs.Tests.{passed}
 use Rattle.entry.proofs.Numbers.{entry_limits, entry_book, entry_tables}
 use Rattle.entry.proofs.Counts.{rising}
-use Rattle.entry.proofs.Entering.{raw_insts, err_kept, few, indexes, accepted}
+use Rattle.entry.proofs.Entering.{err_kept, few, indexes, accepted}
 use Rattle.entry.proofs.enter.Goals as goal
+use Rattle.entry_function.proofs.Tables.{raw_insts}
 
 pub returns-then-not-limits_ok : goal.returns-then-not-limits_ok
 returns-then-not-limits_ok c = record { refused = entry_limits _ _ c.if-not-limits_ok.true-raw c.limits_ok.ensures; accepted = tt }
@@ -24,9 +25,6 @@ work_layout-wl-requires c = let l = few c.args.shaped.now.shaped c.if-not-limits
 
 pub invariant_of-counted : goal.invariant_of-counted
 invariant_of-counted c = record { counted = c.insts_in-insts.ensures.insts ∙ sym (raw_insts _ _) }
-
-pub chains_in-requires : goal.chains_in-requires
-chains_in-requires c = omega (arith, c.work_layout-wl.ensures.1.heads)
 
 pub test_tables-requires : goal.test_tables-requires
 test_tables-requires c = let p = c.args.shaped.now.shaped in (

@@ -1,6 +1,6 @@
 use mathlib.Core.Path.{ap, sym}
 use Rattle.reginfo.specs.Rows.{found_of}
-use Rattle.reginfo.proofs.Common.{lowest_none, lowest_some}
+use Rattle.definition.proofs.Classes.{lowest_none, lowest_some}
 use Rattle.reginfo.proofs.lowest_common.Goals as goal
 
 -- src/lib.rt:49:1

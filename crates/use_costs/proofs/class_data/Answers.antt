@@ -1,11 +1,7 @@
-use native.Mathlib.Omega.{arith}
 use lib.Ieee.{of_bits}
 use Rattle.spill_weight.proofs.Costs.{zero_small}
 use Rattle.use_costs.proofs.Reading.{class_known, class_past}
 use Rattle.use_costs.proofs.class_data.Goals as goal
-
-pub class_at-requires : goal.class_at-requires
-class_at-requires c = (omega (arith, c.args.job.now.fits.classes), omega (arith, c.requires.costs _ c.if-k-n.true))
 
 pub returns-then-k-n : goal.returns-then-k-n
 returns-then-k-n c = class_known _ _ _ _ _ (cc) c.if-k-n.true c.requires c.class_at.ensures
