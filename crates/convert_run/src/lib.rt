@@ -12,10 +12,8 @@ ghost use Rattle.streams.specs.Tape.{at_of};
 ghost use Rattle.convert_run.specs.Ran.{Shown, Refused, Put, Ran};
 
 use definition::SheetRefusal;
-use std::env::{Env, FillError};
-use std::io;
 use std::io::{Read, Write};
-use streams::{Broken, Cut, Noted, STDIN, STDOUT, Stream};
+use streams::{Broken, Cut, STDIN, STDOUT, Stream};
 
 // Writes the sheet of a table page by page, up to the first write that fails.
 // Not one with vregs_run::print: the cursor is another, and a closure for the page would carry its contract.
@@ -107,19 +105,20 @@ pub fn convert<R: Read, W: Write>(
     put(second, verdict, table, output, writes, paper, buf, sink).or(Err(Broken::Output))
 }
 
-// From a reader to a writer. The streams are descriptors, so the tape, the bytes that it gives and the paper, of one each, are looked at by nobody.
+// From a reader to a writer, with tables of its own. The streams are descriptors, so the tape, the bytes that it gives
+// and the paper, of one each, are looked at by nobody.
 // The five lines that make them stand in vregs and replay too: a type of all five would be longer to state.
+// No ensures: no trait promises what descriptors hold. What is promised is `convert`'s, whose requires hold the tables to
+// their sizes.
 pub fn convert_input<R: Read, W: Write>(
     second: bool,
-    buf: &mut [u8],
-    table: &mut [u8],
-    written: &mut [u8],
-    work: &mut [u8],
     source: &mut R,
     sink: &mut W,
-) -> Result<(), Broken>
-    requires { (256 ≤ length buf.old) × (word_count table.old ≡ table_words) × (word_count written.old ≡ 1536) × (max_work ≤ word_count work.old) }
-{
+) -> Result<(), Broken> {
+    let mut buf = [0u8; 65536];
+    let mut table = [0u8; 174680];
+    let mut written = [0u8; 6144];
+    let mut work = [0u8; 110600];
     let tape = [0usize; 1];
     let given = [0u8; 1];
     let mut paper = [0u8; 1];
@@ -133,51 +132,11 @@ pub fn convert_input<R: Read, W: Write>(
         &mut output,
         &tape,
         &mut paper,
-        buf,
-        table,
-        written,
-        work,
-        source,
-        sink,
-    )
-}
-
-// All of a program that is named `name`, but for its streams. What fails is said on standard error.
-// No clause: no trait promises what arguments, descriptors or standard error hold. What is promised is `convert`'s, and
-// the clauses of `convert_input` hold the tables to their sizes.
-pub fn run<P: Env + Eprint + Alloc, R: Read + Drop, W: Write + Drop>(
-    rt: &P,
-    name: &str,
-    second: bool,
-    source: R,
-    sink: W,
-) -> io::Result<()> {
-    let mut first = [0u8; 1];
-    if !matches!(rt.arg(1, &mut first), Err(FillError::NotPresent)) {
-        return eprintln!(rt; "usage: {name} <JOB-SHEET >JOB-SHEET");
-    }
-    let mut source = Noted::new(source);
-    let mut sink = Noted::new(sink);
-    let mut buf = [0u8; 65536];
-    let mut table = [0u8; 174680];
-    let mut written = [0u8; 6144];
-    let mut work = [0u8; 110600];
-    let end = convert_input(
-        second,
         &mut buf,
         &mut table,
         &mut written,
         &mut work,
-        &mut source,
-        &mut sink,
-    );
-    let unread = "the job sheet could not be read, and nothing is answered";
-    let unwritten = "the job sheet could not be written, and is cut";
-    streams::tell(
-        rt,
-        name,
-        end,
-        (unread, source.reason),
-        (unwritten, sink.reason),
+        source,
+        sink,
     )
 }

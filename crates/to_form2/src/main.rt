@@ -1,8 +1,27 @@
 // Reads a job sheet on standard input and writes it in the second form, or `refused` and the number, to standard output. What fails is said on standard error.
 #![tactic(auto)]
 
+use std::env::{Env, FillError};
 use std::io;
+use streams::Noted;
 
+// to_form1 has the same but for its name and a flag. One for both would be public without a contract, since no trait
+// promises what arguments and standard error hold.
 fn main(rt: HostRuntime) -> io::Result<()> {
-    convert_run::run(&rt, "to_form2", true, rt.stdin(), rt.stdout())
+    let mut first = [0u8; 1];
+    if !matches!(rt.arg(1, &mut first), Err(FillError::NotPresent)) {
+        return eprintln!(rt; "usage: to_form2 <JOB-SHEET >JOB-SHEET");
+    }
+    let mut source = Noted::new(rt.stdin());
+    let mut sink = Noted::new(rt.stdout());
+    let end = convert_run::convert_input(true, &mut source, &mut sink);
+    let unread = "the job sheet could not be read, and nothing is answered";
+    let unwritten = "the job sheet could not be written, and is cut";
+    streams::tell(
+        &rt,
+        "to_form2",
+        end,
+        (unread, source.reason),
+        (unwritten, sink.reason),
+    )
 }
