@@ -16,7 +16,7 @@ use Rattle.definition.specs.Entry.{answer}
 use Rattle.job.specs.Job.{raw_job}
 use Rattle.std.specs.Prelude.{Option, Some, None, is_some}
 use Rattle.layout.specs.declared.Layout.{Layout}
-use Rattle.job_shape.specs.Shape.{layout_of, shape_ok, Shaped, Formed}
+use Rattle.job_shape.specs.Shape.{layout_of, shape_ok, Formed}
 use Rattle.job_shape.specs.Answer.{binary_answer}
 use Rattle.virt_regs.specs.declared.OutLayout.{OutLayout}
 use Rattle.virt_regs.specs.Encoding.{tables_end, room_of, Holds}
@@ -93,9 +93,6 @@ module _ (n m a b c d e : ℕ) (ol : OutLayout) (s : List ℕ) (cleared : s ≡ 
         let found : lay ≡ layout_of (words_of x) = g.found in
         answered_cut n m a b c d ol (λ i. binary_answer x (room_of i)) r (p ++ drop e s) k (words ∙ ap (λ (i : ℕ). i / 4) whole_long)
         (part_answered (binary_answer x (room_of ol)) (subst (λ (o : Out Result). Answered (length (take e s)) ol o r p) (sym (binary_on x lay found ok (room_of ol))) w))
-
-pub shaped_found : (x : List ℕ) (h : Option Layout) (lay : Layout) → Formed x h → h ≡ Some lay → Shaped x lay
-shaped_found x h lay f t = let g : Formed x (Some lay) = subst (λ (o : Option Layout). Formed x o) t f in g.shaped
 
 -- a slice off its shape
 pub answered_off : (n m a b c d : ℕ) (ol : OutLayout) (s x : List ℕ) (h : Option Layout) → s ≡ replicate n 0 → Cut m a b c d ol → m ≡ length s / 4 → Formed x h → h ≡ None

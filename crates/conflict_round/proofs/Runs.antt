@@ -1,12 +1,12 @@
 -- Runs of rows of one instruction, and whether they are of one value. Assumes nothing.
 use mathlib.Core.Path.{◌≡◌, refl, sym, ap, ap₂, subst, ◌∙◌}
-use mathlib.Core.Bool.{Bool, true, false, ◌&&◌}
+use mathlib.Core.Bool.{Bool, false, ◌&&◌}
 use mathlib.Core.List.{List, ◌∷◌}
 use Prim.Native.Nat.{ℕ, zero, suc, ◌+◌, ◌-◌, ◌*◌, ◌≤◌, ◌<◌}
 use native.Mathlib.Omega.{arith}
 use lib.Dec.{eqb}
 use lib.ListN.{get_or}
-use borrow.Author.Tests.{eqb-true, eqb-false}
+use borrow.Author.Tests.{eqb-false}
 use Rattle.std.proofs.iter.Yields.{nat_range_steps}
 use Rattle.std.proofs.lemmas.Iterator.{YieldsList-from_range}
 use Rattle.std.proofs.lemmas.Iterator.Search.{all_from_yields_List}
@@ -22,7 +22,7 @@ use Rattle.definition.specs.Types.{Turned, val}
 use Rattle.definition.specs.Build.{all_of, runs, same_inst}
 use Rattle.layout.specs.declared.Layout.{Layout}
 use Rattle.conflict_piece.specs.Conflict.{row_use, turned_row_at, turned_rows_of}
-use Rattle.set_runs.specs.Runs.{Running, running_start, running_next, running_stop, running_end}
+use Rattle.set_runs.specs.Runs.{Running, running_stop, running_end}
 use Rattle.conflict_round.proofs.Kept.{row_use_lem}
 
 -- ---- the loop that finds the end: rows a to e - 1 are of instruction p
@@ -38,13 +38,7 @@ inst_is : (K : List ℕ) (turned : ℕ) (W : List ℕ) (lay : Layout) (m : ℕ) 
 inst_is K turned W lay m = ap (λ (x : Use). x.pos.0) (row_use_lem K turned W lay m)
 
 module _ (K : List ℕ) (turned : ℕ) (W : List ℕ) (lay : Layout) (a n : ℕ) where
-  pub run_start : (x : Use) → x ≡ row_use K turned W lay a → a < n → Running (inst_at K turned W lay) a n x.pos.0 (a + 1)
-  run_start x ex l = running_start (inst_at K turned W lay) a n x.pos.0 (ap (λ (u : Use). u.pos.0) ex) l
-
   module _ (p e : ℕ) (v : Running (inst_at K turned W lay) a n p e) where
-    pub run_next : (u : Use) → u ≡ row_use K turned W lay e → eqb u.pos.0 p ≡ true → e < n → Running (inst_at K turned W lay) a n p (e + 1)
-    run_next u eu q l = running_next (inst_at K turned W lay) a n p e v u.pos.0 (ap (λ (x : Use). x.pos.0) eu) (eqb-true _ _ q) l
-
     pub run_stop : (u : Use) → u ≡ row_use K turned W lay e → eqb u.pos.0 p ≡ false
         → (a < e) × (e ≤ n) × (runs same_inst (turned_rows_of K turned W lay a n) ≡ turned_rows_of K turned W lay a e ∷ runs same_inst (turned_rows_of K turned W lay e n))
     unfolding turned_rows_of

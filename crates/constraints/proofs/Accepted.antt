@@ -20,6 +20,7 @@ use Rattle.definition.specs.declared.UseKind.TheVariants.{FixedDef, FixedUse, Ti
 use Rattle.definition.specs.Types.{Segment, Job, val, point}
 use Rattle.definition.specs.Admit.{no_use}
 use Rattle.definition.specs.Entry.{conj, every, some_is, apart, same_place, insts_of, insts, limit_tests, limits_ok, vgroup_tests, vgroup_ok, operand_tests, operand_ok, function_tests, function_ok, group_use_tests, group_use_ok, kind_ok, use_tests, use_ok, uses_ok}
+use Rattle.definition.proofs.Entries.{and_both}
 use Rattle.coalescing.specs.Rows.{vgroup_row}
 use Rattle.coalescing.proofs.Members.{groups_long, group_row_at}
 use Rattle.function.specs.Blocks.{block_row, blocks_at, Starts}
@@ -37,22 +38,22 @@ use Rattle.work_layout.specs.declared.WorkLayout.{WorkLayout}
 use Rattle.constraints.specs.Asks.{ask_of}
 use Rattle.work_layout.specs.Regions.{chains_in}
 use Rattle.constraints.specs.Ready.{operands_in, HasOperand, BackedAsk, Backed, Ready}
-use Rattle.constraints.proofs.Operand.{both, job_blocks, job_vgroups, job_operands}
+use Rattle.constraints.proofs.Operand.{job_blocks, job_vgroups, job_operands}
 
 -- ---- tests over lists
 
 every_at : {A : Type 0} (f : A → Bool) (l : List A) (i : ℕ) (d : A) → every f l ≡ true → i < length l → f (get_or l i d) ≡ true
 unfolding every
 every_at f [] i d e h = absurd (omega arith)
-every_at f (x ∷ l) zero d e h = (both (f x) (every f l) e).0
-every_at f (x ∷ l) (suc i) d e h = every_at f l i d (both (f x) (every f l) e).1 (omega arith)
+every_at f (x ∷ l) zero d e h = (and_both (f x) (every f l) e).0
+every_at f (x ∷ l) (suc i) d e h = every_at f l i d (and_both (f x) (every f l) e).1 (omega arith)
 
 -- each of them passes
 nth_test : (bs : List Bool) (i : ℕ) → conj bs ≡ true → get_or bs i true ≡ true
 unfolding conj
 nth_test [] i e = refl
-nth_test (b ∷ bs) zero e = (both b (conj bs) e).0
-nth_test (b ∷ bs) (suc i) e = nth_test bs i (both b (conj bs) e).1
+nth_test (b ∷ bs) zero e = (and_both b (conj bs) e).0
+nth_test (b ∷ bs) (suc i) e = nth_test bs i (and_both b (conj bs) e).1
 
 -- ---- rules 2 and 4
 
@@ -115,8 +116,8 @@ operand_of job v p s c i e = some_weaker (λ o. conj (group_use_tests job v p s 
   where
     here : (o : Operand) → conj (group_use_tests job v p s c i o) ≡ true → is_at p.0 s o ≡ true
     here o t =
-        let a = both (eqb o.inst.0 p.0) _ t in
-        let b = both (eqb o.slot s) _ a.1 in
+        let a = and_both (eqb o.inst.0 p.0) _ t in
+        let b = and_both (eqb o.slot s) _ a.1 in
         rw (a.0, b.0)
 
 pub backed_of : (job : Job) (v : Value) (u : Use) → kind_ok job v u.pos u.kind ≡ true → Backed job u
@@ -191,7 +192,7 @@ module _ (W : List ℕ) (lay : Layout) (ok : every (uses_ok (job_of W lay)) (job
   use_ok_lem n s =
       let j : n - (seg_at W lay s.number).first < next_use W lay s.number - (seg_at W lay s.number).first = omega (arith, s.after, s.before) in
       let us : every (use_ok (job_of W lay) (segment_of use_row W lay s.number)) (rows_at use_row W (lay.uses.at + (seg_at W lay s.number).first * 6) 6 (next_use W lay s.number - (seg_at W lay s.number).first)) ≡ true =
-      (both _ _ (segment_ok_lem s.number s.there)).0 in
+      (and_both _ _ (segment_ok_lem s.number s.there)).0 in
       let e : lay.uses.at + (seg_at W lay s.number).first * 6 + (n - (seg_at W lay s.number).first) * 6 ≡ lay.uses.at + n * 6 = omega (arith, s.after) in
       ap (λ (u : Use). use_ok (job_of W lay) (segment_of use_row W lay s.number) u)
       (sym (get_or_rows_at use_row W (lay.uses.at + (seg_at W lay s.number).first * 6) 6 (next_use W lay s.number - (seg_at W lay s.number).first) (n - (seg_at W lay s.number).first) no_use j

@@ -4,7 +4,6 @@ use mathlib.Core.Bool.{Bool, true, false}
 use mathlib.Core.Option.{Option, none, some, bind}
 use mathlib.Core.List.{List}
 use Prim.Native.Nat.{ℕ}
-use lib.Dec.{eqb}
 use borrow.Author.Tests.{eq-eqb, ne_eqb}
 use Rattle.definition.specs.declared.Inst.{Inst}
 use Rattle.definition.specs.declared.RegClass.{RegClass}
@@ -20,8 +19,6 @@ use Rattle.definition.specs.Admit.{mapped_at, sets_at, same_sets, mapping_fits, 
 use Rattle.std.specs.Prelude.{Some, None}
 use Rattle.std.specs.Prelude as code
 use Rattle.reginfo.specs.Rows.{found_of}
-use Rattle.std.specs.Option.{option_eq}
-use Rattle.operands.proofs.Twice.{never}
 use Rattle.members.specs.declared.Joined.{Joined}
 use Rattle.members.specs.Places.{option_of, joined_of}
 use Rattle.members.proofs.Narrowing.{found_some, found_none, bind_some, bind_none}
@@ -70,15 +67,6 @@ module _ (job : Job) (h : Held) (c : RegClass) (f : code.Option RegClass) (e : f
   class_no q = sym (bind_none _ (found_none f (common_subclass job h.class c) e q))
 
 -- ---- what a group use must fit
-
-pub mapping_free : (a b : code.Option VirtRegGroup) → code.is_some a ≡ false → true ≡ mapping_fits (option_of a) (option_of b)
-mapping_free None b e = refl
-mapping_free (Some g) b e = never e
-
-pub mapping_same : (a b : code.Option VirtRegGroup) (t : Bool) → code.is_some a ≡ true → t ≡ option_eq (λ (x y : VirtRegGroup). eqb x.0 y.0) a b → t ≡ mapping_fits (option_of a) (option_of b)
-mapping_same None b t n e = never (sym n)
-mapping_same (Some g) None t n e = e
-mapping_same (Some g) (Some f) t n e = e
 
 module _ (before : code.Option HeldGroup) (i : ℕ) (m : Option VirtRegGroup) (sets : List ValueSet) where
   pub fits_first : before ≡ None → true ≡ group_fits (group_of before) i m sets

@@ -16,6 +16,7 @@ use Rattle.definition.specs.declared.VirtRegGroup.{VirtRegGroup}
 use Rattle.definition.specs.Types.{Mapped, State, inst}
 use Rattle.definition.specs.Admit.{mapped_at}
 use Rattle.definition.specs.Entry.{apart, same_place}
+use Rattle.definition.proofs.Entries.{and_both}
 use Rattle.rows.specs.RowsAt.{length_rows_at}
 use Rattle.function.specs.Blocks.{block_row, blocks_at, Starts}
 use Rattle.std.specs.Prelude.{Some}
@@ -29,7 +30,6 @@ use Rattle.virt_regs.specs.Encoding.{group_word}
 use Rattle.work_layout.specs.declared.WorkLayout.{WorkLayout}
 use Rattle.work_layout.specs.Regions.{chains_in}
 use Rattle.constraints.specs.Ready.{operands_in, Mapping, Ready, Stands}
-use Rattle.constraints.proofs.Operand.{both}
 
 -- n words from word `at` on are the same in L as in K
 abbrev pub Same : List ℕ → List ℕ → ℕ → ℕ → Type 0
@@ -113,7 +113,7 @@ not_of : (os : List Operand) (k j : ℕ) (m : Mapped) → apart same_place os �
     → (b : Bool) → is_of m (op_at os j).inst (op_at os j).slot ≡ b → b ≡ false
 not_of os k j m a l h t ne false q = refl
 not_of os k j m a l h t ne true q =
-    let r = both (eqb m.inst.0 (op_at os j).inst.0) (eqb m.slot (op_at os j).slot) q in
+    let r = and_both (eqb m.inst.0 (op_at os j).inst.0) (eqb m.slot (op_at os j).slot) q in
     let i : m.inst.0 ≡ (op_at os j).inst.0 = eqb-true m.inst.0 (op_at os j).inst.0 r.0 in
     let u : m.slot ≡ (op_at os j).slot = eqb-true m.slot (op_at os j).slot r.1 in
     let fj : last_place os (length os) m.inst.0 m.slot ≡ Some j =
@@ -132,10 +132,10 @@ mapping_more K at os ms k p s g a lk l t z m = record { is = λ j h. go j h (eqb
     new = record { inst = p; slot = s; group = g }
 
     place : (op_at os k).inst ≡ p
-    place = ap inst (eqb-true (op_at os k).inst.0 p.0 (both (eqb (op_at os k).inst.0 p.0) (eqb (op_at os k).slot s) t).0)
+    place = ap inst (eqb-true (op_at os k).inst.0 p.0 (and_both (eqb (op_at os k).inst.0 p.0) (eqb (op_at os k).slot s) t).0)
 
     slot : (op_at os k).slot ≡ s
-    slot = eqb-true (op_at os k).slot s (both (eqb (op_at os k).inst.0 p.0) (eqb (op_at os k).slot s) t).1
+    slot = eqb-true (op_at os k).slot s (and_both (eqb (op_at os k).inst.0 p.0) (eqb (op_at os k).slot s) t).1
 
     go : (j : ℕ) → j < length os → (b : Bool) → eqb j k ≡ b → get_or (set K (at + k) (g.0 + 1)) (at + j) 0 ≡ group_word (mapped_at (ms ++ (new ∷ [])) (op_at os j).inst (op_at os j).slot)
     go j h true q =

@@ -1,6 +1,6 @@
 -- What the operand of a group use says. Assumes nothing.
 use mathlib.Core.Path.{◌≡◌, refl, sym, ap, ap₂, subst, ◌∙◌}
-use mathlib.Core.Bool.{Bool, true, false, ◌&&◌}
+use mathlib.Core.Bool.{true}
 use mathlib.Core.List.{List, []}
 use Prim.Native.Nat.{ℕ, ◌+◌, ◌*◌, ◌≤◌, ◌<◌}
 use native.Mathlib.Omega.{arith}
@@ -14,6 +14,7 @@ use Rattle.definition.specs.declared.VirtRegGroup.{VirtRegGroup}
 use Rattle.definition.specs.Types.{Job, inst}
 use Rattle.definition.specs.Admit.{mapped_at, vgroup_at, sets_of, sets_at}
 use Rattle.definition.specs.Entry.{some_is, apart, same_place}
+use Rattle.definition.proofs.Entries.{and_both}
 use Rattle.function.specs.Blocks.{blocks_at}
 use Rattle.coalescing.specs.Rows.{values_at, vgroup_row, vgroups_at}
 use Rattle.coalescing.proofs.Members.{group_row_at}
@@ -74,10 +75,6 @@ module _ (W : List ℕ) (lay : Layout) (k : ℕ) (o : Operand) (l : k < lay.oper
 
 -- ---- the operand at a place
 
-pub both : (p q : Bool) → p && q ≡ true → (p ≡ true) × (q ≡ true)
-both true q e = (refl, e)
-both false q e = never (sym e)
-
 module _ (W : List ℕ) (lay : Layout) (p : Inst) (s : ℕ) where
   found_here : (f : Option ℕ) → f ≡ last_place (operands_in W lay) lay.operands.n p.0 s → f ≡ last_place (operands_in W lay) (length (operands_in W lay)) p.0 s
   found_here f e = e ∙ ap (λ (n : ℕ). last_place (operands_in W lay) n p.0 s) (sym (long W lay.operands.at lay.operands.n))
@@ -91,7 +88,7 @@ module _ (W : List ℕ) (lay : Layout) (p : Inst) (s : ℕ) where
   unfolding sets_at Said
   said_found K wl f k r a e q i =
       let at = found_at (operands_in W lay) lay.operands.n p.0 s k (sym e ∙ q) in
-      let b = both _ _ at.1 in
+      let b = and_both _ _ at.1 in
       let ei : (op_at (operands_in W lay) k).inst ≡ p = ap inst (eqb-true _ _ b.0) in
       let es : (op_at (operands_in W lay) k).slot ≡ s = eqb-true _ _ b.1 in
       let g : vgroup_at (job_of W lay).operands p s ≡ (op_at (operands_in W lay) k).vgroup.0 =
@@ -123,7 +120,7 @@ past_none W lay i s n u l = go (last_place (operands_in W lay) lay.operands.n i 
     go : (f : Option ℕ) → last_place (operands_in W lay) lay.operands.n i s ≡ f → None ≡ f
     go (Some k) e =
         let at = found_at (operands_in W lay) lay.operands.n i s k e in
-        let ei : (op_at (operands_in W lay) k).inst.0 ≡ i = eqb-true _ _ (both _ _ at.1).0 in
+        let ei : (op_at (operands_in W lay) k).inst.0 ≡ i = eqb-true _ _ (and_both _ _ at.1).0 in
         let b : (op_at (operands_in W lay) k).inst.0 < n = u.under k (omega (arith, at.0, long W lay.operands.at lay.operands.n)) in
         absurd (omega arith)
     go None e = refl

@@ -4,8 +4,8 @@ use Prim.Native.Nat.{ℕ, zero, suc, ◌+◌, ◌*◌, ◌^◌, ◌≤◌, ◌<�
 use native.Mathlib.Omega.{arith}
 use mathlib.Core.Bool.{Bool, true, false, not, cond}
 use lib.IntN.{pos}
-use lib.Dec.{T, ltb, eqb, ltb→lt, le→leb, eqb→eq}
-use lib.Ieee.{Float, nan, inf, fin, Format, binary32, prec, emax, low, odd, units, round, add, mul, div, lt, of_int, in_float, is_nan}
+use lib.Dec.{T, ltb, eqb, ltb→lt, eqb→eq}
+use lib.Ieee.{Float, nan, inf, fin, Format, binary32, prec, emax, low, odd, units, round, add, mul, div, lt, of_int, is_nan}
 use lib.Ieee.Fits.{round_is, cond-fits}
 use lib.Ieee.Back.{round_whole}
 use lib.Ieee.Positive.{positive, positive_of_value}
@@ -96,10 +96,6 @@ div_nonneg f (fin false m e) (fin false n d) p q = div_cond n _ _ (ltb→lt 0 n 
 pub count_positive : (n : ℕ) → 0 < n → n ≤ 16777216 → T (positive (of_int binary32 (pos n)))
 unfolding of_int
 count_positive n h k = positive_of_value (round binary32 false n 1) n 1 (round_whole binary32 false n k) h
-
-pub count_exact : (n : ℕ) → n ≤ 16777216 → T (in_float binary32 (pos n))
-unfolding in_float
-count_exact n k = le→leb n 16777216 k
 
 -- ---- the lesser of two
 pub min_second : (x y : Float) → lt y x ≡ true → y ≡ min_f x y

@@ -1,14 +1,14 @@
--- Numbers read digit by digit, and the tests of a head. Assumes nothing.
+-- Numbers read digit by digit. Assumes nothing.
 use mathlib.Core.Path.{◌≡◌, refl, sym, ap, ◌∙◌}
-use mathlib.Core.Bool.{Bool, false, ◌&&◌, cond}
+use mathlib.Core.Bool.{Bool, cond}
 use mathlib.Core.List.{List}
 use Prim.Native.Nat.{ℕ, suc, ◌+◌, ◌-◌, ◌*◌, ◌^◌, ◌≤◌, ◌<◌}
 use native.Mathlib.Omega.{arith}
-use native.Mathlib.Nat.{pow-le-pow_right, pow-suc}
+use native.Mathlib.Nat.{pow-suc}
 use native.Mathlib.Numerals.{add-one}
-use lib.Dec.{leb, ltb, eqb}
+use lib.Dec.{ltb}
 use lib.ListN.{get_or}
-use borrow.Author.Tests.{lt-ltb, le-ltb, le-leb, lt-leb, eq-eqb, ne_eqb}
+use borrow.Author.Tests.{lt-ltb, le-ltb}
 use Rattle.definition.specs.Text.{digit_of}
 use Rattle.frames.specs.Frames.{spelled}
 
@@ -17,15 +17,6 @@ pub record Spelling (head : List ℕ) (at v i : ℕ) : Type 0 where
   pub within : i ≤ 8
   pub small : v < 10 ^ i
   pub is : spelled head at 8 0 ≡ spelled head (at + i) (8 - i) v
-
-pub spelling_start : (head : List ℕ) (at : ℕ) → Spelling head at 0 0
-spelling_start head at = let e : at ≡ at + 0 = omega arith in record { within = omega arith; small = omega arith; is = ap (λ (m : ℕ). spelled head m 8 0) e }
-
-pub spelling_small : (head : List ℕ) (at v i : ℕ) → Spelling head at v i → i < 8 → v < 10000000
-spelling_small head at v i s h =
-    let e : i ≤ 7 = omega (arith, h) in
-    let p : 10 ^ i ≤ 10 ^ 7 = pow-le-pow_right {n = 10} (omega arith) e in
-    omega (arith, p, s.small)
 
 one_digit : (head : List ℕ) (at k v : ℕ) → spelled head at (suc k) v ≡ cond (ltb 9 (digit_of (get_or head at 0))) 100000000 (spelled head (suc at) k (v * 10 + digit_of (get_or head at 0)))
 unfolding spelled
@@ -55,21 +46,3 @@ spelling_none head at v i d s h e l =
 pub spelling_done : (head : List ℕ) (at v i : ℕ) → Spelling head at v i → 8 ≤ i → v ≡ spelled head at 8 0
 unfolding spelled
 spelling_done head at v i s h = let n : 8 - i ≡ 0 = omega arith in sym (s.is ∙ ap (λ (k : ℕ). spelled head (at + i) k v) n)
-
--- ---- a head: tab, line feed, and room for both parts
-
-module _ (x y s a : ℕ) where
-  abbrev headed : Bool
-  headed = eqb x 9 && eqb y 10 && leb s 262144 && leb a 524288
-
-  pub no_tab : (x ≡ 9 → ⊥) → false ≡ headed
-  no_tab p = rw (ne_eqb x 9 p) refl
-
-  pub no_feed : x ≡ 9 → (y ≡ 10 → ⊥) → false ≡ headed
-  no_feed p q = rw (eq-eqb x 9 p, ne_eqb y 10 q) refl
-
-  pub long_sheet : x ≡ 9 → y ≡ 10 → 262144 < s → false ≡ headed
-  long_sheet p q r = rw (eq-eqb x 9 p, eq-eqb y 10 q, lt-leb s 262144 r) refl
-
-  pub head_room : x ≡ 9 → y ≡ 10 → s ≤ 262144 → leb a 524288 ≡ headed
-  head_room p q r = rw (eq-eqb x 9 p, eq-eqb y 10 q, le-leb s 262144 r) refl

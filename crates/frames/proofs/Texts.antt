@@ -1,22 +1,16 @@
--- The report's lines, put together and written. Assumes nothing.
-use mathlib.Core.Path.{◌≡◌, refl, sym, ap, subst, ◌∙◌}
+-- The report's lines, put together. Assumes nothing.
+use mathlib.Core.Path.{◌≡◌, refl, sym, ap, ◌∙◌}
 use mathlib.Core.Bool.{Bool, true, false, cond}
 use mathlib.Core.List.{List, [], ◌∷◌, ◌++◌}
 use Prim.Native.Nat.{ℕ, ◌-◌, ◌^◌, ◌≤◌, ◌<◌}
 use native.Mathlib.Omega.{arith}
 use native.Mathlib.Nat.{pow-le-pow_right}
 use lib.Dec.{ltb}
-use lib.ListN.{length, take}
-use lib.Seq.{length-take-le}
 use borrow.Author.Tests.{ltb-true, ltb-false, eq-eqb, ne_eqb}
 use Rattle.definition.specs.Text.{bytes, decimal, line_feed}
 use Rattle.io.specs.Digits.{IsDigitCount}
 use Rattle.lines.specs.Wrote.{Wrote}
 use Rattle.lines.specs.Laws.{then, as_text}
-use Rattle.streams.specs.declared.Stream.{Stream}
-use Rattle.std.specs.Prelude.{Result}
-use Rattle.streams.specs.declared.Cut.{Cut}
-use Rattle.streams.specs.Tape.{WroteAll}
 use Rattle.frames.specs.Report.{differs_line, summary}
 
 -- a number of 64 bits has up to twenty digits
@@ -57,12 +51,3 @@ module _ (w : Bool) (n d : ℕ) {a : ℕ} {o o₁ : List ℕ} (x : Wrote 20 0 o 
   summary_differ e z y u v =
       as_text 64 (summary w n d) (then (then (then x y) u) v) (omega arith)
       (sym (ap (λ (b : Bool). summary b n d) e ∙ ap (λ (b : Bool). cond b (decimal n ++ (bytes " answers, all equal" ++ (line_feed ∷ []))) (decimal n ++ bytes " answers, " ++ decimal d ++ (bytes " differ" ++ (line_feed ∷ [])))) (ne_eqb d 0 z)))
-
--- ---- a line in a buffer of 64 bytes, and written
-
-module _ (text X : List ℕ) (n : ℕ) (L : List ℕ) (w : Wrote 64 0 X n L text) where
-  pub line_counts : length L ≡ 64 → n ≡ length (take n L)
-  line_counts h = sym (length-take-le n L (omega (arith, w.most, h)))
-
-  pub line_written : (tape paper : List ℕ) (s : Stream) (r : Result Unit Cut) (t : Stream) (P : List ℕ) → WroteAll tape paper (take n L) s r t P → WroteAll tape paper text s r t P
-  line_written tape paper s r t P a = subst (λ (l : List ℕ). WroteAll tape paper l s r t P) w.is a

@@ -99,10 +99,3 @@ row_next {out₀} {ws} {out} {o} {at} {key} {a} {n} {end} {j} {q} {v} {t} r h f 
   where
     vs : List ℕ
     vs = drop a ws
-
-pub row_done : {out₀ ws out : List ℕ} {at key a n end j : ℕ} → Rowing out₀ at key ws a n out end j → n ≤ j
-    → Wrote (n * 21) at out₀ end out (row_text key (take n (drop a ws)))
-row_done {ws = ws} {key = key} {a = a} {n = n} {j = j} r h =
-    let w : j ≤ n = r.within in
-    let e : j ≡ n = omega arith in
-    as_text (n * 21) _ r.wrote (omega arith) (ap (λ (i : ℕ). row_text key (take i (drop a ws))) e)

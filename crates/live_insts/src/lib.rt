@@ -1,9 +1,8 @@
 // How many instructions the pieces of a register touch (live_range.rs, `live_insts`), read off rows of 7 words: value, from, to, flags, origin, first use, use count.
 #![tactic(auto)]
 
-ghost use Rattle.std.specs.Prelude.{◌≡◌, ◌+◌, ◌-◌, ◌*◌, ◌≤◌, ◌<◌};
+ghost use Rattle.std.specs.Prelude.{◌≡◌, ◌+◌, ◌-◌, ◌≤◌, ◌<◌};
 ghost use Rattle.words.specs.Words.{word_count, words_of};
-ghost use Rattle.word_rows.specs.Rows.{row_words};
 ghost use Rattle.live_insts.specs.Ranges.{range_at, new_insts, range_insts, ranges_in};
 
 use definition::{Inst, LiveRangePoint};

@@ -96,9 +96,6 @@ narrow_step job st ms i k = go (ltb i (length ms)) refl
 pub record Narrowing (ol : OutLayout) (O : List ℕ) (job : Job) (g : VirtRegGroup) (k : RegClass) (i : ℕ) (n : RegClass) : Type 0 where
   pub is : (st : State) → Holds ol O st → narrowed job st (members_at st g) k ≡ narrowed job st (drop i (members_at st g)) n
 
-pub narrow_start : (ol : OutLayout) (O : List ℕ) (job : Job) (g : VirtRegGroup) (k : RegClass) → Narrowing ol O job g k 0 k
-narrow_start ol O job g k = record { is = λ st h. refl }
-
 module _ {ol : OutLayout} {O : List ℕ} {job : Job} {g : VirtRegGroup} {k : RegClass} {i : ℕ} {n : RegClass} (f : Narrowing ol O job g k i n) (m : code.Option VirtReg) (r : code.Option RegClass)
     (member : (st : State) → Holds ol O st → option_of m ≡ get_or (members_at st g) i none)
     (at : (st : State) → Holds ol O st → IfSome m (λ v. v.0 < length st.registers) → r ≡ found_of (narrowed_at job st (option_of m) n)) where

@@ -26,7 +26,6 @@ use Rattle.std.specs.Prelude as code
 use Rattle.operands.specs.Rows.{op_at, is_at, last_place}
 use Rattle.operands.proofs.Rows.{long}
 use Rattle.operands.proofs.Only.{found_at, found_only}
-use Rattle.operands.proofs.Twice.{never}
 use Rattle.layout.specs.declared.Layout.{Layout}
 use Rattle.virt_regs.specs.Encoding.{group_word}
 use Rattle.work_layout.specs.declared.WorkLayout.{WorkLayout}
@@ -136,14 +135,6 @@ module _ (W K : List ℕ) (lay : Layout) (wl : WorkLayout) (p : Inst) (s : ℕ) 
         outside = outside_set;
         answers = λ ms m. let z : mapped_at ms p s ≡ none = word_none (mapped_at ms p s) (sym (word_at ms m) ∙ q.0) in rw z (refl, mapping_more ms l m z);
       })
-
--- ---- one word
-
-pub put_taken : (K : List ℕ) (n g w : ℕ) → w ≡ get_or K n 0 → (w ≡ 0 → ⊥) → PutAt K n g false K
-put_taken K n g w e h = record { taken = λ q. (λ z. h (e ∙ z), refl); free = λ q. never (sym q) }
-
-pub put_free : (K : List ℕ) (n g w : ℕ) (K' : List ℕ) → w ≡ get_or K n 0 → w ≡ 0 → K' ≡ set K n (g + 1) → PutAt K n g true K'
-put_free K n g w K' e z q = record { taken = λ u. never u; free = λ u. (sym e ∙ z, q) }
 
 -- ---- a use
 

@@ -1,5 +1,5 @@
 // The number of a group that is to be.
-ghost use Rattle.std.specs.Prelude.{ℕ, ◌+◌, ◌^◌, ◌<◌};
+ghost use Rattle.std.specs.Prelude.{◌+◌, ◌^◌, ◌<◌};
 
 use definition::VirtRegGroup;
 

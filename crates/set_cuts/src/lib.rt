@@ -1,7 +1,7 @@
 // A working part cut at an instruction into the part before it and the part behind it (live_range.rs `split_segments_at`).
 #![tactic(auto)]
 
-ghost use Rattle.std.specs.Prelude.{◌≡◌, true, cond, ◌+◌, ◌-◌, ◌*◌, ◌≤◌, ◌<◌, eqb};
+ghost use Rattle.std.specs.Prelude.{◌≡◌, true, ◌+◌, ◌-◌, ◌*◌, ◌≤◌, ◌<◌};
 ghost use Rattle.rows.specs.RowsAt.{rows_at};
 ghost use Rattle.definition.specs.Entry.{chained, not_after};
 ghost use Rattle.hints.specs.Hints.{hint_at};

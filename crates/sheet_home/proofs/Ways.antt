@@ -16,7 +16,6 @@ use Rattle.register_sheet.specs.Typed.{refused_line}
 use Rattle.sheet_places.specs.Places.{table_words}
 use Rattle.sheet_form.specs.declared.Reading.{Reading}
 use Rattle.sheet_form.specs.Front.{Formed, formed, run_form, open_form}
-use Rattle.sheet_form.specs.Stream.{Streamed}
 use Rattle.agree.specs.Agree.{all_bytes}
 use Rattle.sheet_verdict.specs.Judged.{LeadsTo}
 use Rattle.sheet_verdict.specs.Fed.{both_open}
@@ -34,10 +33,6 @@ use Rattle.sheet_home.specs.Moved.{Whole}
 pub fed_once : (n m : ℕ) (f g : Formed) (sheet : List ℕ) → n ≡ table_words → m ≡ 1536 → f ≡ open_form n m
     → g ≡ run_form f sheet → g ≡ run_form (open_form table_words 1536) sheet
 fed_once n m f g sheet e d a b = b ∙ ap (λ (k : Formed). run_form k sheet) (a ∙ both_open n m e d)
-
-pub streamed_once : (g : Formed) (sheet : List ℕ) → ((i : ℕ) → get_or sheet i 0 < 256)
-    → g ≡ run_form (open_form table_words 1536) sheet → Streamed (open_form table_words 1536) g
-streamed_once g sheet s e = record { bytes = sheet; small = s; is = e }
 
 pub led : (cur : Reading) (W Y sheet : List ℕ) → ((i : ℕ) → get_or sheet i 0 < 256)
     → formed cur W Y ≡ run_form (open_form table_words 1536) sheet → LeadsTo sheet cur W Y

@@ -3,7 +3,7 @@
 #![tactic(auto)]
 
 ghost use Rattle.std.specs.Prelude.{◌≡◌, ◌+◌, ◌-◌, ◌*◌, ◌<◌, cond, ltb, get_or};
-ghost use Rattle.sheet_rules.specs.Kinds.{number_of, key_number};
+ghost use Rattle.sheet_rules.specs.Kinds.{key_number};
 ghost use Rattle.sheet_places.specs.Places.{limit_of, base_of, width_of, stored_of, count_at, row_at, place_of, tail_at, tail_of, up_of};
 
 use sheet_rules::Kind;

@@ -2,7 +2,7 @@
 #![tactic(auto)]
 
 ghost use Rattle.std.specs.Prelude.{◌≡◌, ◌+◌, ◌-◌, ◌*◌, ◌<◌};
-ghost use Rattle.sheet_rules.specs.Kinds.{number_of, key_number};
+ghost use Rattle.sheet_rules.specs.Kinds.{key_number};
 ghost use Rattle.sheet_rules.specs.Rules.{form_row, code_at, form_of, form_at, more_after, key_of, follows_of, low_of, kind_after};
 
 use numeral::Form;

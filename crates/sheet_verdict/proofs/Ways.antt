@@ -10,7 +10,7 @@ use Rattle.definition.specs.declared.Refusal.{Refusal}
 use Rattle.definition.specs.Entry.{entry}
 use Rattle.definition.specs.declared.Refusal.TheVariants.{NotARecord, OverALimit}
 use Rattle.definition.specs.declared.SheetRefusal.{SheetRefusal}
-use Rattle.definition.specs.declared.SheetRefusal.TheVariants.{By, WrittenDiffers}
+use Rattle.definition.specs.declared.SheetRefusal.TheVariants.{By}
 use Rattle.definition.specs.SheetForms.{is_second, tenth_test, job_in}
 use Rattle.layout.specs.declared.Layout.{Layout}
 use Rattle.job.specs.Job.{raw_job}
@@ -20,7 +20,6 @@ use Rattle.entry.specs.Number.{refusal_in}
 use Rattle.sheet_places.specs.Places.{table_words}
 use Rattle.sheet.specs.Machine.{Answer}
 use Rattle.sheet.specs.declared.SheetError.TheVariants.{Malformed, TooMany}
-use Rattle.sheet_written.specs.Passed.{Passed, accepted_passed}
 use Rattle.sheet_form.specs.declared.Reading.{Reading}
 use Rattle.sheet_form.specs.Fronts.{front_at}
 use Rattle.sheet_form.specs.Front.{formed, open_form, second_of}
@@ -43,10 +42,6 @@ passed_by (some r) w e = absurd (none_some e)
 
 -- ---- the job's tests, and 10
 
--- what the test for 10 needs of a job that passed
-pub implied_asked : (T K : List ℕ) (e : Entered) (lay : Layout) → (e.lay ≡ lay) × Ready T K e → Passed T lay
-implied_asked T K e lay y = subst (λ (x : Layout). Passed T x) y.0 (accepted_passed y.1.0)
-
 module _ (second : Bool) (T : List ℕ) (lay : Layout) (Y K : List ℕ) where
   -- what is asked for 10
   abbrev written : Bool
@@ -57,17 +52,6 @@ module _ (second : Bool) (T : List ℕ) (lay : Layout) (Y K : List ℕ) where
   tested_refused r h = record { refused = ap (λ (o : Option Refusal). tenth_test o written) h; ready = tt }
 
   module _ (n : none ≡ entry (raw_job (words_of T) lay)) where
-    -- a written field differs
-    pub tested_ten : second ≡ true → (b : Bool) → b ≡ implied_in Y lay (raw_job (words_of T) lay) → b ≡ false
-        → Tested second T lay Y K (Err WrittenDiffers)
-    tested_ten s b i f = record {
-      refused =
-          ap (λ (t : Bool). tenth_test none t) (sym f ∙ i)
-          ∙ ap (λ (t : Bool). tenth_test none (cond t (implied_in Y lay (raw_job (words_of T) lay)) true)) (sym s)
-          ∙ ap (λ (o : Option Refusal). tenth_test o written) n;
-      ready = tt;
-    }
-
     -- it passes
     module _ (e : Entered) (y : (e.lay ≡ lay) × Ready T K e) where
       tested_passed : written ≡ true → Tested second T lay Y K (Ok e)

@@ -40,7 +40,3 @@ module _ (K : List ℕ) (wl : WorkLayout) (W : List ℕ) (lay : Layout) (sp : Se
       ∙ ap (λ (k : List ℕ). set k (wl.marks + (sp.first + i)) 1) e₁
       ∙ ap (λ (j : ℕ). set (splice K (wl.turned + n * 4) (turned_words r)) (wl.marks + j) 1) (sym number_is)
       ∙ ap (λ (t : TurnedRow). set (splice K (wl.turned + n * 4) (turned_words t)) (wl.marks + t.number) 1) e
-
--- there is a mark for each use
-pub mark_fits : (w : ℕ) (lay : Layout) (wl : WorkLayout) → TurnRoom w lay wl → wl.marks + lay.uses.n ≤ w
-mark_fits w lay wl a = omega (arith, a.marks, a.room)

@@ -36,11 +36,6 @@ pub record Spreading (ol : OutLayout) (g : VirtRegGroup) (c b n : ℕ) (o₀ : L
   pub same : (j : ℕ) → member_in ol g (words_of o) j ≡ member_in ol g (words_of o₀) j
   pub left : at_places c b (tab (member_in ol g (words_of o₀)) 0 n) (words_of o₀) ≡ at_places c b (tab (member_in ol g (words_of o₀)) i (n - i)) (words_of o)
 
-pub spread_first : (ol : OutLayout) (g : VirtRegGroup) (c b n : ℕ) (o₀ : List ℕ) → Spreading ol g c b n o₀ 0 o₀
-spread_first ol g c b n o₀ =
-    let e : n ≡ n - 0 = omega arith in
-    record { within = omega arith; same = λ j. refl; left = ap (λ (k : ℕ). at_places c b (tab (member_in ol g (words_of o₀)) 0 k) (words_of o₀)) e }
-
 -- the member at place i is a row
 pub spread_row : {ol : OutLayout} {g : VirtRegGroup} {c b n : ℕ} {o₀ : List ℕ} {i : ℕ} {o : List ℕ} (m : ℕ) → Spreading ol g c b n o₀ i o → Spreadable ol g (words_of o₀) → i < n → n ≤ 8
     → m ≡ get_or (words_of o) (group_base ol + (g.0 * 9 + (i + 1))) 0 → m ≤ ol.regs

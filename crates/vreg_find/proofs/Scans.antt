@@ -49,9 +49,6 @@ pub record EndsOn (ol : OutLayout) (O : List ℕ) (first count : ℕ) (a : LiveR
   pub within : i ≤ count
   pub so_far : (ps : List Piece) → length ps ≡ count → Shows ol O first ps → ends_by a ps ≡ i + ends_by a (drop i ps)
 
-pub ends_start : (ol : OutLayout) (O : List ℕ) (first count : ℕ) (a : LiveRangePoint) → EndsOn ol O first count a 0
-ends_start ol O first count a = record { within = omega arith; so_far = λ ps n s. omega arith }
-
 module _ (ol : OutLayout) (O : List ℕ) (first count : ℕ) (a : LiveRangePoint) (i : ℕ) (e : EndsOn ol O first count a i) (h : i < count) (r : PieceRow) (er : r ≡ piece_in O (seg_base ol + (first + i) * 7))
     (x : Bool) (ex : x ≡ is_lt (nat_cmp a.0 r.to.0)) where
   end_is : (ps : List Piece) → length ps ≡ count → Shows ol O first ps → r.to.0 ≡ (get_or ps i no_piece).seg.to.0

@@ -1,7 +1,7 @@
 -- Turns of the loop that raises words, and what the stores come to. Assumes nothing.
 use Rattle.std.specs.Prelude.{◌≡◌, refl, Bool, true, false, List, ℕ, zero, suc, ◌+◌, ◌-◌, ◌*◌, ◌^◌, ◌≤◌, ◌<◌, length, get_or, set}
 use Rattle.std.proofs.Common.{sym, ap, ◌∙◌, subst, arith, add-one, take_all}
-use Rattle.std.proofs.Math.Nat.{suc-mul, zero-mul, sub-zero}
+use Rattle.std.proofs.Math.Nat.{suc-mul, zero-mul}
 use Rattle.std.proofs.lemmas.List.{set-get_or, get_or-set_other}
 use Rattle.definition.specs.declared.VirtReg.{VirtReg}
 use Rattle.definition.specs.Types.{Piece, State}
@@ -21,10 +21,6 @@ use Rattle.vreg_insert.specs.Ask.{Ask, Gaps₂, first_use_le}
 pub record Raising (m s n at : ℕ) (W : List ℕ) (k : ℕ) (V : List ℕ) : Type 0 where
   pub same : raised m s W at n ≡ raised m s V (at + k * s) (n - k)
   pub fits : (i : ℕ) → i < n - k → get_or V (at + k * s + i * s) 0 + m < 2 ^ 32
-
-pub raise_first : (m s n at : ℕ) (W : List ℕ) → ((k : ℕ) → k < n → get_or W (at + k * s) 0 + m < 2 ^ 32) → Raising m s n at W 0 W
-raise_first m s n at W f = let e : at + 0 * s ≡ at = rw zero-mul (omega arith) in
-    record { same = rw (e, sub-zero); fits = λ i l. rw e (f i (omega arith)) }
 
 module _ {m s n at : ℕ} {W : List ℕ} {k : ℕ} {V : List ℕ} (r : Raising m s n at W k V) (h : k < n) where
   pub raise_fits : get_or V (at + k * s) 0 + m < 2 ^ 32

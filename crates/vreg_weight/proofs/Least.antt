@@ -93,9 +93,6 @@ abbrev pub Leasting : OutLayout → List ℕ → VirtRegGroup → ℕ → ℕ �
 Leasting ol O g i w least j = (j ≤ 8)
     × ((st : State) → Members ol O st g → least_weight st i 0 (members_at st g) (of_bits binary32 w) ≡ least_weight st i j (drop j (members_at st g)) (of_bits binary32 least))
 
-pub least_start : (ol : OutLayout) (O : List ℕ) (g : VirtRegGroup) (i w : ℕ) → Leasting ol O g i w w 0
-least_start ol O g i w = (omega arith, λ st p. refl)
-
 pub least_next : (ol : OutLayout) (O : List ℕ) (g : VirtRegGroup) (i w least j r : ℕ) → j < 8 → Leasting ol O g i w least j → LesserOther ol O g i j least r → Leasting ol O g i w r (j + 1)
 least_next ol O g i w least j r h s t = (
   omega arith,

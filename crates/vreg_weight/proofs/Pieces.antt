@@ -9,8 +9,6 @@ use Rattle.rows.specs.RowsAt.{rows_at}
 use Rattle.definition.specs.declared.ClassData.{ClassData}
 use Rattle.definition.specs.declared.Options.{Options}
 use Rattle.definition.specs.declared.RegClass.{RegClass}
-use Rattle.definition.specs.declared.Remat.{Remat}
-use Rattle.definition.specs.declared.Use.{Use}
 use Rattle.definition.specs.Types.{Job, Piece}
 use Rattle.definition.specs.RegInfo.{zero_f, class_at, value_at}
 use Rattle.definition.specs.LiveRange.{live_insts}
@@ -18,12 +16,9 @@ use Rattle.definition.specs.Weights.{sum_uses, sum_segs, weight_of}
 use Rattle.definition.specs.Place.{uses_of, segs_of}
 use Rattle.spill_weight.specs.Costs.{weight_from}
 use Rattle.spill_weight.proofs.Sums.{weight_from_lem}
-use Rattle.uses.specs.Rows.{uses_at}
 use Rattle.live_insts.specs.Ranges.{range_at, range_insts}
 use Rattle.virt_regs.specs.declared.OutLayout.{OutLayout}
-use Rattle.virt_regs.specs.declared.PieceRow.{PieceRow}
-use Rattle.virt_regs.specs.Encoding.{seg_base, use_base, piece_row}
-use Rattle.virt_regs.specs.Reads.{piece_in}
+use Rattle.virt_regs.specs.Encoding.{seg_base}
 use Rattle.vreg_weight.specs.Shown.{Shown, FirstShown, shown_first, shown_insts}
 use Rattle.vreg_weight.specs.Weighed.{Inside, BitsOf}
 use Rattle.vreg_weight.specs.Sound.{each_left, each_right}
@@ -31,24 +26,6 @@ use Rattle.vreg_weight.specs.Sound.{each_left, each_right}
 -- what a piece adds
 abbrev pub Adds : Job → OutLayout → List ℕ → ℕ → Float → Float → Type 0
 Adds J ol O i sum x = (u : ℕ) (q : Piece) (ps : List Piece) → FirstShown ol O i u q ps → Inside J q.seg.uses → x ≡ sum_uses J (value_at J q.seg.value).remat sum q.seg.uses
-
--- no piece has uses past the table
-pub piece_over : (J : Job) (ol : OutLayout) (O : List ℕ) (i : ℕ) (sum : Float) (row : PieceRow) → row ≡ piece_in O (seg_base ol + i * 7) → ol.uses < row.first + row.uses → Adds J ol O i sum sum
-piece_over J ol O i sum row e l u q ps f p =
-    let a : row.first ≡ u = ap (λ (x : PieceRow). x.first) (e ∙ f.row) in
-    let b : row.uses ≡ length q.seg.uses = ap (λ (x : PieceRow). x.uses) (e ∙ f.row) in
-    absurd (omega (arith, f.fit))
-
-pub piece_sum : (J : Job) (ol : OutLayout) (O : List ℕ) (i : ℕ) (sum x : Float) (rm : Remat) (row : PieceRow) → row ≡ piece_in O (seg_base ol + i * 7) → rm ≡ (value_at J row.value).remat
-    → (Inside J (uses_at O (use_base ol + row.first * 6) row.uses) → x ≡ sum_uses J rm sum (uses_at O (use_base ol + row.first * 6) row.uses))
-    → Adds J ol O i sum x
-piece_sum J ol O i sum x rm row e er s u q ps f p =
-    let k : row ≡ piece_row u q = e ∙ f.row in
-    let us : uses_at O (use_base ol + row.first * 6) row.uses ≡ q.seg.uses = ap (λ (y : PieceRow). uses_at O (use_base ol + y.first * 6) y.uses) k ∙ f.own in
-    let rv : rm ≡ (value_at J q.seg.value).remat = er ∙ ap (λ (y : PieceRow). (value_at J y.value).remat) k in
-    s (subst (λ (l : List Use). Inside J l) (sym us) p)
-    ∙ ap (λ (l : List Use). sum_uses J rm sum l) us
-    ∙ ap (λ (y : Remat). sum_uses J y sum q.seg.uses) rv
 
 -- ---- the pieces behind the first i
 
@@ -62,18 +39,6 @@ pub record Rest (J : Job) (ol : OutLayout) (O : List ℕ) (p n : ℕ) (ps : List
 
 abbrev pub Pieces : Job → OutLayout → List ℕ → ℕ → ℕ → Float → ℕ → Type 0
 Pieces J ol O p n sum i = (u : ℕ) (ps : List Piece) → Shown ol O p u ps → length ps ≡ n → Inside J (uses_of (segs_of ps)) → Rest J ol O p n ps sum i
-
-pub pieces_start : (J : Job) (ol : OutLayout) (O : List ℕ) (p n : ℕ) {z : Float} → z ≡ zero_f → Pieces J ol O p n z 0
-pieces_start J ol O p n z u ps s l h =
-    let e : p ≡ p + 0 = omega arith in
-    record {
-      first = u;
-      rest = ps;
-      shown = subst (λ (k : ℕ). Shown ol O k u ps) e s;
-      long = omega arith;
-      inside = h;
-      is = ap (λ (y : Float). sum_segs J y (segs_of ps)) (sym z);
-    }
 
 rest_next : (J : Job) (ol : OutLayout) (O : List ℕ) (p n i : ℕ) (ps : List Piece) (sum x : Float) → i < n → Adds J ol O (p + i) sum x
     → (first : ℕ) (rest : List Piece) → Shown ol O (p + i) first rest → length rest ≡ n - i → Inside J (uses_of (segs_of rest))

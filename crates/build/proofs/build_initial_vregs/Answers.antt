@@ -1,19 +1,13 @@
-use mathlib.Core.Path.{refl, sym, ap, ◌∙◌}
+use mathlib.Core.Path.{refl, ap, ◌∙◌}
 use native.Mathlib.Omega.{arith}
 use lib.ListN.{length}
 use Rattle.build.specs.Ends.{refused_end}
 use Rattle.build.proofs.Shaped.{answered_as}
-use Rattle.build.proofs.Whole.{part_long, part_cleared, answered_whole, shaped_found, answered_off}
+use Rattle.build.proofs.Whole.{part_cleared, answered_whole, answered_off}
 use Rattle.build.proofs.build_initial_vregs.Goals as goal
 
 pub returns-in_default : goal.returns-in_default
 returns-in_default c = answered_as (c.refuse.ensures ∙ ap refused_end c.number.ensures) (answered_off _ _ _ _ _ _ _ _ _ _ c.clear.ensures.zeroed c.out_layout-ol.ensures refl c.find_layout.ensures c.in_default.is)
-
-pub slice_bounds-build_shaped-end-2 : goal.slice_bounds-build_shaped-end-2
-slice_bounds-build_shaped-end-2 c = sym (part_long (length c.args.out.now) _ _ _ _ _ _ _ _ c.clear.ensures.zeroed c.out_layout-ol.ensures refl c.tables_bytes-end.ensures)
-
-pub invariant_of-shaped : goal.invariant_of-shaped
-invariant_of-shaped c = record { shaped = shaped_found _ _ _ c.find_layout.ensures c.in-Some.is }
 
 pub build_shaped-requires : goal.build_shaped-requires
 build_shaped-requires c = (

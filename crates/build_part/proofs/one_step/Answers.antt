@@ -1,5 +1,4 @@
 use mathlib.Core.Path.{refl, sym, ap, ◌∙◌}
-use native.Mathlib.Omega.{arith}
 use Rattle.words.specs.Laws.{length_words}
 use Rattle.definition.specs.Admit.{turn}
 use Rattle.place_end.specs.Ends.{err_kept}
@@ -36,9 +35,6 @@ pub turn_one-requires : goal.turn_one-requires
 turn_one-requires c = let g = c.requires in
     let m = moves_turn _ _ _ _ _ g.laid.ok g.state _ _ (c.next_move.ensures g.state g.stands.stands) _ c.in-Turn.is in
     turn_asked g.laid (sym (length_words _)) g.state _ _ (m ∙ ap turn (sym c.saturating_sub-i.ensures))
-
-pub overflow_add-result : goal.overflow_add-result
-overflow_add-result c = let g = c.requires in omega (arith, g.laid.left, g.laid.turns.few)
 
 pub returns-in-Turn : goal.returns-in-Turn
 returns-in-Turn c = let g = c.requires in

@@ -1,11 +1,5 @@
 use Rattle.conflict_round.proofs.Trying.{admit_is}
 use Rattle.conflict_round.proofs.admit_row.Goals as goal
 
-pub turned_use-u-requires : goal.turned_use-u-requires
-turned_use-u-requires c = (c.requires.2, c.requires.3)
-
-pub admit-requires : goal.admit-requires
-admit-requires c = (c.requires.0, c.requires.1)
-
 pub returns : goal.returns
 returns c st hs = admit_is _ _ _ _ _ _ _ _ _ _ _ c.requires.0 c.requires.4 c.requires.3 c.turned_use-u.ensures (λ b. c.admit.ensures st hs b)

@@ -19,11 +19,6 @@ loop-i-preserved-in-Some c = let v = c.loop-i.invariant in (
   v.1,
 )
 
-pub swap_rows-requires : goal.swap_rows-requires
-swap_rows-requires c = let v = c.loop-i.invariant in
-    let t = c.loop-i-test.true in
-    (omega (arith, t, v.0.high, v.0.rows.within, v.1), omega (arith, t, v.0.high, v.0.rows.within, v.1))
-
 pub loop-i-preserved : goal.loop-i-preserved
 loop-i-preserved c = let v = c.loop-i.invariant in (
   trying_no _ _ _ _ _ _ _ _ _ _ _ _ _ _ v.0 c.loop-i-test.true _

@@ -5,10 +5,6 @@ use Rattle.lines.specs.Places.{decimal_is}
 use Rattle.frames.proofs.Texts.{count_short}
 use Rattle.frames.proofs.put_count.Goals as goal
 
-pub put_bytes-requires : goal.put_bytes-requires
-put_bytes-requires c = let k = count_short _ c.decimal-k.result (omega (arith, c.ranges.v)) c.decimal-k.ensures.len in
-    omega (arith, k, c.decimal-k.ensures.in_bounds.1)
-
 pub returns : goal.returns
 returns c = let k = count_short _ c.decimal-k.result (omega (arith, c.ranges.v)) c.decimal-k.ensures.len in
     as_text 20 _ c.put_bytes.ensures (omega (arith, k, c.decimal-k.ensures.in_bounds.1)) (c.decimal-k.ensures.digits ∙ decimal_is _ c.decimal-k.result c.decimal-k.ensures.len)

@@ -1,6 +1,6 @@
 use native.Mathlib.Omega.{arith}
 use Rattle.words.specs.Laws.{length_words}
-use Rattle.job_lines.proofs.Rowing.{row_start, row_next, row_done}
+use Rattle.job_lines.proofs.Rowing.{row_start, row_next}
 use borrow.Author.Rules.{rules}
 use Rattle.job_lines.proofs.put_row.Goals as goal
 
@@ -14,6 +14,3 @@ loop-j-preserved c = row_next c.loop-j.invariant c.loop-j-test.true
     c.is_bits.ensures
     c.word_at.ensures
     c.put_value-end.ensures
-
-pub returns : goal.returns
-returns c = row_done c.loop-j.invariant c.loop-j-test.false

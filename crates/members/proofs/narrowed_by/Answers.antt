@@ -1,9 +1,6 @@
 use native.Mathlib.Omega.{arith}
-use Rattle.members.proofs.Narrowing.{narrow_start, narrow_next, narrow_stop, narrow_end}
+use Rattle.members.proofs.Narrowing.{narrow_next, narrow_stop, narrow_end}
 use Rattle.members.proofs.narrowed_by.Goals as goal
-
-pub loop-i-init : goal.loop-i-init
-loop-i-init c = narrow_start _ _ _ _ _
 
 pub returns-in_err-class : goal.returns-in_err-class
 returns-in_err-class c = rw c.from_residual.ensures (narrow_stop c.loop-i.invariant _ _ c.member_at-m.ensures c.narrow.ensures c.in_err-class.was)

@@ -7,9 +7,6 @@ use Rattle.part_maps.proofs.map_part.Goals as goal
 pub loop-i-init : goal.loop-i-init
 loop-i-init c = (run_start _ _ _ _ _ _ _ _, refl)
 
-pub marked_use-u-requires : goal.marked_use-u-requires
-marked_use-u-requires c = (omega (arith, c.loop-i-test.true, c.requires.2.fits), omega (arith, c.loop-i-test.true, c.requires.2.fits, c.requires.0.marks, c.loop-i.invariant.1))
-
 pub map_use-requires : goal.map_use-requires
 map_use-requires c = let r = ready_run _ _ _ _ _ _ _ _ _ _ _ c.loop-i.invariant.0 c.requires.1 c.loop-i.invariant.1 c.requires.0 in
     (r, backed_marked _ _ _ _ _ _ _ _ r (omega (arith, c.requires.2.within)) (omega (arith, c.loop-i-test.true, c.requires.2.fits)) c.marked_use-u.ensures)

@@ -8,9 +8,6 @@ pub spread-requires : goal.spread-requires
 spread-requires c = let p = c.add_register-n in
     (search rules, spreadable_row _ _ _ _ _ _ p.ensures.1 c.requires.2.regs (omega (arith, c.requires.1, length_words c.args.out.now)) c.requires.3)
 
-pub set_member-requires : goal.set_member-requires
-set_member-requires c = (search rules, c.requires.3.here, search rules, omega (arith, c.requires.2.small))
-
 pub returns : goal.returns
 returns c = let p = c.add_register-n.ensures in
     let l = c.least_weight-least in

@@ -1,17 +1,7 @@
 use mathlib.Core.Path.{refl, ap}
-use native.Mathlib.Omega.{arith}
-use Rattle.virt_regs.specs.declared.Counts.{Counts}
 use Rattle.place.specs.Ready.{group_more}
 use Rattle.place.specs.Laws.{left_lead}
-use borrow.Author.Rules.{rules}
 use Rattle.place.proofs.finish_lead.Goals as goal
-
-pub add_group-requires : goal.add_group-requires
-add_group-requires c = (search rules, search rules, search rules, omega (arith, c.requires.2.small))
-
-pub overflow_add-result : goal.overflow_add-result
-overflow_add-result c = let p = c.add_register-n.ensures in
-    omega (arith, ap (λ (x : Counts). x.groups) p.0, c.requires.4)
 
 pub returns : goal.returns
 returns c = let p = c.add_register-n.ensures in

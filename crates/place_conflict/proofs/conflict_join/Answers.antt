@@ -6,11 +6,8 @@ use Rattle.place.specs.Laws.{spreadable_written}
 use Rattle.place_end.specs.Ends.{err_kept}
 use Rattle.place_laws.specs.Puts.{new_ok, new_err}
 use Rattle.place_laws.specs.Ways.{join_full, join_done}
-use Rattle.place_conflict.specs.Asks.{asks_fair, asks_more}
+use Rattle.place_conflict.specs.Asks.{asks_fair}
 use Rattle.place_conflict.proofs.conflict_join.Goals as goal
-
-pub write_new-requires : goal.write_new-requires
-write_new-requires c = asks_more (λ st x. tt) c.requires.1
 
 pub returns-in_err-new : goal.returns-in_err-new
 returns-in_err-new c = let n = new_err _ _ _ _ _ _ _ _ c.write_new.ensures _ c.in_err-new.was in

@@ -12,16 +12,6 @@ use Rattle.place_laws.specs.Ways.{lead_stopped, lead_full, lead_done}
 use Rattle.place_conflict.specs.Asks.{asks_fair, asks_groups, asks_kept, pieces_kept}
 use Rattle.place_conflict.proofs.conflict_lead.Goals as goal
 
-pub overflow_cast-group : goal.overflow_cast-group
-overflow_cast-group c = omega (arith, asks_groups c.requires.1)
-
-pub invariant_of-g : goal.invariant_of-g
-invariant_of-g c = record { counted = asks_groups c.requires.1 }
-
-pub map_conflict-requires : goal.map_conflict-requires
-map_conflict-requires c = let k = c.requires.1 in
-    (k.ready, k.apart, k.rows, k.segments)
-
 pub returns-then-not-map_conflict : goal.returns-then-not-map_conflict
 returns-then-not-map_conflict c = let x = c.args.t.first in
     λ st h hg sd ec sane eh ei.

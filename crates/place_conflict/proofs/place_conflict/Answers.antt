@@ -5,16 +5,9 @@ use Rattle.place_end.specs.Ends.{ends_by}
 use Rattle.place_conflict.specs.Asks.{asks_more}
 use Rattle.place_conflict.proofs.place_conflict.Goals as goal
 
-pub conflict_alone-requires : goal.conflict_alone-requires
-conflict_alone-requires c = (c.requires.0, asks_more (λ st x. tt) c.requires.1)
-
 pub returns-in_default : goal.returns-in_default
 returns-in_default c = let h = c.args.held in
     λ st sd ec sane hf. ends_by _ _ _ _ _ _ _ _ _ _ _ (way_alone _ _ _ h _ st c.in_default.is) (c.conflict_alone.ensures st (held_of h) sd ec sane (class_held h))
-
-pub conflict_lead-requires : goal.conflict_lead-requires
-conflict_lead-requires c = let i = c.requires.1.more.0.index _ c.in-Some.is in
-    (c.requires.0, asks_more (λ st x. tt) c.requires.1, i.0, i.1)
 
 pub returns-in_default-mapped : goal.returns-in_default-mapped
 returns-in_default-mapped c = let h = c.args.held in

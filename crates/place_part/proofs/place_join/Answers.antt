@@ -7,11 +7,7 @@ use Rattle.place_end.specs.Ends.{err_kept}
 use Rattle.place_laws.specs.Kept.{weighable}
 use Rattle.place_laws.specs.Puts.{new_ok, new_err}
 use Rattle.place_laws.specs.Ways.{join_full, join_done}
-use Rattle.place_part.specs.Asked.{asks_more}
 use Rattle.place_part.proofs.place_join.Goals as goal
-
-pub write_new-requires : goal.write_new-requires
-write_new-requires c = asks_more (λ st x s. tt) c.requires
 
 pub returns-in_err-new : goal.returns-in_err-new
 returns-in_err-new c = let n = new_err _ _ _ _ _ _ _ _ c.write_new.ensures _ c.in_err-new.was in

@@ -11,16 +11,6 @@ use Rattle.place_laws.specs.Ways.{lead_stopped, lead_full, lead_done}
 use Rattle.place_part.proofs.Rows.{maps_own, pieces_kept, asks_kept, asks_groups}
 use Rattle.place_part.proofs.place_lead.Goals as goal
 
-pub overflow_cast-group : goal.overflow_cast-group
-overflow_cast-group c = omega (arith, asks_groups c.requires.0)
-
-pub invariant_of-g : goal.invariant_of-g
-invariant_of-g c = record { counted = asks_groups c.requires.0 }
-
-pub map_part-requires : goal.map_part-requires
-map_part-requires c = let a = c.requires.0 in
-    (a.ready, a.apart, a.part)
-
 pub returns-then-not-map_part : goal.returns-then-not-map_part
 returns-then-not-map_part c = λ st h hg q eh ei.
     lead_stopped _ _ _ _ _ _ _ st _ h _ _ hg _ _ _ (ap (λ (x : Counts). x.groups) q.counts) (maps_own _ _ _ _ _ _ _ _ c.map_part.ensures) q.stands.mapped (not-true _ c.if-not-map_part.true-raw) refl

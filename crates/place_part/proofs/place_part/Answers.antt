@@ -5,16 +5,9 @@ use Rattle.place_end.specs.Ends.{ends_by}
 use Rattle.place_part.specs.Asked.{asks_more}
 use Rattle.place_part.proofs.place_part.Goals as goal
 
-pub place_alone-requires : goal.place_alone-requires
-place_alone-requires c = asks_more (λ st x s. tt) c.requires
-
 pub returns-in_default : goal.returns-in_default
 returns-in_default c = let h = c.args.held in
     λ st q hf f. ends_by _ _ _ _ _ _ _ _ _ _ _ (way_alone _ _ _ h _ st c.in_default.is) (c.place_alone.ensures st (held_of h) q (class_held h))
-
-pub place_lead-requires : goal.place_lead-requires
-place_lead-requires c = let i = c.requires.fits.index _ c.in-Some.is in
-    (asks_more (λ st x s. tt) c.requires, i.0, i.1)
 
 pub returns-in_default-mapped : goal.returns-in_default-mapped
 returns-in_default-mapped c = let h = c.args.held in

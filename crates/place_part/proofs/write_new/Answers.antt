@@ -5,9 +5,6 @@ use native.Mathlib.Omega.{arith}
 use Rattle.words.specs.Words.{words_of}
 use Rattle.place_part.proofs.write_new.Goals as goal
 
-pub part_rows-new-requires : goal.part_rows-new-requires
-part_rows-new-requires c = c.requires.part
-
 pub returns-then-not-has_room : goal.returns-then-not-has_room
 returns-then-not-has_room c = no_new _ _ _ _ _ _ _ _ (no_room _ (part_rows_of _ _ _ _ _ _ c.requires.part c.part_rows-new.ensures.counted c.part_rows-new.ensures.hinted) _ _ c.has_room.ensures _ (not-true _ c.if-not-has_room.true-raw))
 

@@ -5,19 +5,10 @@ use Rattle.scans.proofs.next_move.Goals as goal
 pub returns-in_default : goal.returns-in_default
 returns-in_default c st hs = move_whole _ st _ _ _ c.fresh_held-first.ensures _ _ (c.scan_uses-r.ensures.ends st hs) c.in_default.is
 
-pub scan_back-back-requires : goal.scan_back-back-requires
-scan_back-back-requires c = let r = rw c.in-Some.is at c.scan_uses-r.ensures.within in
-    (c.requires.0, c.requires.1, r.0, omega (arith, r.1), c.requires.4)
-
 pub returns-in_default-failed : goal.returns-in_default-failed
 returns-in_default-failed c st hs = let r = rw c.in-Some.is at c.scan_uses-r.ensures.within in
     move_halt _ st _ _ _ c.fresh_held-first.ensures _ _ (c.scan_uses-r.ensures.ends st hs) _ c.in-Some.is _
     (back_is _ st _ _ _ _ _ _ _ r.0 r.1 (c.scan_back-back.ensures.ends st hs)) c.in_default-failed.is
-
-pub part_at-requires : goal.part_at-requires
-part_at-requires c = let r = rw c.in-Some.is at c.scan_uses-r.ensures.within in
-    let b = rw c.in-Some-failed.is at c.scan_back-back.ensures.within in
-    (c.requires.0, omega (arith, r, b), omega (arith, r, b), c.requires.4)
 
 pub returns : goal.returns
 returns c st hs = let r = rw c.in-Some.is at c.scan_uses-r.ensures.within in

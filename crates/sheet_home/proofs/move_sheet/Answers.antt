@@ -4,21 +4,8 @@ use Prim.Native.Nat.{ℕ, ◌<◌}
 use native.Mathlib.Omega.{arith}
 use lib.ListN.{get_or}
 use Rattle.job_pages.specs.Cursors.{none_key}
-use Rattle.sheet_home.proofs.Ways.{fed_once, streamed_once, led, answered_refused, shows_start, answered_moved}
+use Rattle.sheet_home.proofs.Ways.{fed_once, led, answered_refused, shows_start, answered_moved}
 use Rattle.sheet_home.proofs.move_sheet.Goals as goal
-
-pub verdict_on-requires : goal.verdict_on-requires
-verdict_on-requires c = let p = c.requires in
-    let b : (i : ℕ) → get_or c.args.sheet.now i 0 < 256
-    = λ i. omega (arith, c.shared_slice_known-1.given i) in (
-      streamed_once _ _ b (fed_once _ _ _ _ _ p.1 p.2 c.open-first.ensures c.feed-cur.ensures),
-      omega (arith, p.1, c.open-first.auto, c.feed-cur.auto),
-      omega (arith, p.2, c.open-first.auto, c.feed-cur.auto),
-      p.3,
-    )
-
-pub put_refused-n-requires : goal.put_refused-n-requires
-put_refused-n-requires c = omega (arith, c.requires.0)
 
 pub returns-in-Err : goal.returns-in-Err
 returns-in-Err c = let p = c.requires in

@@ -1,10 +1,6 @@
 use native.Mathlib.Omega.{arith}
-use Rattle.floats.proofs.Nonneg.{count_exact}
 use Rattle.spill_weight.proofs.Costs.{max_bits, is_normalized}
 use Rattle.spill_weight.proofs.normalize.Goals as goal
-
-pub int_to_float-n : goal.int_to_float-n
-int_to_float-n c = count_exact _ (omega arith)
 
 pub invariant_of-result : goal.invariant_of-result
 invariant_of-result c = let a = c.args in

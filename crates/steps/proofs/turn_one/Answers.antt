@@ -1,8 +1,5 @@
-use Rattle.steps.proofs.Read.{number_fits, put_once, mark_fits}
+use Rattle.steps.proofs.Read.{number_fits, put_once}
 use Rattle.steps.proofs.turn_one.Goals as goal
-
-pub turned_at-row-requires : goal.turned_at-row-requires
-turned_at-row-requires c = (c.requires.0, c.requires.2, mark_fits _ _ _ c.requires.1)
 
 pub put_turned-requires : goal.put_turned-requires
 put_turned-requires c = number_fits _ c.args.fr.now.wl _ c.args.fr.now.job.lay c.args.sp c.args.i _ c.turned_at-row.ensures _ c.args.n c.requires.1 c.requires.0 c.requires.2 c.requires.3

@@ -1,12 +1,6 @@
 use Rattle.std.proofs.Common.{arith}
-use Rattle.vreg_change.proofs.Loops.{spread_first, spread_row, spread_next, spread_last}
+use Rattle.vreg_change.proofs.Loops.{spread_row, spread_next, spread_last}
 use Rattle.vreg_change.proofs.spread.Goals as goal
-
-pub loop-i-init : goal.loop-i-init
-loop-i-init c = spread_first _ _ _ _ _ _
-
-pub member_at-m-requires : goal.member_at-m-requires
-member_at-m-requires c = (omega arith, c.requires.1.here, omega (arith, c.group_size-i-end.ensures, c.requires.1.size, c.loop-i-test.true))
 
 pub set_at_place-requires : goal.set_at_place-requires
 set_at_place-requires c = omega (arith, spread_row _ c.loop-i.invariant c.requires.1 c.loop-i-test.true (omega (arith, c.group_size-i-end.ensures, c.requires.1.size)) c.member_at-m.ensures)

@@ -1,9 +1,6 @@
 use Rattle.std.proofs.Common.{arith}
-use Rattle.vreg_find.proofs.Scans.{ends_start, ends_next, ends_stop, ends_done}
+use Rattle.vreg_find.proofs.Scans.{ends_next, ends_stop, ends_done}
 use Rattle.vreg_find.proofs.ends_by.Goals as goal
-
-pub loop-i-init : goal.loop-i-init
-loop-i-init c = ends_start _ _ _ _ _
 
 pub returns-then-lt : goal.returns-then-lt
 returns-then-lt c = (c.loop-i.invariant.within, ends_stop _ _ _ _ _ _ c.loop-i.invariant c.loop-i-test.true _ c.piece_at.ensures _ c.lt.ensures c.if-lt.true)

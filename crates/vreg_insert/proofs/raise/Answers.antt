@@ -1,9 +1,6 @@
 use Rattle.std.proofs.Common.{arith}
-use Rattle.vreg_insert.proofs.Turns.{raise_first, raise_fits, raise_next, raise_last}
+use Rattle.vreg_insert.proofs.Turns.{raise_fits, raise_next, raise_last}
 use Rattle.vreg_insert.proofs.raise.Goals as goal
-
-pub loop-k-init : goal.loop-k-init
-loop-k-init c = raise_first _ _ _ _ _ c.requires.no_overflow
 
 pub overflow_add-word_at : goal.overflow_add-word_at
 overflow_add-word_at c = omega (arith, c.word_at.ensures, raise_fits c.loop-k.invariant c.loop-k-test.true)

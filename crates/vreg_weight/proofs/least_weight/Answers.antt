@@ -1,8 +1,5 @@
-use Rattle.vreg_weight.proofs.Least.{least_start, least_next, least_end}
+use Rattle.vreg_weight.proofs.Least.{least_next, least_end}
 use Rattle.vreg_weight.proofs.least_weight.Goals as goal
-
-pub loop-j-init : goal.loop-j-init
-loop-j-init c = least_start _ _ _ _ _
 
 pub loop-j-preserved : goal.loop-j-preserved
 loop-j-preserved c = least_next _ _ _ _ _ _ _ _ c.loop-j-test.true c.loop-j.invariant c.lesser_other-least.ensures

@@ -1,12 +1,5 @@
-use native.Mathlib.Omega.{arith}
-use Rattle.vreg_weight.proofs.Pieces.{pieces_start, pieces_next, pieces_end}
+use Rattle.vreg_weight.proofs.Pieces.{pieces_next, pieces_end}
 use Rattle.vreg_weight.proofs.sum_pieces.Goals as goal
-
-pub loop-i-init : goal.loop-i-init
-loop-i-init c = pieces_start _ _ _ _ _ c.zero-sum.ensures
-
-pub sum_piece-sum-requires : goal.sum_piece-sum-requires
-sum_piece-sum-requires c = (c.requires.0, omega (arith, c.requires.1))
 
 pub loop-i-preserved : goal.loop-i-preserved
 loop-i-preserved c = pieces_next _ _ _ _ _ _ _ _ c.loop-i-test.true c.loop-i.invariant c.sum_piece-sum.ensures

@@ -1,15 +1,9 @@
-use native.Mathlib.Omega.{arith}
-use Rattle.vregs_answer.specs.Laws.{cleared_long, cleared_tables, answers_refused, answers_built}
+use Rattle.vregs_answer.specs.Laws.{cleared_long, answers_refused, answers_built}
 use Rattle.vregs_answer.proofs.answer_table.Goals as goal
 
 pub returns-in-Err : goal.returns-in-Err
 returns-in-Err c = answers_refused _ _ _ _ _ _ c.in-Err.ensures _ c.number.ensures _ c.refuse.ensures _
     c.clear.ensures.zeroed
-
-pub build_entered-requires : goal.build_entered-requires
-build_entered-requires c = let p = c.requires in
-    let a = c.in-Ok.ensures.ready in
-    (a.0, a.1, omega (arith, p.4, c.judge.auto), cleared_tables _ _ _ c.vregs_tables.ensures p.3 c.clear.ensures.zeroed)
 
 pub returns-in-Ok : goal.returns-in-Ok
 returns-in-Ok c = answers_built _ _ _ _ _ _ c.in-Ok.ensures _

@@ -1,21 +1,10 @@
 use native.Mathlib.Omega.{arith}
 use Rattle.sheet_verdict.specs.Fed.{streamed_in}
 use Rattle.vregs_run.proofs.Starts.{prints_read, ran_unread, ran_written}
-use borrow.Author.Rules.{rules}
 use Rattle.vregs_run.proofs.answer.Goals as goal
 
 pub returns-in_default : goal.returns-in_default
 returns-in_default g c = ran_unread _ _ _ _ _ _ _ _ _ c.in_default.ensures
-
-pub answer_table-end-requires : goal.answer_table-end-requires
-answer_table-end-requires g c = let p = c.requires in
-    let sp = c.args.space.now in (
-      streamed_in _ _ _ sp.job sp.fields c.in-Ok.ensures.streamed,
-      omega (arith, sp.job, c.feed_all.auto),
-      omega (arith, sp.fields, c.feed_all.auto),
-      search rules,
-      search rules,
-    )
 
 pub print-requires : goal.print-requires
 print-requires g c = let p = c.requires in

@@ -1,7 +1,7 @@
 use mathlib.Core.Path.{refl}
 use Rattle.vregs_run.proofs.Starts.{begun}
 use Rattle.vregs_run.proofs.Pages.{showing_start, showing_next, showing_failed, showing_end}
-use borrow.Author.Tests.{not-true, not-false}
+use borrow.Author.Tests.{not-false}
 use borrow.Author.Rules.{rules}
 use Rattle.std.proofs.lemmas.Result.{err_from_is_err_and}
 use Rattle.vregs_run.proofs.print.Goals as goal
@@ -12,24 +12,9 @@ loop-cur-init g c = let p = c.requires in
     let d = c.start-cur.ensures in
     (refl, refl, showing_start _ _ _ _ _ _ (begun _ _ _ _ p.0 e d) e d p.2)
 
-pub page-page-requires : goal.page-page-requires
-page-page-requires g c = (c.loop-cur.invariant.2.prints, search rules)
-
-pub slice_bounds-write_all-end : goal.slice_bounds-write_all-end
-slice_bounds-write_all-end g c = c.page-page.ensures.within
-
-pub slice_bounds-write_all-end-in-loop-cur : goal.slice_bounds-write_all-end-in-loop-cur
-slice_bounds-write_all-end-in-loop-cur g c = c.page-page.ensures.counts
-
-pub write_all-requires : goal.write_all-requires
-write_all-requires g c = c.loop-cur.invariant.2.bound
-
 pub returns-in_err-write_all : goal.returns-in_err-write_all
 returns-in_err-write_all g c = let p = err_from_is_err_and c.from_residual.result c.from_residual.ensures.1 in
     rw p.1 (showing_failed _ _ _ _ _ _ _ _ _ _ _ _ _ _ c.loop-cur.invariant.2 c.page-page.ensures c.in_err-write_all.ensures refl)
-
-pub loop-cur-smaller : goal.loop-cur-smaller
-loop-cur-smaller g c = c.page-page.ensures.fewer (not-true _ c.loop-cur-test.true)
 
 pub loop-cur-preserved : goal.loop-cur-preserved
 loop-cur-preserved g c = (search rules, search rules, showing_next _ _ _ _ _ _ _ _ _ _ _ _ _ _ c.loop-cur.invariant.2 c.page-page.ensures c.in_ok-write_all.ensures refl)

@@ -1,9 +1,0 @@
-use borrow.Author.Rules.{rules}
-use Rattle.frames.proofs.Texts.{line_counts, line_written}
-use Rattle.frames.proofs.tell.Goals as goal
-
-pub slice_bounds-write_all-end : goal.slice_bounds-write_all-end
-slice_bounds-write_all-end g c = line_counts _ _ _ _ c.put_differs-n.ensures (search rules)
-
-pub returns : goal.returns
-returns g c = line_written _ _ _ _ c.put_differs-n.ensures _ _ _ _ _ _ c.write_all.ensures
