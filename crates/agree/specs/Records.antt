@@ -4,6 +4,7 @@ use Rattle.std.proofs.Common.{sym, ap, ◌∙◌, arith, lt-ltb}
 use Rattle.std.proofs.Math.Option.{Option, none, some}
 use Rattle.definition.specs.Text.{◌>>=◌, Fields, fields_of, end_field as field_ended, onto_field}
 use Rattle.definition.specs.JobSheet.{Word as Named, Record, word_number, all_words, word_among, read_record, record_of, records_of}
+use Rattle.definition.specs.Conversion.{rec}
 use Rattle.numeral.specs.Bytes.{num}
 use Rattle.numeral.specs.declared.Form.{Form}
 use Rattle.numeral.specs.declared.Form.TheVariants.{Nothing, Number, Mask, Word}
@@ -15,9 +16,6 @@ use Rattle.agree.specs.Words.{Bytes, spelled, word_of, record_word}
 use Rattle.agree.specs.Split.{field_of, Bounded, Seen, gone, at, view_n, view, on, field_s, fields_s, close_f, close_r, run_b, line_s, lines_s, form_of_st, with_value, done_b, done_s, field_done, line_fields, up_some}
 use Rattle.agree.specs.Table.{Filled, filled, puts, ups, counted, keyed, row_of, put}
 use Rattle.agree.specs.Values.{values_of, record_values}
-
-abbrev pub rec : Named → List ℕ → Record
-rec w ns = record { word = w; fields = ns }
 
 pick : (t : Bool) (f g : Form) → Bounded f → Bounded g → Bounded (cond t f g)
 pick true f g h k = h

@@ -1,4 +1,4 @@
--- What `to_form2` and `to_form1` write, by computation (change request 6): three sheets both ways, one of which `vregs`
+-- What `to_form2` and `to_form1` write, by computation: three sheets both ways, one of which `vregs`
 -- refuses by 8; each refusal; and a sheet of each form given to the wrong program.
 -- Assumes nothing.
 use mathlib.Core.Path.{◌≡◌, refl}
@@ -76,8 +76,8 @@ both_forms = (case_a, second_a) ∷ (every_record, every_second) ∷ (stops, sto
 there-and-home :
     (map (λ p. to_form2 (text p.0)) both_forms ≡ map (λ p. text p.1) both_forms)
     × (map (λ p. to_form1 (text p.1)) both_forms ≡ map (λ p. text p.0) both_forms)
-    × (vregs_of (text stops) ≡ text ("refused 8" ∷ []))
-unfolding to_form2 to_form1 vregs_of text both_forms stops
+    × (map (λ s. vregs_of (text s)) (stops ∷ stops_second ∷ []) ≡ map text (("refused 8" ∷ []) ∷ ("refused 8" ∷ []) ∷ []))
+unfolding to_form2 to_form1 vregs_of text both_forms stops stops_second
 there-and-home = (refl, refl, refl)
 
 -- ---- refusals
@@ -115,9 +115,10 @@ others =
     -- a sheet in the form that is asked for: 1, whatever else is wrong with it
     (text (each_changed ((9, "seg 7 2 14 0 7") ∷ []) second_a), "refused 1", "refused 6")
     ∷ (text (each_changed ((8, "seg 7 2 14 0") ∷ []) case_a), "refused 6", "refused 1")
-    ∷ (text (each_changed ((8, "hint 0 9 0") ∷ (9, "end") ∷ []) case_a), "refused 1", "refused 1")
     ∷ (text (take 8 case_a ++ ("hint 0 9 0" ∷ drop 8 case_a)), "refused 5", "refused 1")
     ∷ (text (take 9 second_a ++ ("hint 0 9 0" ∷ drop 9 second_a)), "refused 1", "refused 5")
+    -- 1 is tested over the whole sheet, before 5: lines behind the end, and a hint past the last instruction
+    ∷ (text (each_changed ((8, "hint 0 9 0") ∷ (9, "end") ∷ []) case_a), "refused 1", "refused 1")
     -- 10 is `to_form1`'s alone
     ∷ (text (each_changed ((7, "block 2 3f000000 3") ∷ []) second_a), "refused 1", "refused 10")
     ∷ (text (each_changed ((9, "seg 0 2 14 0 1") ∷ []) second_a), "refused 1", "refused 10")

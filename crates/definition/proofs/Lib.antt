@@ -31,4 +31,5 @@ pub mod Weighed
 pub mod Written
 mod SheetCases
 mod ConversionCases
+pub mod Conversions
 pub mod Forms

@@ -169,10 +169,13 @@ answer_to_sheet bs room = answer_for (is_second bs) (records_in bs) room
 -- ---- what `vregs` prints
 
 -- "A refusal prints `refused` and its number alone."
+abbrev pub refusal_text : SheetRefusal → List ℕ
+refusal_text r = line "refused" (decimal (sheet_number_of r) ∷ [])
+
 unfoldable pub answer_text : SheetOut Result → List ℕ
 unfolding lines_bytes printed decimal
 answer_text (given' res) = lines_bytes (printed res)
-answer_text (refused' r) = line "refused" (decimal (sheet_number_of r) ∷ [])
+answer_text (refused' r) = refusal_text r
 
 -- "`vregs` reads a job on standard input"; it "prints".
 unfoldable pub vregs_of : List ℕ → List ℕ

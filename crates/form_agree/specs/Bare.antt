@@ -7,26 +7,12 @@ use Rattle.definition.specs.Text.{◌>>=◌, read_number}
 use Rattle.definition.specs.JobSheet.{Word, opt, bank, class, reg, block, value, vgroup, operand, hint, seg, use', end}
 use Rattle.definition.specs.JobSheet.{Form, number, read_field, read_fields, Record, at, next, among}
 use Rattle.definition.specs.JobSheet.{ordered}
+use Rattle.definition.specs.Conversion.{rec, bare_fields, shrunk}
 use Rattle.sheet_form.specs.Front.{Keeping, keep_of}
-use Rattle.agree.specs.Records.{rec}
 use Rattle.sheet_rows.specs.Sheets.{On}
 use Rattle.form_agree.specs.Lines.{Parted, last_of}
 
 -- ---- the fields that stand before the written one
-
-abbrev pub bare_fields : Word → List ℕ → List ℕ
-bare_fields opt ns = ns
-bare_fields bank ns = ns
-bare_fields class ns = ns
-bare_fields reg ns = ns
-bare_fields block ns = take 2 ns
-bare_fields value ns = ns
-bare_fields vgroup ns = ns
-bare_fields operand ns = ns
-bare_fields hint ns = ns
-bare_fields seg ns = take 4 ns
-bare_fields use' ns = ns
-bare_fields end ns = ns
 
 abbrev pub bare : Record → Record
 bare r = rec r.word (bare_fields r.word r.fields)
@@ -127,10 +113,6 @@ at_last ns v k e = ap (λ (j : ℕ). at (ns ++ (v ∷ [])) j) (sym e) ∙ go ns
     go (x ∷ xs) = go xs
 
 -- ---- the bare records
-
-unfoldable pub shrunk : List Record → List Record
-shrunk [] = []
-shrunk (r ∷ rs) = bare r ∷ shrunk rs
 
 pub shrunk_ordered : (rs : List Record) (ws : List Word) → ordered ws (shrunk rs) ≡ ordered ws rs
 unfolding ordered shrunk

@@ -16,14 +16,14 @@ use Rattle.definition.specs.JobSheet.{read_record, Record, at, ordered, only, op
 use Rattle.definition.specs.JobSheet.{memory_of, block_data_of, value_data_of, vgroup_of, operand_of, hint_of}
 use Rattle.definition.specs.JobSheet.{segment_of, use_of, Segments, segments_of, job_of_records}
 use Rattle.definition.specs.SheetForms.{read_second, second_record, second_records, second_sheet}
+use Rattle.definition.specs.Conversion.{rec, bare_fields, shrunk}
 use Rattle.agree.specs.Words.{word_of, word_number_lem}
 use Rattle.agree.specs.Values.{OneSmall, AllSmall, number_small, record_small}
-use Rattle.agree.specs.Records.{rec}
 use Rattle.sheet_rows.specs.Stands.{SmallRecords}
 use Rattle.sheet_rows.specs.Sheets.{On, Sound}
 use Rattle.sheet_rows.specs.Choices.{Chosen, record_chosen, ChosenRecords}
 use Rattle.form_agree.specs.Lines.{Parted, last_of}
-use Rattle.form_agree.specs.Bare.{bare_fields, fields_cut, fields_long, take_before, at_last, shrunk, shrunk_ordered}
+use Rattle.form_agree.specs.Bare.{fields_cut, fields_long, take_before, at_last, shrunk_ordered}
 
 -- ---- the job
 

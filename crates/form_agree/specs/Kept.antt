@@ -8,9 +8,9 @@ use Rattle.rows.specs.Moves.{store_1}
 use Rattle.definition.specs.JobSheet.{Word, opt, bank, class, reg, block, value, vgroup, operand, hint, seg, use', end}
 use Rattle.definition.specs.JobSheet.{Record, at, only}
 use Rattle.definition.specs.SheetForms.{written_firsts, written_sets}
+use Rattle.definition.specs.Conversion.{rec}
 use Rattle.sheet_rules.specs.Rules.{low_of}
 use Rattle.sheet_form.specs.Front.{Keeping, keep_of}
-use Rattle.agree.specs.Records.{rec}
 use Rattle.form_agree.specs.Bare.{keep_by, keep_all}
 use Rattle.form_agree.specs.Jobs.{WrittenSmall, AllBared}
 use Rattle.form_agree.specs.Sheet.{none_kept}

@@ -7,6 +7,7 @@ use Rattle.std.proofs.Math.Option.{Option, none, some}
 use Rattle.definition.specs.Text.{◌>>=◌}
 use Rattle.definition.specs.JobSheet.{block, seg, Record, only, sheet_of, job_of_records}
 use Rattle.definition.specs.SheetForms.{is_second, behind_form, second_sheet, records_in, job_in, written_firsts, written_sets}
+use Rattle.definition.specs.Conversion.{shrunk}
 use Rattle.sheet_fields.specs.Fields.{Fed}
 use Rattle.sheet.specs.Machine.{Answer, open_of, answer_of}
 use Rattle.sheet_form.specs.Front.{Keeping, Formed, run_form, open_form, second_of, finish_of}
@@ -16,7 +17,7 @@ use Rattle.agree.specs.Agree.{outcome, agree}
 use Rattle.sheet_rows.specs.Sheets.{On, Sound, sheet_sound}
 use Rattle.sheet_rows.specs.Choices.{ChosenRecords, sheet_chosen}
 use Rattle.form_agree.specs.Views.{Ended, with_kept}
-use Rattle.form_agree.specs.Bare.{shrunk, keep_all}
+use Rattle.form_agree.specs.Bare.{keep_all}
 use Rattle.form_agree.specs.Sheet.{OfFirst, ended_by, none_kept, forms_first, forms_second}
 use Rattle.form_agree.specs.Jobs.{SoundSecond, second_sound, bare_sound, bare_choices, bare_job}
 use Rattle.form_agree.specs.Kept.{kept_words, kept_words_lem}

@@ -12,19 +12,20 @@ use Rattle.definition.specs.JobSheet.{Word, opt, bank, class, reg, block, value,
 use Rattle.definition.specs.JobSheet.{word_number, all_words, word_among, Form, number, bits, use_flags, read_fields}
 use Rattle.definition.specs.JobSheet.{read_record, Record, record_of, at}
 use Rattle.definition.specs.SheetForms.{read_second, second_record, second_records}
+use Rattle.definition.specs.Conversion.{rec, bare_fields, shrunk}
 use Rattle.sheet_rules.specs.Rules.{key_of, follows_of}
 use Rattle.sheet_fields.specs.Fields.{begin_of, start_of}
 use Rattle.sheet_form.specs.Front.{Keeping, keep_of}
 use Rattle.agree.specs.Words.{Bytes, spelled, word_of, record_word}
 use Rattle.agree.specs.Split.{Seen, gone, view_n, on, close_r, field_s, fields_s, line_s, done_s}
 use Rattle.agree.specs.Table.{Filled, keyed, put}
-use Rattle.agree.specs.Records.{rec, AllBytes, placed, line_p, started, Named?, named, no_follower, fields_bytes}
+use Rattle.agree.specs.Records.{AllBytes, placed, line_p, started, Named?, named, no_follower, fields_bytes}
 use Rattle.agree.specs.Records.{first_field, fields_record, fields_record_lem, line_record, go_s}
 use Rattle.sheet_rows.specs.Sheets.{On}
 use Rattle.form_agree.specs.Views.{Viewed, nought, with_p, word, line_v, lines_v}
 use Rattle.form_agree.specs.Lines.{Parted, last_of, keep_if, cut_s, next_s, word_s, word_line}
-use Rattle.form_agree.specs.Bare.{bare_fields, bare, keep_by, keep_all, fields_cut, fields_long, take_before}
-use Rattle.form_agree.specs.Bare.{at_last, shrunk}
+use Rattle.form_agree.specs.Bare.{bare, keep_by, keep_all, fields_cut, fields_long, take_before}
+use Rattle.form_agree.specs.Bare.{at_last}
 
 -- the record of a line's fields in the second form
 abbrev second_fields : List ℕ → List (List ℕ) → Option Record

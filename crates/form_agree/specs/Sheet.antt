@@ -7,6 +7,7 @@ use Rattle.std.proofs.lemmas.List.{length-replicate}
 use Rattle.definition.specs.Text.{same, ◌>>=◌, given, lines_of}
 use Rattle.definition.specs.JobSheet.{opt, Record, ordered}
 use Rattle.definition.specs.SheetForms.{form_line, is_second, behind_form, second_records, second_sheet}
+use Rattle.definition.specs.Conversion.{shrunk}
 use Rattle.numeral.specs.Bytes.{num, closed_of}
 use Rattle.sheet_rules.specs.Rules.{form_at, low_of, more_after}
 use Rattle.sheet_places.specs.Places.{limit_of, count_at, place_of, tail_at, tail_of}
@@ -24,7 +25,7 @@ use Rattle.agree.specs.Order.{same_order, likes_start}
 use Rattle.agree.specs.Agree.{outcome, ordered_answer, LinesBytes, lines_bytes}
 use Rattle.form_agree.specs.Views.{word, with_p, view_p, run_v, Ended, with_kept, ans_v}
 use Rattle.form_agree.specs.Views.{ans_word, CutV, cut_lines, view_runs, second_stays}
-use Rattle.form_agree.specs.Bare.{shrunk, keep_all, shrunk_ordered}
+use Rattle.form_agree.specs.Bare.{keep_all, shrunk_ordered}
 use Rattle.form_agree.specs.Second.{sheet_q, lines_second}
 
 -- ---- the second form

@@ -13,13 +13,13 @@ use Rattle.definition.specs.Build.{Result}
 use Rattle.definition.specs.Entry.{conj, every, limit_tests, limits_ok, book_ok, vgroup_tests, vgroup_ok, function_tests, function_ok, lowest_of, entry, answer_to, answer, hints_ok, segments_ok, uses_ok}
 use Rattle.definition.specs.Text.{◌>>=◌}
 use Rattle.definition.specs.JobSheet.{Word as Named, opt, bank, class, reg, block, value, vgroup, operand, hint, seg, use', end, word_number, Record, only, bank_of, class_data_of, memory_of, block_data_of, value_data_of, vgroup_of, operand_of, hint_of, segments_of, next, among, ordered, job_of_records, answer_or_one}
+use Rattle.definition.specs.Conversion.{rec}
 use Rattle.job.specs.Job.{raw_job}
 use Rattle.sheet_places.specs.Places.{limits, limit_of, table_words}
 use Rattle.sheet.specs.Machine.{Answer}
 use Rattle.sheet.specs.declared.SheetError.TheVariants.{Malformed, TooMany}
 use Rattle.agree.specs.Words.{none_some}
 use Rattle.agree.specs.Table.{Filled, filled, fill, blank}
-use Rattle.agree.specs.Records.{rec}
 use Rattle.agree.specs.Agree.{outcome}
 use Rattle.sheet_rows.specs.Counts.{TooMany as Crowded, zero_count, fill_over}
 use Rattle.sheet_rows.specs.Sheets.{On, Sound, ordered_first}

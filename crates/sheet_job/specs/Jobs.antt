@@ -8,6 +8,7 @@ use Rattle.rows.specs.RowsAt.{rows_at}
 use Rattle.definition.specs.declared.Value.{Value}
 use Rattle.definition.specs.Types.{Job}
 use Rattle.definition.specs.JobSheet.{Word as Named, opt, bank, class, reg, block, value, vgroup, operand, hint, seg, use', word_number, Record, only, float, options_of, bank_of, class_data_of, memory_of, block_data_of, value_data_of, vgroup_of, operand_of, hint_of, job_of_records}
+use Rattle.definition.specs.Conversion.{rec}
 use Rattle.reginfo.specs.Rows.{bank_row, memory_row, class_row, classes_at}
 use Rattle.function.specs.Blocks.{block_row}
 use Rattle.coalescing.specs.Rows.{value_row, values_at, vgroup_row, vgroups_at}
@@ -17,7 +18,6 @@ use Rattle.layout.specs.Layout.{options_row}
 use Rattle.job.specs.Job.{job_by, raw_job}
 use Rattle.sheet_places.specs.Places.{bases, base_of, widths, width_of, limits, limit_of, stored_fields, stored_of, count_at, table_words}
 use Rattle.agree.specs.Table.{Filled, put, fill, blank}
-use Rattle.agree.specs.Records.{rec}
 use Rattle.agree.specs.Values.{Small}
 use Rattle.sheet_rows.specs.Put.{cnt, put_long, put_field}
 use Rattle.sheet_rows.specs.Stands.{Stands, NoOpt, room, kept_opt, stands}

@@ -15,6 +15,7 @@ use Rattle.definition.specs.JobSheet.{Word as Named, opt, bank, class, reg, bloc
 use Rattle.definition.specs.JobSheet.{use', end, word_number, Record, only, job_of_records}
 use Rattle.definition.specs.SheetForms.{is_second, records_in, written_firsts, written_sets}
 use Rattle.definition.proofs.Forms.{second_records_lem}
+use Rattle.definition.specs.Conversion.{shrunk}
 use Rattle.job.specs.Job.{raw_job}
 use Rattle.sheet_places.specs.Places.{limits, limit_of, table_words}
 use Rattle.sheet.specs.Machine.{Answer}
@@ -35,7 +36,6 @@ use Rattle.sheet_job.specs.Jobs.{Alike, table_job}
 use Rattle.sheet_job.specs.Answers.{conj_at}
 use Rattle.sheet_shape.specs.Present.{fill_most}
 use Rattle.sheet_shape.specs.Shape.{read_shaped}
-use Rattle.form_agree.specs.Bare.{shrunk}
 use Rattle.form_agree.specs.Jobs.{only_long}
 use Rattle.form_agree.specs.Kept.{kept_words}
 use Rattle.form_agree.specs.Read.{bare_of, bare_in, bare_in_sound, bare_in_chosen, bare_in_job}

@@ -17,13 +17,13 @@ use Rattle.definition.specs.declared.SheetRefusal.{SheetRefusal}
 use Rattle.definition.specs.SheetForms.{is_second, records_in, job_in, written_firsts, written_sets, as_implied, as_written}
 use Rattle.definition.specs.SheetForms.{tenth_test, verdict_of, verdict, lift, built_unless, answer_to_sheet}
 use Rattle.definition.proofs.Forms.{answer_refused, answer_passed}
+use Rattle.definition.specs.Conversion.{shrunk}
 use Rattle.sheet_places.specs.Places.{limits, limit_of, count_at, table_words}
 use Rattle.agree.specs.Words.{none_some}
 use Rattle.agree.specs.Table.{fill, blank}
 use Rattle.sheet_job.specs.Fixed.{table_at, fixed_layout}
 use Rattle.sheet_job.specs.Jobs.{Alike}
 use Rattle.sheet_job.specs.Answers.{alike_entry, accepted_same}
-use Rattle.form_agree.specs.Bare.{shrunk}
 use Rattle.form_agree.specs.Jobs.{only_long}
 use Rattle.form_agree.specs.Kept.{kept_words, first_words, set_words}
 use Rattle.form_agree.specs.Read.{bare_of, bare_in}

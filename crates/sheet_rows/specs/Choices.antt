@@ -3,8 +3,8 @@ use Rattle.std.specs.Prelude.{List, [], ◌∷◌, Bool, true, false, ℕ, ◌�
 use Rattle.std.proofs.Math.Option.{Option, none, some}
 use Rattle.definition.specs.Text.{◌>>=◌, given, lines_of, fields_of}
 use Rattle.definition.specs.JobSheet.{Word as Named, opt, bank, class, reg, block, value, vgroup, operand, hint, seg, use', end, Form as Asked, up_to, bits, number, flag, remat, use_flags, use_kind, kind_fields, read_field, read_fields, read_use, read_record, word_among, all_words, Record, record_of, records_of, ordered, sheet_of}
+use Rattle.definition.specs.Conversion.{rec}
 use Rattle.agree.specs.Values.{OneSmall, number_small}
-use Rattle.agree.specs.Records.{rec}
 use Rattle.sheet_rows.specs.Sheets.{On}
 
 -- each field is up to its form's greatest number

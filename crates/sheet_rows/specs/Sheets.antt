@@ -5,8 +5,8 @@ use Rattle.std.proofs.lemmas.Bool.{false≢true}
 use Rattle.std.proofs.Math.Option.{Option, none, some}
 use Rattle.definition.specs.Text.{◌>>=◌, given, lines_of, fields_of}
 use Rattle.definition.specs.JobSheet.{Word as Named, opt, bank, class, reg, block, value, vgroup, operand, hint, seg, use', end, word_number, all_words, word_among, read_record, Record, record_of, records_of, next, among, ordered, sheet_of}
+use Rattle.definition.specs.Conversion.{rec}
 use Rattle.agree.specs.Values.{Small, AllSmall, record_small}
-use Rattle.agree.specs.Records.{rec}
 use Rattle.sheet_rows.specs.Stands.{NoOpt, SmallRecords}
 
 module _ {A : Type 0} where

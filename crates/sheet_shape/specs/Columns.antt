@@ -6,11 +6,11 @@ use Rattle.std.proofs.Math.Option.{Option, none, some}
 use Rattle.rows.specs.RowsAt.{rows_at, rows_at_cons}
 use Rattle.definition.specs.Entry.{every}
 use Rattle.definition.specs.JobSheet.{Word as Named, opt, bank, class, reg, block, value, vgroup, operand, hint, seg, use', end, word_number, Record, only, next, among, ordered}
+use Rattle.definition.specs.Conversion.{rec}
 use Rattle.job_shape.specs.Shape.{word_in, rises}
 use Rattle.sheet_places.specs.Places.{bases, base_of, widths, width_of, stored_of}
 use Rattle.agree.specs.Words.{word_of, word_number_lem}
 use Rattle.agree.specs.Table.{keyed}
-use Rattle.agree.specs.Records.{rec}
 use Rattle.sheet_rows.specs.Regions.{first_of}
 use Rattle.sheet_rows.specs.Stands.{Row, Stands, bump}
 use Rattle.sheet_rows.specs.Sheets.{ordered_first}
