@@ -8,14 +8,17 @@ use mathlib.Core.List.{List, [], ◌∷◌, ◌++◌, map, append_assoc}
 use Rattle.definition.proofs.Forms.{first_records, second_records_lem}
 use Rattle.definition.specs.Text.{◌>>=◌, given, lines_of, Fields, decimal, tabbed}
 use Rattle.definition.specs.JobSheet.{Word, opt, bank, class, reg, block, value, vgroup, operand, hint, seg, use', end}
-use Rattle.definition.specs.JobSheet.{spelling, all_words, word_among, Form, up_to, bits, number, flag, remat, use_flags}
+use Rattle.definition.specs.JobSheet.{spelling, all_words, word_among, Form, up_to, bits, number, flag, remat}
+use Rattle.definition.specs.JobSheet.{use_flags}
 use Rattle.definition.specs.JobSheet.{Record, ordered}
 use Rattle.definition.specs.SheetForms.{is_second, records_in}
-use Rattle.definition.specs.Conversion.{field_text, field_texts, first_texts, second_texts, texts_in, record_line, lines_text}
+use Rattle.definition.specs.Conversion.{field_text, field_texts, first_texts, second_texts, texts_in, record_line}
+use Rattle.definition.specs.Conversion.{lines_text}
 use Rattle.definition.specs.Conversion.{rec, sheet_text}
 use Rattle.printed.specs.Clean.{Clean, AllClean, clean_decimal, clean_bits, feed_line, fields_back, lines_back}
 use Rattle.sheet_rows.specs.Sheets.{opened}
-use Rattle.conversion.specs.Texts.{read_in, line_in, lines_in, sheet_in, first_sheet, second_sheet_lem, joined, line_text}
+use Rattle.conversion.specs.Texts.{read_in, line_in, lines_in, sheet_in, first_sheet, second_sheet_lem, joined}
+use Rattle.conversion.specs.Texts.{line_text}
 use Rattle.conversion.specs.Texts.{Reads₁, Reads, lines_are}
 
 -- ---- no tab and no line feed in a field
@@ -51,18 +54,9 @@ clean_first end ns = tt
 
 clean_second : (w : Word) (ns : List ℕ) → AllClean (second_texts w ns)
 unfolding second_texts
-clean_second opt ns = clean_first opt ns
-clean_second bank ns = clean_first bank ns
-clean_second class ns = clean_first class ns
-clean_second reg ns = clean_first reg ns
 clean_second block ns = clean_fields (number ∷ bits ∷ number ∷ []) ns
-clean_second value ns = clean_first value ns
-clean_second vgroup ns = clean_first vgroup ns
-clean_second operand ns = clean_first operand ns
-clean_second hint ns = clean_first hint ns
 clean_second seg ns = clean_fields (number ∷ number ∷ number ∷ use_flags ∷ number ∷ []) ns
-clean_second use' ns = clean_first use' ns
-clean_second end ns = clean_first end ns
+clean_second w ns = clean_first w ns
 
 clean_texts : (second : Bool) (w : Word) (ns : List ℕ) → AllClean (texts_in second w ns)
 clean_texts true w ns = clean_second w ns
@@ -86,17 +80,7 @@ clean_word end = (omega arith, (omega arith, (omega arith, tt)))
 word_back : (w : Word) → word_among all_words (spelling w) ≡ some w
 unfolding word_among
 word_back opt = refl
-word_back bank = refl
-word_back class = refl
-word_back reg = refl
-word_back block = refl
-word_back value = refl
-word_back vgroup = refl
-word_back operand = refl
-word_back hint = refl
-word_back seg = refl
-word_back use' = refl
-word_back end = refl
+word_back w = refl
 
 -- ---- lines and records
 

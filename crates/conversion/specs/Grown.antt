@@ -1,6 +1,7 @@
 -- The implied fields written into records and left out of them again: the records, the job and the words that are
 -- written. Assumes nothing.
-use Rattle.std.specs.Prelude.{◌≡◌, refl, ℕ, zero, suc, ◌+◌, ◌≤◌, Bool, true, false, cond, not, ◌&&◌, List, [], ◌∷◌, ◌++◌, map, length, take, drop, get_or, eqb}
+use Rattle.std.specs.Prelude.{◌≡◌, refl, ℕ, zero, suc, ◌+◌, ◌≤◌, Bool, true, false, cond, not, ◌&&◌, List, [], ◌∷◌}
+use Rattle.std.specs.Prelude.{◌++◌, map, length, take, drop, get_or, eqb}
 use Rattle.std.proofs.Common.{sym, ap, subst, ◌∙◌, arith}
 use Rattle.std.proofs.Math.Option.{Option, none, some}
 use Rattle.definition.specs.declared.Refusal.{Refusal}
@@ -10,11 +11,13 @@ use Rattle.definition.specs.RegInfo.{no_value, value_at, set_of}
 use Rattle.definition.specs.Place.{total}
 use Rattle.definition.specs.Entry.{insts_of, insts, entry}
 use Rattle.definition.specs.Text.{◌>>=◌, same}
-use Rattle.definition.specs.JobSheet.{Word, opt, bank, class, reg, block, value, vgroup, operand, hint, seg, use', end}
+use Rattle.definition.specs.JobSheet.{Word, opt, block, value, seg}
 use Rattle.definition.specs.JobSheet.{word_number, Form, number, bits, use_flags, read_field, read_fields, read_record}
-use Rattle.definition.specs.JobSheet.{Record, ordered, at, only, block_data_of, value_data_of, segment_of, onto_segments}
+use Rattle.definition.specs.JobSheet.{Record, ordered, at, only, block_data_of, value_data_of, segment_of}
+use Rattle.definition.specs.JobSheet.{onto_segments}
 use Rattle.definition.specs.JobSheet.{segments_of, job_of_records}
-use Rattle.definition.specs.SheetForms.{read_second, written_firsts, written_sets, firsts_from, implied_firsts, implied_sets}
+use Rattle.definition.specs.SheetForms.{read_second, written_firsts, written_sets, firsts_from, implied_firsts}
+use Rattle.definition.specs.SheetForms.{implied_sets}
 use Rattle.definition.specs.SheetForms.{as_written, tenth_test, tests_of}
 use Rattle.definition.specs.Conversion.{field_text, field_texts, first_texts, second_texts, implied_field, longer}
 use Rattle.definition.specs.Conversion.{insts_behind, rec, grown, bare_fields, shrunk, moved_records}
@@ -24,8 +27,7 @@ use Rattle.printed.specs.Round.{round_number}
 use Rattle.agree.specs.Words.{none_some}
 use Rattle.agree.specs.Values.{Small, AllSmall, record_small}
 use Rattle.sheet_rows.specs.Sheets.{On}
-use Rattle.form_agree.specs.Bare as Bare
-use Rattle.form_agree.specs.Bare.{fields_long, take_before, at_last}
+use Rattle.form_agree.specs.Bare.{fields_long, take_before, at_last, shrunk_ordered}
 use Rattle.form_agree.specs.Jobs.{bare_job}
 use Rattle.conversion.specs.Texts.{cons_some, Reads₁, Reads}
 
@@ -107,18 +109,9 @@ Fits n job (r ∷ rs) =
 longer_reads : (w : Word) (k : ℕ) (ns : List ℕ) → k ≤ 4294967295 → Reads₁ false (rec w ns)
     → Reads₁ true (rec w (longer w k ns))
 unfolding read_record first_texts read_second second_texts
-longer_reads opt k ns l e = e
-longer_reads bank k ns l e = e
-longer_reads class k ns l e = e
-longer_reads reg k ns l e = e
 longer_reads block k ns l e = more_fields (number ∷ bits ∷ []) ns k e l
-longer_reads value k ns l e = e
-longer_reads vgroup k ns l e = e
-longer_reads operand k ns l e = e
-longer_reads hint k ns l e = e
 longer_reads seg k ns l e = more_fields (number ∷ number ∷ number ∷ use_flags ∷ []) ns k e l
-longer_reads use' k ns l e = e
-longer_reads end k ns l e = e
+longer_reads w k ns l e = e
 
 grown_reads : (n : ℕ) (job : Job) (rs : List Record) → Fits n job rs → Reads false rs → Reads true (grown n job rs)
 unfolding grown
@@ -130,18 +123,9 @@ grown_reads n job (r ∷ rs) f h = (
 
 bare_reads : (w : Word) (ns : List ℕ) → Reads₁ true (rec w ns) → Reads₁ false (rec w (bare_fields w ns))
 unfolding read_record first_texts read_second second_texts
-bare_reads opt ns e = e
-bare_reads bank ns e = e
-bare_reads class ns e = e
-bare_reads reg ns e = e
 bare_reads block ns e = fewer_fields (number ∷ bits ∷ []) number ns e
-bare_reads value ns e = e
-bare_reads vgroup ns e = e
-bare_reads operand ns e = e
-bare_reads hint ns e = e
 bare_reads seg ns e = fewer_fields (number ∷ number ∷ number ∷ use_flags ∷ []) number ns e
-bare_reads use' ns e = e
-bare_reads end ns e = e
+bare_reads w ns e = e
 
 shrunk_reads : (rs : List Record) → Reads true rs → Reads false (shrunk rs)
 unfolding shrunk
@@ -150,31 +134,10 @@ shrunk_reads (r ∷ rs) h = (bare_reads r.word r.fields h.0, shrunk_reads rs h.1
 
 -- ---- the fields left out again
 
--- the reader's laws speak of the records without them too
-same_shrunk : (rs : List Record) → Bare.shrunk rs ≡ shrunk rs
-unfolding shrunk Bare.shrunk
-same_shrunk [] = refl
-same_shrunk (r ∷ rs) = ap (λ (l : List Record). rec r.word (bare_fields r.word r.fields) ∷ l) (same_shrunk rs)
-
-shrunk_ordered : (rs : List Record) (ws : List Word) → ordered ws (shrunk rs) ≡ ordered ws rs
-shrunk_ordered rs ws = ap (ordered ws) (sym (same_shrunk rs)) ∙ Bare.shrunk_ordered rs ws
-
-shrunk_job : (rs : List Record) → job_of_records (shrunk rs) ≡ job_of_records rs
-shrunk_job rs = ap job_of_records (sym (same_shrunk rs)) ∙ bare_job rs
-
 bare_longer : (w : Word) (k : ℕ) (ns : List ℕ) → Reads₁ false (rec w ns) → bare_fields w (longer w k ns) ≡ ns
-bare_longer opt k ns e = refl
-bare_longer bank k ns e = refl
-bare_longer class k ns e = refl
-bare_longer reg k ns e = refl
 bare_longer block k ns e = take_before ns k 2 (two ns e)
-bare_longer value k ns e = refl
-bare_longer vgroup k ns e = refl
-bare_longer operand k ns e = refl
-bare_longer hint k ns e = refl
 bare_longer seg k ns e = take_before ns k 4 (four ns e)
-bare_longer use' k ns e = refl
-bare_longer end k ns e = refl
+bare_longer w k ns e = refl
 
 pub shrunk_grown : (n : ℕ) (job : Job) (rs : List Record) → Reads false rs → shrunk (grown n job rs) ≡ rs
 unfolding shrunk grown
@@ -191,7 +154,7 @@ grown_ordered n job rs ws h = sym (shrunk_ordered (grown n job rs) ws) ∙ ap (o
 
 pub grown_job : (n : ℕ) (job : Job) (rs : List Record) → Reads false rs
     → job_of_records (grown n job rs) ≡ job_of_records rs
-grown_job n job rs h = sym (shrunk_job (grown n job rs)) ∙ ap job_of_records (shrunk_grown n job rs h)
+grown_job n job rs h = sym (bare_job (grown n job rs)) ∙ ap job_of_records (shrunk_grown n job rs h)
 
 -- ---- the implied fields by the records
 
@@ -210,18 +173,8 @@ segment_values f (r ∷ rs) = go r.word r.fields (segment_values f rs)
         → map (λ (s : Segment). f s.value) (segments_of rs).made ≡ map (λ ks. f (val (at ks 0))) (only seg rs)
         → map (λ (s : Segment). f s.value) (onto_segments w ns (segments_of rs)).made
         ≡ map (λ ks. f (val (at ks 0))) (cond (eqb (word_number w) 9) (ns ∷ only seg rs) (only seg rs))
-    go opt ns ih = ih
-    go bank ns ih = ih
-    go class ns ih = ih
-    go reg ns ih = ih
-    go block ns ih = ih
-    go value ns ih = ih
-    go vgroup ns ih = ih
-    go operand ns ih = ih
-    go hint ns ih = ih
     go seg ns ih = ap (λ (l : List ℕ). f (val (at ns 0)) ∷ l) ih
-    go use' ns ih = ih
-    go end ns ih = ih
+    go w ns ih = ih
 
 firsts_are : (rs : List Record) → implied_firsts (job_of_records rs) ≡ firsts_from 0 (map block_data_of (only block rs))
 unfolding implied_firsts job_of_records
@@ -250,20 +203,10 @@ firsts_grown n job (r ∷ rs) h =
         (cond (eqb (word_number w) 4) (longer w (implied_field w n job ns) ns ∷ rest (insts_behind w n ns))
         (rest (insts_behind w n ns)))
         ≡ firsts_from n (map block_data_of (cond (eqb (word_number w) 4) (ns ∷ only block rs) (only block rs)))
-    go opt ns e ih = ih
-    go bank ns e ih = ih
-    go class ns e ih = ih
-    go reg ns e ih = ih
     go block ns e ih =
         ap (λ (k : ℕ). k ∷ map (λ ks. at ks 2) (rest (n + at ns 0))) (at_last ns n 2 (two ns e))
         ∙ ap (λ (l : List ℕ). n ∷ l) ih
-    go value ns e ih = ih
-    go vgroup ns e ih = ih
-    go operand ns e ih = ih
-    go hint ns e ih = ih
-    go seg ns e ih = ih
-    go use' ns e ih = ih
-    go end ns e ih = ih
+    go w ns e ih = ih
 
 sets_grown : (n : ℕ) (job : Job) (rs : List Record) → Reads false rs
     → written_sets (grown n job rs) ≡ sets_of job (only seg rs)
@@ -281,20 +224,10 @@ sets_grown n job (r ∷ rs) h =
         (cond (eqb (word_number w) 9) (longer w (implied_field w n job ns) ns ∷ rest (insts_behind w n ns))
         (rest (insts_behind w n ns)))
         ≡ sets_of job (cond (eqb (word_number w) 9) (ns ∷ only seg rs) (only seg rs))
-    go opt ns e ih = ih
-    go bank ns e ih = ih
-    go class ns e ih = ih
-    go reg ns e ih = ih
-    go block ns e ih = ih
-    go value ns e ih = ih
-    go vgroup ns e ih = ih
-    go operand ns e ih = ih
-    go hint ns e ih = ih
     go seg ns e ih =
         let k : ℕ = (set_of job (val (at ns 0))).0 in
         ap (λ (j : ℕ). j ∷ map (λ ks. at ks 4) (rest n)) (at_last ns k 4 (four ns e)) ∙ ap (λ (l : List ℕ). k ∷ l) ih
-    go use' ns e ih = ih
-    go end ns e ih = ih
+    go w ns e ih = ih
 
 same_equal : (f g : List ℕ) → f ≡ g → same f g ≡ true
 same_equal f g e = subst (λ (k : List ℕ). same f k ≡ true) e (same_refl f)
@@ -336,7 +269,8 @@ first_kept m [] = refl
 first_kept m (n ∷ ns) = refl
 
 pub grown_shrunk : (n : ℕ) (job : Job) (rs : List Record) → Reads true rs
-    → written_firsts rs ≡ firsts_from n (map block_data_of (only block rs)) → written_sets rs ≡ sets_of job (only seg rs)
+    → written_firsts rs ≡ firsts_from n (map block_data_of (only block rs))
+    → written_sets rs ≡ sets_of job (only seg rs)
     → grown n job (shrunk rs) ≡ rs
 unfolding grown shrunk only firsts_from written_firsts written_sets block_data_of
 grown_shrunk n job [] h e f = refl
@@ -351,26 +285,17 @@ grown_shrunk n job (r ∷ rs) h e f = go r.word r.fields h.0 (λ m. grown_shrunk
         ≡ sets_of job (cond (eqb (word_number w) 9) (ns ∷ only seg rs) (only seg rs))
         → rec w (longer w (implied_field w n job (bare_fields w ns)) (bare_fields w ns))
         ∷ grown (insts_behind w n (bare_fields w ns)) job (shrunk rs) ≡ rec w ns ∷ rs
-    go opt ns h ih e f = ap (λ (l : List Record). rec opt ns ∷ l) (ih n e f)
-    go bank ns h ih e f = ap (λ (l : List Record). rec bank ns ∷ l) (ih n e f)
-    go class ns h ih e f = ap (λ (l : List Record). rec class ns ∷ l) (ih n e f)
-    go reg ns h ih e f = ap (λ (l : List Record). rec reg ns ∷ l) (ih n e f)
     go block ns h ih e f =
         ap (λ (l : List ℕ). rec block l ∷ grown (n + at (take 2 ns) 0) job (shrunk rs))
         (whole₃ ns n (three ns h) (head_same e))
         ∙ ap (λ (k : ℕ). rec block ns ∷ grown (n + k) job (shrunk rs)) (first_kept 1 ns)
         ∙ ap (λ (l : List Record). rec block ns ∷ l) (ih (n + at ns 0) (tail_same e) f)
-    go value ns h ih e f = ap (λ (l : List Record). rec value ns ∷ l) (ih n e f)
-    go vgroup ns h ih e f = ap (λ (l : List Record). rec vgroup ns ∷ l) (ih n e f)
-    go operand ns h ih e f = ap (λ (l : List Record). rec operand ns ∷ l) (ih n e f)
-    go hint ns h ih e f = ap (λ (l : List Record). rec hint ns ∷ l) (ih n e f)
     go seg ns h ih e f =
         ap (λ (l : List ℕ). rec seg l ∷ grown n job (shrunk rs))
         (whole₅ ns (set_of job (val (at (take 4 ns) 0))).0 (five ns h)
         (head_same f ∙ ap (λ (k : ℕ). (set_of job (val k)).0) (sym (first_kept 3 ns))))
         ∙ ap (λ (l : List Record). rec seg ns ∷ l) (ih n e (tail_same f))
-    go use' ns h ih e f = ap (λ (l : List Record). rec use' ns ∷ l) (ih n e f)
-    go end ns h ih e f = ap (λ (l : List Record). rec end ns ∷ l) (ih n e f)
+    go w ns h ih e f = ap (λ (l : List Record). rec w ns ∷ l) (ih n e f)
 
 -- ---- what is written in is a word
 
@@ -390,21 +315,11 @@ leaders_small (r ∷ rs) h i = go r.word r.fields h.0 i (leaders_small rs h.1)
   where
     go : (w : Word) (ns : List ℕ) → Reads₁ false (rec w ns) → (j : ℕ)
         → ((k : ℕ) → (get_or (map value_data_of (only value rs)) k no_value).leader.0 ≤ 4294967295)
-        → (get_or (map value_data_of (cond (eqb (word_number w) 5) (ns ∷ only value rs) (only value rs))) j no_value).leader.0
-        ≤ 4294967295
-    go opt ns e j ih = ih j
-    go bank ns e j ih = ih j
-    go class ns e j ih = ih j
-    go reg ns e j ih = ih j
-    go block ns e j ih = ih j
+        → (get_or (map value_data_of (cond (eqb (word_number w) 5) (ns ∷ only value rs) (only value rs))) j
+        no_value).leader.0 ≤ 4294967295
     go value ns e zero ih = value_small ns e
     go value ns e (suc j) ih = ih j
-    go vgroup ns e j ih = ih j
-    go operand ns e j ih = ih j
-    go hint ns e j ih = ih j
-    go seg ns e j ih = ih j
-    go use' ns e j ih = ih j
-    go end ns e j ih = ih j
+    go w ns e j ih = ih j
 
 fits_from : (job : Job) (n : ℕ) (rs : List Record) → ((v : Value) → (set_of job v).0 ≤ 4294967295)
     → n + total (λ b. b.insts) (map block_data_of (only block rs)) ≤ 4294967295 → Fits n job rs
@@ -417,18 +332,9 @@ fits_from job n (r ∷ rs) s l = go r.word r.fields l (λ m. fits_from job m rs 
         (map block_data_of (cond (eqb (word_number w) 4) (ns ∷ only block rs) (only block rs))) ≤ 4294967295
         → ((m : ℕ) → m + total (λ b. b.insts) (map block_data_of (only block rs)) ≤ 4294967295 → Fits m job rs)
         → (implied_field w n job ns ≤ 4294967295) × Fits (insts_behind w n ns) job rs
-    go opt ns h ih = (omega arith, ih n h)
-    go bank ns h ih = (omega arith, ih n h)
-    go class ns h ih = (omega arith, ih n h)
-    go reg ns h ih = (omega arith, ih n h)
     go block ns h ih = (omega arith, ih (n + at ns 0) (omega arith))
-    go value ns h ih = (omega arith, ih n h)
-    go vgroup ns h ih = (omega arith, ih n h)
-    go operand ns h ih = (omega arith, ih n h)
-    go hint ns h ih = (omega arith, ih n h)
     go seg ns h ih = (s (val (at ns 0)), ih n h)
-    go use' ns h ih = (omega arith, ih n h)
-    go end ns h ih = (omega arith, ih n h)
+    go w ns h ih = (omega arith, ih n h)
 
 -- for every job that passes: its leaders are 32-bit numbers, its instructions few
 pub fits : (rs : List Record) → Reads false rs → entry (job_of_records rs) ≡ none → Fits 0 (job_of_records rs) rs
@@ -475,10 +381,10 @@ other false rs h o t =
     record {
       reads = shrunk_reads rs h;
       order = shrunk_ordered rs (opt ∷ []) ∙ o;
-      job = shrunk_job rs;
-      tests = ap (λ (j : Job). tenth_test (entry j) true) (shrunk_job rs)
+      job = bare_job rs;
+      tests = ap (λ (j : Job). tenth_test (entry j) true) (bare_job rs)
           ∙ ap (λ (q : Option Refusal). tenth_test q true) p.0;
       back =
-          ap (λ (j : Job). grown 0 j (shrunk rs)) (shrunk_job rs)
+          ap (λ (j : Job). grown 0 j (shrunk rs)) (bare_job rs)
           ∙ grown_shrunk 0 job rs h (same_eq _ _ w.0 ∙ firsts_are rs) (same_eq _ _ w.1 ∙ sets_are rs);
     }

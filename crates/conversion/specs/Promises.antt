@@ -13,14 +13,16 @@ use Rattle.definition.specs.Limits.{vregs_room}
 use Rattle.definition.specs.Entry.{lowest_of, entry_tests, entry}
 use Rattle.definition.specs.Text.{◌>>=◌}
 use Rattle.definition.specs.JobSheet.{Record, job_of_records}
-use Rattle.definition.specs.SheetForms.{is_second, records_in, job_in, as_written, sheet_number_of, tenth_test, verdict_of}
+use Rattle.definition.specs.SheetForms.{is_second, records_in, job_in, as_written, sheet_number_of, tenth_test}
+use Rattle.definition.specs.SheetForms.{verdict_of}
 use Rattle.definition.specs.SheetForms.{verdict, SheetOut, given', refused', answer_to_sheet, answer_text}
-use Rattle.definition.specs.Conversion.{refusal_text}
-use Rattle.definition.specs.SheetForms.{vregs_of}
-use Rattle.definition.specs.Conversion.{sheet_text, moved_records, moved_unless, moved_for, already, move_to, moved_text}
+use Rattle.definition.specs.SheetForms.{refusal_text, vregs_of}
+use Rattle.definition.specs.Conversion.{sheet_text, moved_records, moved_sheet, moved_unless, already, move_to}
+use Rattle.definition.specs.Conversion.{moved_text}
 use Rattle.definition.specs.Conversion.{to_form1, to_form2}
 use Rattle.definition.proofs.Places.{All}
 use Rattle.definition.proofs.Forms.{answer_passed, not_zero}
+use Rattle.definition.proofs.Conversions.{other_form, moved_same, moved_other}
 use Rattle.agree.specs.Words.{none_some}
 use Rattle.sheet_rows.specs.Sheets.{On}
 use Rattle.conversion.specs.Texts.{Sheet, sheet_whole}
@@ -29,33 +31,10 @@ use Rattle.conversion.specs.Grown.{Other, other}
 
 -- ---- a conversion by the verdict
 
--- a sheet that has not the form asked for has the other one
-other_form : (asked t : Bool) → already asked t ≡ false → t ≡ not asked
-other_form true t e = e
-other_form false true e = refl
-other_form false false e = sym e
-
--- and one that has it has not the other
+-- a sheet that has the form asked for has not the other
 not_already : (asked t : Bool) → t ≡ asked → already (not asked) t ≡ false
 not_already true t e = ap not e
 not_already false t e = e
-
-abbrev moving : Bool → Option (List Record) → List ℕ
-moving asked none = []
-moving asked (some rs) = sheet_text asked (moved_records asked rs)
-
-move_by : (asked : Bool) (bs : List ℕ) → already asked (is_second bs) ≡ false
-    → move_to asked bs ≡ moved_unless (verdict bs) (moving asked (records_in bs))
-unfolding move_to verdict
-move_by asked bs a =
-    ap (λ (t : Bool). cond t (refused' (By NotARecord)) (moved_for asked (records_in bs))) a
-    ∙ go (records_in bs)
-    ∙ ap (λ (t : Bool). moved_unless (verdict_of t (records_in bs)) (moving asked (records_in bs)))
-    (sym (other_form asked (is_second bs) a))
-  where
-    go : (m : Option (List Record)) → moved_for asked m ≡ moved_unless (verdict_of (not asked) m) (moving asked m)
-    go none = refl
-    go (some rs) = refl
 
 verdict_by : (bs : List ℕ) (t : Bool) (m : Option (List Record)) → is_second bs ≡ t → records_in bs ≡ m
     → verdict bs ≡ verdict_of t m
@@ -65,11 +44,12 @@ verdict_by bs t m e f =
 
 -- what a sheet that passes is moved to
 moved_text_lem : (asked : Bool) (bs : List ℕ) (rs : List Record) → already asked (is_second bs) ≡ false
-    → records_in bs ≡ some rs → verdict bs ≡ none → move_to asked bs ≡ given' (sheet_text asked (moved_records asked rs))
+    → records_in bs ≡ some rs → verdict bs ≡ none
+    → move_to asked bs ≡ given' (sheet_text asked (moved_records asked rs))
 moved_text_lem asked bs rs a f v =
-    move_by asked bs a
-    ∙ ap (λ (o : Option SheetRefusal). moved_unless o (moving asked (records_in bs))) v
-    ∙ ap (λ (m : Option (List Record)). given' (moving asked m)) f
+    moved_other asked bs a
+    ∙ ap (λ (o : Option SheetRefusal). moved_unless o (moved_sheet asked (records_in bs))) v
+    ∙ ap (λ (m : Option (List Record)). given' (moved_sheet asked m)) f
 
 job_by : (bs : List ℕ) (rs : List Record) → records_in bs ≡ some rs → job_in bs ≡ some (job_of_records rs)
 unfolding job_in
@@ -143,7 +123,7 @@ promise_same_job asked bs a v = go (records_in bs) refl
         by rs f w (other asked rs w.reads w.order (sym (verdict_by bs (not asked) (some rs) s f) ∙ v))
 
 -- "Old to new to old gives the same bytes", for each sheet that passes.
--- Rules out: masks written in upper-case digits on the way back; segments put into the order of their sets on the way.
+-- Rules out: masks written in upper-case digits on the way back; segments put into the order of their first points.
 pub promise_home : (bs : List ℕ) → is_second bs ≡ false → verdict bs ≡ none → to_form1 (to_form2 bs) ≡ bs
 unfolding to_form1 to_form2
 promise_home bs s v =
@@ -164,8 +144,7 @@ promise_again bs s v =
 -- Rules out: a sheet that has the form asked for given back as it is; one of these that 7 would refuse, answered by 7.
 pub promise_already : (asked : Bool) (bs : List ℕ) → already asked (is_second bs) ≡ true
     → move_to asked bs ≡ refused' (By NotARecord)
-unfolding move_to
-promise_already asked bs a = ap (λ (t : Bool). cond t (refused' (By NotARecord)) (moved_for asked (records_in bs))) a
+promise_already asked bs a = moved_same asked bs a
 
 -- "A sheet that tests 1 to 7 or 10 refuse is answered by `refused` and the same number alone": of the sheets that are
 -- not already in the form asked for, exactly those that their verdict refuses are refused, and by the same refusal.
@@ -174,11 +153,11 @@ promise_already asked bs a = ap (λ (t : Bool). cond t (refused' (By NotARecord)
 pub promise_refused : (asked : Bool) (bs : List ℕ) → already asked (is_second bs) ≡ false → (r : SheetRefusal)
     → (move_to asked bs ≡ refused' r → verdict bs ≡ some r) × (verdict bs ≡ some r → move_to asked bs ≡ refused' r)
 promise_refused asked bs a r = (
-  λ e. go (verdict bs) (sym (move_by asked bs a) ∙ e),
-  λ e. move_by asked bs a ∙ ap (λ (o : Option SheetRefusal). moved_unless o (moving asked (records_in bs))) e,
+  λ e. go (verdict bs) (sym (moved_other asked bs a) ∙ e),
+  λ e. moved_other asked bs a ∙ ap (λ (o : Option SheetRefusal). moved_unless o (moved_sheet asked (records_in bs))) e,
 )
   where
-    go : (o : Option SheetRefusal) → moved_unless o (moving asked (records_in bs)) ≡ refused' r → o ≡ some r
+    go : (o : Option SheetRefusal) → moved_unless o (moved_sheet asked (records_in bs)) ≡ refused' r → o ≡ some r
     go none e = absurd (let z : ◌≡◌ {A = ℕ} 0 1 = cc in omega arith)
     go (some q) e = let m : q ≡ r = cc in ap some m
 
@@ -193,7 +172,7 @@ lowest_on P (t ∷ ts) h = go t.0 (lowest_on P ts h.1)
     go true ih = ih
     go false ih = h.0
 
--- the tests of a job have the numbers 2 to 7
+-- the tests of a job have numbers below 8
 abbrev Low : Refusal → Type 0
 Low r = number_of r < 8
 
@@ -202,27 +181,6 @@ unfolding entry
 entry_low job =
     lowest_on Low (entry_tests job)
     (omega arith, (omega arith, (omega arith, (omega arith, (omega arith, (omega arith, tt))))))
-
--- a test's refusal: not the build's 8 or 9
-abbrev Tested : SheetRefusal → Type 0
-Tested r = (sheet_number_of r ≡ 8 → ⊥) × (sheet_number_of r ≡ 9 → ⊥)
-
-tests_on : (o : Option Refusal) (w : Bool) → On Low o → On Tested (tenth_test o w)
-tests_on (some r) w h = (λ e. omega (arith, e, h), λ e. omega (arith, e, h))
-tests_on none true h = tt
-tests_on none false h = (λ e. omega (arith, e), λ e. omega (arith, e))
-
-verdict_on : (t : Bool) (m : Option (List Record)) → On Tested (verdict_of t m)
-verdict_on t none = (λ e. omega (arith, e), λ e. omega (arith, e))
-verdict_on true (some rs) = tests_on (entry (job_of_records rs)) (as_written rs) (entry_low (job_of_records rs))
-verdict_on false (some rs) = tests_on (entry (job_of_records rs)) true (entry_low (job_of_records rs))
-
--- "8 and 9 play no part": no verdict has either number, and so, by the two theorems before, no conversion.
--- Rules out: a sheet whose build stops, answered by 8; one whose registers overfill the tables of `vregs`, by 9.
-pub promise_no_part : (bs : List ℕ) (r : SheetRefusal) → verdict bs ≡ some r
-    → (sheet_number_of r ≡ 8 → ⊥) × (sheet_number_of r ≡ 9 → ⊥)
-unfolding verdict
-promise_no_part bs r e = subst (On Tested) e (verdict_on (is_second bs) (records_in bs))
 
 -- a number from 1 to 7
 abbrev pub OneToSeven : SheetRefusal → Type 0
@@ -252,8 +210,9 @@ range_on true (some rs) = first_range (entry (job_of_records rs)) (entry_low (jo
 range_on false none = inl (omega arith, omega arith)
 range_on false (some rs) = second_range (entry (job_of_records rs)) (as_written rs) (entry_low (job_of_records rs))
 
--- The numbers: `to_form2` refuses by 1 to 7 alone, `to_form1` by these and by 10.
--- Rules out: 10 from `to_form2`, whose sheets have no written field; 8 for a sheet whose build stops.
+-- The numbers: `to_form2` refuses by 1 to 7 alone, `to_form1` by these and by 10; so "8 and 9 play no part".
+-- Rules out: 10 from `to_form2`, whose sheets have no written field; 8 for a sheet whose build stops; 9 for one whose
+-- registers overfill the tables of `vregs`.
 pub promise_numbers : (asked : Bool) (bs : List ℕ) (r : SheetRefusal) → move_to asked bs ≡ refused' r → InRange asked r
 unfolding verdict
 promise_numbers asked bs r e = go (already asked (is_second bs)) refl

@@ -7,12 +7,14 @@ use mathlib.Core.List.{List, [], ◌∷◌, map}
 use Rattle.std.proofs.lemmas.Bool.{false≢true}
 use Rattle.std.proofs.Math.Option.{some, some-injective}
 use Prim.Native.Nat.{ℕ, ◌+◌, ◌-◌, ◌*◌, ◌/◌, ◌%◌, ◌^◌, ◌≤◌, ◌<◌}
-use Rattle.std.proofs.Math.Nat.{pow-zero, div-one, div-div-eq-div-mul, mul-add-div_right, mul-add-mod_self_right, mod-eq_of_lt, div-eq_of_lt, add-zero, one-le-pow}
+use Rattle.std.proofs.Math.Nat.{pow-zero, div-one, div-div-eq-div-mul, mul-add-div_right, mul-add-mod_self_right}
+use Rattle.std.proofs.Math.Nat.{mod-eq_of_lt, div-eq_of_lt, add-zero, one-le-pow}
 use Rattle.std.proofs.Math.ListN.{length}
 use Rattle.std.proofs.lemmas.List.{length-map}
 use borrow.Author.Tests.{ltb-true, ltb-false, lt-ltb, le-ltb, eqb-true}
 use Rattle.definition.proofs.Entries.{and_both}
-use Rattle.definition.specs.Text.{given, digit_of, value_from, all_below, no_leading_zero, is_number, is_bits, read_number}
+use Rattle.definition.specs.Text.{given, digit_of, value_from, all_below, no_leading_zero, is_number, is_bits}
+use Rattle.definition.specs.Text.{read_number}
 use Rattle.definition.specs.Text.{read_bits, glyph, digits, places, decimal, eight_digits}
 use Rattle.io.specs.Digits.{IsDigitCount}
 use Rattle.lines.specs.Places.{fewest_decimal, one_number}

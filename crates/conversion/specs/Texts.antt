@@ -8,12 +8,15 @@ use Rattle.std.proofs.Math.Option.{Option, none, some, some-injective}
 use Rattle.definition.specs.Text.{same, ◌>>=◌, given, lines_of, end_line, onto_line, fields_of, end_field, onto_field}
 use Rattle.definition.specs.Text.{decimal}
 use Rattle.definition.specs.JobSheet.{Word, opt, bank, class, reg, block, value, vgroup, operand, hint, seg, use', end}
-use Rattle.definition.specs.JobSheet.{spelling, all_words, word_among, Form, up_to, bits, number, flag, remat, use_flags}
-use Rattle.definition.specs.JobSheet.{use_kind, read_field, read_fields, kind_fields, read_use, read_record, Record, record_of}
+use Rattle.definition.specs.JobSheet.{spelling, all_words, word_among, Form, up_to, bits, number, flag, remat}
+use Rattle.definition.specs.JobSheet.{use_flags}
+use Rattle.definition.specs.JobSheet.{use_kind, read_field, read_fields, kind_fields, read_use, read_record, Record}
+use Rattle.definition.specs.JobSheet.{record_of}
 use Rattle.definition.specs.JobSheet.{records_of, ordered, sheet_of}
 use Rattle.definition.specs.SheetForms.{form_line, is_second, behind_form, read_second, second_record, second_records}
 use Rattle.definition.specs.SheetForms.{second_sheet, records_in}
-use Rattle.definition.specs.Conversion.{field_text, field_texts, first_texts, second_texts, texts_in, record_line, lines_text}
+use Rattle.definition.specs.Conversion.{field_text, field_texts, first_texts, second_texts, texts_in, record_line}
+use Rattle.definition.specs.Conversion.{lines_text}
 use Rattle.definition.specs.Conversion.{sheet_text, rec}
 use Rattle.definition.proofs.Forms.{first_records, second_records_lem}
 use Rattle.definition.proofs.Same.{same_eq}
@@ -97,18 +100,9 @@ first_texts_lem end fs ns e = none_text fs ns e
 
 second_texts_lem : (w : Word) (fs : List (List ℕ)) (ns : List ℕ) → read_second w fs ≡ some ns → second_texts w ns ≡ fs
 unfolding read_second second_texts
-second_texts_lem opt fs ns e = first_texts_lem opt fs ns e
-second_texts_lem bank fs ns e = first_texts_lem bank fs ns e
-second_texts_lem class fs ns e = first_texts_lem class fs ns e
-second_texts_lem reg fs ns e = first_texts_lem reg fs ns e
 second_texts_lem block fs ns e = fields_text (number ∷ bits ∷ number ∷ []) fs ns e
-second_texts_lem value fs ns e = first_texts_lem value fs ns e
-second_texts_lem vgroup fs ns e = first_texts_lem vgroup fs ns e
-second_texts_lem operand fs ns e = first_texts_lem operand fs ns e
-second_texts_lem hint fs ns e = first_texts_lem hint fs ns e
 second_texts_lem seg fs ns e = fields_text (number ∷ number ∷ number ∷ use_flags ∷ number ∷ []) fs ns e
-second_texts_lem use' fs ns e = first_texts_lem use' fs ns e
-second_texts_lem end fs ns e = first_texts_lem end fs ns e
+second_texts_lem w fs ns e = first_texts_lem w fs ns e
 
 -- ---- either form by one reading: the second, or the first
 
@@ -208,7 +202,8 @@ lines_joined (b ∷ bs) ls e = go (eqb b 10) refl (lines_of bs) refl e (lines_jo
 -- ---- the law
 
 module _ (second : Bool) where
-  texts_in_lem : (w : Word) (fs : List (List ℕ)) (ns : List ℕ) → read_in second w fs ≡ some ns → texts_in second w ns ≡ fs
+  texts_in_lem : (w : Word) (fs : List (List ℕ)) (ns : List ℕ) → read_in second w fs ≡ some ns
+      → texts_in second w ns ≡ fs
   texts_in_lem w fs ns e = go second e
     where
       go : (t : Bool) → read_in t w fs ≡ some ns → texts_in t w ns ≡ fs
@@ -305,7 +300,8 @@ pub sheet_whole : (second : Bool) (bs : List ℕ) (rs : List Record) → is_seco
     → Sheet second bs rs
 unfolding is_second sheet_text
 sheet_whole true bs rs s e =
-    let r = sheet_read true (behind_form bs) rs (sym (second_records_lem bs s ∙ second_sheet_lem (behind_form bs)) ∙ e) in
+    let h = sym (second_records_lem bs s ∙ second_sheet_lem (behind_form bs)) ∙ e in
+    let r = sheet_read true (behind_form bs) rs h in
     record {
       text =
           ap (λ (l : List ℕ). form_line ++ l) r.text
