@@ -1,12 +1,13 @@
 -- The line that is written of a row is the line of its record, in either form. Assumes nothing.
-use Rattle.std.specs.Prelude.{◌≡◌, refl, Bool, true, false, List, [], ◌∷◌, ◌++◌, map, ℕ, suc, ◌+◌, length, get_or, replicate, Some, None}
+use Rattle.std.specs.Prelude.{◌≡◌, refl, Bool, true, false, List, [], ◌∷◌, ◌++◌, map, ℕ, suc, ◌+◌, length, get_or}
+use Rattle.std.specs.Prelude.{replicate, Some, None}
 use Rattle.std.proofs.Common.{sym, ap, subst, ◌∙◌, append_assoc, append-nil, arith}
 use Rattle.std.proofs.Math.Option.{Option, none, some, some-injective}
 use Rattle.std.proofs.lemmas.List.{length-replicate}
 use Rattle.definition.specs.Text.{decimal, tabbed, ◌>>=◌}
 use Rattle.definition.specs.JobSheet.{Word, opt, bank, class, reg, block, value, vgroup, operand, hint, seg, use', end}
-use Rattle.definition.specs.JobSheet.{word_number, kind_fields, spelling, Form, up_to, bits, number, flag, remat, use_flags}
-use Rattle.definition.specs.JobSheet.{use_kind, read_field, read_fields, read_use, read_record}
+use Rattle.definition.specs.JobSheet.{word_number, kind_fields, spelling, Form, up_to, bits, number, flag, remat}
+use Rattle.definition.specs.JobSheet.{use_flags, use_kind, read_field, read_fields, read_use, read_record}
 use Rattle.definition.specs.Conversion.{record_line, longer, rec, field_text, field_texts, first_texts, second_texts}
 use Rattle.definition.specs.Conversion.{texts_in}
 use Rattle.job_lines.specs.Rows.{word_text, bits_at, value_text, row_fields, tabs, row_text, more_fields, more_text}
@@ -30,18 +31,9 @@ Long end ns = length ns ≡ 0
 -- the field k, where a record has a written field in a form
 abbrev pub written : Bool → Word → ℕ → Rattle.std.specs.Prelude.Option ℕ
 written false w k = None
-written true opt k = None
-written true bank k = None
-written true class k = None
-written true reg k = None
 written true block k = Some k
-written true value k = None
-written true vgroup k = None
-written true operand k = None
-written true hint k = None
 written true seg k = Some k
-written true use' k = None
-written true end k = None
+written true w k = None
 
 -- a record of the first form as the form has it, with the field k
 abbrev pub fields_in : Bool → Word → ℕ → List ℕ → List ℕ
@@ -53,17 +45,7 @@ fields_in false w k ns = ns
 word_spelling : (w : Word) → word_text (word_number w) ≡ spelling w
 unfolding word_text
 word_spelling opt = refl
-word_spelling bank = refl
-word_spelling class = refl
-word_spelling reg = refl
-word_spelling block = refl
-word_spelling value = refl
-word_spelling vgroup = refl
-word_spelling operand = refl
-word_spelling hint = refl
-word_spelling seg = refl
-word_spelling use' = refl
-word_spelling end = refl
+word_spelling w = refl
 
 -- fields before fields
 tabs_tabbed : (fs gs : List (List ℕ)) → tabs fs ++ tabbed gs ≡ tabbed (fs ++ gs)
@@ -101,7 +83,8 @@ by_forms key j (m ∷ ms) f (n ∷ ns) e =
     ∙ ap (λ (l : List (List ℕ)). field_text m n ∷ l) (by_forms key (j + 1) ms f.1 ns (omega (arith, e)))
 
 -- however many, where all of them are numbers
-all_numbers : (key : ℕ) → ((j : ℕ) → bits_at key j ≡ false) → (j : ℕ) (ns : List ℕ) → row_fields key j ns ≡ map decimal ns
+all_numbers : (key : ℕ) → ((j : ℕ) → bits_at key j ≡ false) → (j : ℕ) (ns : List ℕ)
+    → row_fields key j ns ≡ map decimal ns
 unfolding row_fields value_text
 all_numbers key f j [] = refl
 all_numbers key f j (n ∷ ns) =
@@ -132,7 +115,8 @@ unfolding field_texts
 one_more_lem [] [] k e = refl
 one_more_lem [] (n ∷ ns) k e = absurd (omega (arith, e))
 one_more_lem (m ∷ ms) [] k e = absurd (omega (arith, e))
-one_more_lem (m ∷ ms) (n ∷ ns) k e = ap (λ (l : List (List ℕ)). field_text m n ∷ l) (one_more_lem ms ns k (omega (arith, e)))
+one_more_lem (m ∷ ms) (n ∷ ns) k e =
+    ap (λ (l : List (List ℕ)). field_text m n ∷ l) (one_more_lem ms ns k (omega (arith, e)))
 
 fields_with : (w : Word) (ns : List ℕ) (k : ℕ) (ms : List Form) → Long w ns → first_texts w ns ≡ field_texts ms ns
     → length ns ≡ length ms
@@ -147,18 +131,9 @@ form_fields : (second : Bool) (w : Word) (ns : List ℕ) (k : ℕ) → Long w ns
     → row_fields (word_number w) 0 ns ++ more_fields (written second w k) ≡ texts_in second w (fields_in second w k ns)
 unfolding first_texts second_texts
 form_fields false w ns k h = plain w ns h
-form_fields true opt ns k h = plain opt ns h
-form_fields true bank ns k h = plain bank ns h
-form_fields true class ns k h = plain class ns h
-form_fields true reg ns k h = plain reg ns h
 form_fields true block ns k h = fields_with block ns k (number ∷ bits ∷ []) h refl h
-form_fields true value ns k h = plain value ns h
-form_fields true vgroup ns k h = plain vgroup ns h
-form_fields true operand ns k h = plain operand ns h
-form_fields true hint ns k h = plain hint ns h
 form_fields true seg ns k h = fields_with seg ns k (number ∷ number ∷ number ∷ use_flags ∷ []) h refl h
-form_fields true use' ns k h = plain use' ns h
-form_fields true end ns k h = plain end ns h
+form_fields true w ns k h = plain w ns h
 
 pub line_record : (second : Bool) (w : Word) (ns : List ℕ) (k : ℕ) → Long w ns
     → line_text (word_number w) ns (written second w k) ≡ record_line second (rec w (fields_in second w k ns))

@@ -1,5 +1,6 @@
 -- The text of a record by the number of its kind and the words of its row. Assumes nothing.
-use Rattle.std.specs.Prelude.{Bool, true, false, cond, List, [], ◌∷◌, ◌++◌, ℕ, ◌+◌, ltb, eqb, get_or, Option, Some, None}
+use Rattle.std.specs.Prelude.{Bool, true, false, cond, List, [], ◌∷◌, ◌++◌, ℕ, ◌+◌, ltb, eqb, get_or}
+use Rattle.std.specs.Prelude.{Option, Some, None}
 use Rattle.definition.specs.Text.{decimal, eight_digits}
 use Rattle.definition.specs.JobSheet.{end, spelling, all_words}
 

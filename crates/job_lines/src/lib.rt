@@ -1,4 +1,5 @@
-// A line of a job sheet, of either form, from a row of words, put into a lent buffer behind its first `at` bytes. Each function answers where its text ends.
+// A line of a job sheet, of either form, from a row of words, put into a lent buffer behind its first `at` bytes.
+// Each function answers where its text ends.
 // By hand: each contract names the bytes, as that of `write!` to a lent slice does not; a String would take the heap.
 #![tactic(auto)]
 
@@ -29,7 +30,8 @@ fn word(key: Option<Kind>) -> &'static [u8]
     }
 }
 
-// Whether field j of a record is a mask or a float: the scales of opt, mask and cost of a class, the frequency of a block.
+// Whether field j of a record is a mask or a float: the scales of opt, mask and cost of a class, the frequency of a
+// block.
 #[tactic(auto, unfolding(crate::specs::Rows::bits_at))]
 fn is_bits(key: Option<Kind>, j: usize) -> bool
     ensures { result ≡ bits_at (key_number key) j }
@@ -57,7 +59,8 @@ fn put_value(out: &mut [u8], at: usize, bits: bool, v: u32) -> usize
 // The fields of a record: n words from word a on, each behind a tab.
 fn put_row(out: &mut [u8], at: usize, key: Option<Kind>, table: &[u8], a: usize, n: usize) -> usize
     requires { (at + n * 21 ≤ length out.old) × (a + n ≤ word_count table.now) }
-    ensures { Wrote (n * 21) at out.old result out.new (row_text (key_number key) (take n (drop a (words_of table.now)))) }
+    ensures { Wrote (n * 21) at out.old result out.new
+        (row_text (key_number key) (take n (drop a (words_of table.now)))) }
 {
     let mut end = at;
     for j in 0..n {
@@ -91,7 +94,8 @@ pub fn put_record(
     more: Option<u32>,
 ) -> usize
     requires { (at + 248 ≤ length out.old) × (a + n ≤ word_count table.now) × (n ≤ 8) }
-    ensures { Wrote (248) at out.old result out.new (line_text (key_number key) (take n (drop a (words_of table.now))) more) }
+    ensures { Wrote (248) at out.old result out.new
+        (line_text (key_number key) (take n (drop a (words_of table.now))) more) }
 {
     let w = lines::put_bytes(out, at, word(key));
     let end = put_row(out, w, key, table, a, n);

@@ -1,13 +1,12 @@
 -- A page line by line. Assumes nothing.
 use mathlib.Core.Path.{◌≡◌, sym, ap, subst, ◌∙◌}
 use mathlib.Core.Logic.{◌⊎◌, inl, inr}
-use mathlib.Core.Bool.{Bool, true, false, false≢true}
+use mathlib.Core.Bool.{Bool, false}
 use mathlib.Core.List.{List, []}
 use Prim.Native.Nat.{ℕ, ◌+◌, ◌≤◌, ◌<◌}
 use native.Mathlib.Omega.{arith}
 use lib.Dec.{eqb}
 use lib.ListN.{length}
-use lib.Seq.{length-take-le}
 use Rattle.words.specs.Words.{words_of}
 use Rattle.job_pages.specs.Cursors.{Cursor, steps_left}
 use Rattle.lines.specs.declared.Page.{Page}
@@ -29,8 +28,8 @@ less c₀ c d at (inl e) l = subst (λ (x : Cursor). steps_left d < steps_left x
 less c₀ c d at (inr k) l = omega (arith, k, l)
 
 module _ {second : Bool} {x : List ℕ} {c₀ c : Cursor} {at : ℕ} {B : List ℕ} (f : Filling second x c₀ c at B) where
-  pub next : {B' : List ℕ} {r : Page Cursor} → Stepped second (words_of x) c at B r B' → at + 256 ≤ length B → length B' ≡ length B
-      → Filling second x c₀ r.cur r.n B'
+  pub next : {B' : List ℕ} {r : Page Cursor} → Stepped second (words_of x) c at B r B' → at + 256 ≤ length B
+      → length B' ≡ length B → Filling second x c₀ r.cur r.n B'
   next {r = r} s l e =
       let w = s.goes f.shows.job f.shows.records f.shows.left in
       record {
@@ -43,28 +42,19 @@ module _ {second : Bool} {x : List ℕ} {c₀ c : Cursor} {at : ℕ} {B : List �
             record { records = q.records; left = q.left; text = q.text ∙ g.text };
       }
 
-  filled : (eqb c₀.key 12 ≡ false → 256 ≤ length B → steps_left c < steps_left c₀)
-      → Filled second x c₀ (record { cur = c; n = at }) B
-  filled l = record {
+  -- the end is written, or a line might have no room
+  pub filled : (eqb c.key 12 ≡ false → length B < at + 256) → Filled second x c₀ (record { cur = c; n = at }) B
+  filled h = record {
     within = f.within;
-    counts = sym (length-take-le at B f.within);
+    full = h;
     shows = f.shows;
-    fewer = l;
+    fewer = go f.nearer;
     paged = λ job rs k.
         let g = f.goes job rs k in record { records = g.records; left = g.left; text = sym g.text };
   }
-
-  -- the end is written, or a line may have no room
-  pub at_end : eqb c.key 12 ≡ true → Filled second x c₀ (record { cur = c; n = at }) B
-  at_end e = filled (λ o l. go f.nearer o)
     where
-      go : Nearer c₀ c at → eqb c₀.key 12 ≡ false → steps_left c < steps_left c₀
-      go (inl q) o = absurd (false≢true (sym o ∙ sym (ap (λ (d : Cursor). eqb d.key 12) q.0) ∙ e))
-      go (inr k) o = k
-
-  pub at_room : length B < at + 256 → Filled second x c₀ (record { cur = c; n = at }) B
-  at_room h = filled (λ o l. go f.nearer l)
-    where
-      go : Nearer c₀ c at → 256 ≤ length B → steps_left c < steps_left c₀
-      go (inl q) l = absurd (omega (arith, q.1, l, h))
-      go (inr k) l = k
+      go : Nearer c₀ c at → eqb c₀.key 12 ≡ false → 256 ≤ length B → steps_left c < steps_left c₀
+      go (inl q) o l =
+          let z : length B < at + 256 = h (ap (λ (d : Cursor). eqb d.key 12) q.0 ∙ o) in
+          absurd (omega (arith, q.1, l, z))
+      go (inr k) o l = k

@@ -153,32 +153,10 @@ module _ {T : List ℕ} {job : Job} (c : Cursor) (rs : List Record) (x : ℕ) wh
       (omega arith) refl refl
       (sym (g.fresh 1 (omega (arith, ap word_number e)) (omega arith) (λ q. omega (arith, q)) (λ q. omega (arith, q))))
       (omega arith) g.segs g.uses g.insts)
-  behind_left bank ns g e h =
-      by_key 1 (g.key ∙ ap word_number e)
-      (plain_next bank ns rs g e (omega arith) (omega arith) refl refl (omega arith) refl refl c.insts g.insts)
-  behind_left class ns g e h =
-      by_key 2 (g.key ∙ ap word_number e)
-      (plain_next class ns rs g e (omega arith) (omega arith) refl refl (omega arith) refl refl c.insts g.insts)
-  behind_left reg ns g e h =
-      by_key 3 (g.key ∙ ap word_number e)
-      (plain_next reg ns rs g e (omega arith) (omega arith) refl refl (omega arith) refl refl c.insts g.insts)
   behind_left block ns g e h =
       by_key 4 (g.key ∙ ap word_number e)
       (plain_next block ns rs g e (omega arith) (omega arith) refl refl (omega arith) refl refl
       (c.insts + get_or T x 0) (omega (arith, g.insts, h refl)))
-  behind_left value ns g e h =
-      by_key 5 (g.key ∙ ap word_number e)
-      (plain_next value ns rs g e (omega arith) (omega arith) refl refl (omega arith) refl refl c.insts g.insts)
-  behind_left vgroup ns g e h =
-      by_key 6 (g.key ∙ ap word_number e)
-      (plain_next vgroup ns rs g e (omega arith) (omega arith) refl refl (omega arith) refl refl c.insts g.insts)
-  behind_left operand ns g e h =
-      by_key 7 (g.key ∙ ap word_number e)
-      (plain_next operand ns rs g e (omega arith) (omega arith) refl refl (omega arith) refl refl c.insts
-      g.insts)
-  behind_left hint ns g e h =
-      by_key 8 (g.key ∙ ap word_number e)
-      (plain_next hint ns rs g e (omega arith) (omega arith) refl refl (omega arith) refl refl c.insts g.insts)
   behind_left seg ns g e h =
       by_key 9 (g.key ∙ ap word_number e)
       (next_going seg ns rs g e use' (cursor 10 c.row (c.segs + 1) c.uses c.insts) refl (omega arith)
@@ -198,6 +176,9 @@ module _ {T : List ℕ} {job : Job} (c : Cursor) (rs : List Record) (x : ℕ) wh
       last : (xs : List Record) → ordered [] xs ≡ true → xs ≡ []
       last [] o = refl
       last (y ∷ ys) o = absurd (false≢true (ordered_first [] y ys o).0)
+  behind_left w ns g e h =
+      by_key (word_number w) (g.key ∙ ap word_number e)
+      (plain_next w ns rs g e (omega arith) (omega arith) refl refl (omega arith) refl refl c.insts g.insts)
 
 -- ---- behind a kind
 

@@ -1,5 +1,6 @@
 -- The cursor in a table of job records: what it stands at, and where it goes. Assumes nothing.
-use Rattle.std.specs.Prelude.{◌≡◌, refl, Bool, true, false, cond, ◌||◌, List, [], ℕ, ◌+◌, ◌-◌, ◌*◌, ltb, eqb, get_or, Option, Some, None, is_some}
+use Rattle.std.specs.Prelude.{◌≡◌, refl, Bool, true, false, cond, ◌||◌, List, [], ℕ, ◌+◌, ◌-◌, ◌*◌, ltb, eqb, get_or}
+use Rattle.std.specs.Prelude.{Option, Some, None, is_some}
 use Rattle.definition.specs.Types.{Job, val}
 use Rattle.definition.specs.RegInfo.{set_of}
 use Rattle.definition.specs.SheetForms.{form_line}
@@ -7,7 +8,7 @@ use Rattle.sheet_places.specs.Places.{stored_of}
 use Rattle.sheet_job.specs.Segments.{next_first}
 use Rattle.register_sheet.specs.Typed.{use_length}
 use Rattle.sheet_rules.specs.declared.Kind.{Kind}
-use Rattle.sheet_rules.specs.declared.Kind.TheVariants.{Opt, Bank, Class, Reg, Block, Value, Vgroup, Operand, Hint, Seg, Use, End}
+use Rattle.sheet_rules.specs.declared.Kind.TheVariants.{Opt}
 use Rattle.sheet_rules.specs.Kinds.{key_number}
 use Rattle.job_pages.specs.declared.Cursor.{Cursor as Held}
 
@@ -26,17 +27,7 @@ cursor_of c = record { key = key_number c.key; row = c.row; segs = c.segs; uses 
 pub some_key : (k : Option Kind) → is_some k ≡ true → eqb (key_number k) 12 ≡ false
 some_key None e = cc
 some_key (Some Opt) e = refl
-some_key (Some Bank) e = refl
-some_key (Some Class) e = refl
-some_key (Some Reg) e = refl
-some_key (Some Block) e = refl
-some_key (Some Value) e = refl
-some_key (Some Vgroup) e = refl
-some_key (Some Operand) e = refl
-some_key (Some Hint) e = refl
-some_key (Some Seg) e = refl
-some_key (Some Use) e = refl
-some_key (Some End) e = refl
+some_key (Some k) e = refl
 
 pub none_key : (k : Option Kind) → is_some k ≡ false → key_number k ≡ 12
 none_key None e = refl
@@ -103,10 +94,11 @@ behind_row T c w = record {
   insts = cond (eqb c.key 4) (c.insts + get_or T w 0) c.insts;
 }
 
--- a number that falls with every step: 12 kinds in their order, of at most 1,024 rows each
+-- how far a kind is from the end; uses stand before segments, since segments come again behind a segment's uses
 unfoldable pub phase : ℕ → ℕ
 phase key = cond (eqb key 9) 3 (cond (eqb key 10) 4 (cond (eqb key 11) 2 (13 - key)))
 
+-- a number that falls with every step: segments and uses are counted apart, each other kind has at most 1,024 rows
 unfoldable pub steps_left : Cursor → ℕ
 unfolding phase
 steps_left c = 3000 * (2000 - c.segs) + ((5000 - c.uses) + (phase c.key * 2000 - c.row))

@@ -8,9 +8,8 @@ use Rattle.definition.specs.declared.Value.{Value}
 use Rattle.definition.specs.Types.{Job, val}
 use Rattle.definition.specs.Entry.{vgroup_tests, vgroup_ok, function_tests, function_ok, entry_tests, entry}
 use Rattle.definition.specs.Text.{◌>>=◌, given, lines_of, fields_of}
-use Rattle.definition.specs.JobSheet.{Word, opt, bank, class, reg, block, value, vgroup, operand, hint, seg, use', end}
-use Rattle.definition.specs.JobSheet.{word_number, all_words, word_among, read_record, Record, record_of, records_of, ordered}
-use Rattle.definition.specs.JobSheet.{sheet_of, only, vgroup_of, job_of_records}
+use Rattle.definition.specs.JobSheet.{Word, opt, vgroup, word_number, all_words, word_among, read_record, Record}
+use Rattle.definition.specs.JobSheet.{record_of, records_of, ordered, sheet_of, only, vgroup_of, job_of_records}
 use Rattle.definition.specs.SheetForms.{is_second, behind_form, second_sheet, records_in}
 use Rattle.definition.specs.Conversion.{rec, shrunk}
 use Rattle.definition.proofs.Places.{All, all_map}
@@ -117,19 +116,9 @@ all_fair (r ∷ rs) h g = go r.word r.fields h.0 g (all_fair rs h.1)
         (map vgroup_of (cond (eqb (word_number w) 6) (ns ∷ only vgroup rs) (only vgroup rs)))
         → (All (λ (g : List Value). length g ≤ 8) (map vgroup_of (only vgroup rs)) → Each Fair rs)
         → Fair w ns × Each Fair rs
-    go opt ns k l ih = (plain opt ns k tt, ih l)
-    go bank ns k l ih = (plain bank ns k tt, ih l)
-    go class ns k l ih = (plain class ns k tt, ih l)
-    go reg ns k l ih = (plain reg ns k tt, ih l)
-    go block ns k l ih = (plain block ns k tt, ih l)
-    go value ns k l ih = (plain value ns k tt, ih l)
     go vgroup ns k l ih =
         (plain vgroup ns k (subst (λ (n : ℕ). n ≤ 8) (length-map ns val) l.0), ih l.1)
-    go operand ns k l ih = (plain operand ns k tt, ih l)
-    go hint ns k l ih = (plain hint ns k tt, ih l)
-    go seg ns k l ih = (plain seg ns k tt, ih l)
-    go use' ns k l ih = (plain use' ns k tt, ih l)
-    go end ns k l ih = (plain end ns k tt, ih l)
+    go w ns k l ih = (plain w ns k tt, ih l)
 
 -- THE LAW: the bare records of a sheet whose job passes are fair
 pub fair : (bs : List ℕ) (rs : List Record) → bare_in bs ≡ some rs → entry (job_of_records rs) ≡ none → Each Fair rs

@@ -4,8 +4,7 @@ use Rattle.std.proofs.Common.{sym, subst, ◌∙◌}
 use Rattle.std.proofs.Math.Path.{ap}
 use native.Mathlib.Omega.{arith}
 use Rattle.definition.specs.Types.{Job}
-use Rattle.definition.specs.JobSheet.{Word, opt, bank, class, reg, block, value, vgroup, operand, hint, seg, use', end}
-use Rattle.definition.specs.JobSheet.{word_number, Record}
+use Rattle.definition.specs.JobSheet.{Word, seg, use', end, word_number, Record}
 use Rattle.definition.specs.Conversion.{rec}
 use Rattle.sheet_places.specs.Places.{limits, limit_of}
 use Rattle.job_pages.specs.Cursors.{Cursor, cursor, shown_row, passed_on, behind_row, phase, steps_left}
@@ -25,15 +24,6 @@ module _ (T : List ℕ) (c : Cursor) (x : ℕ) where
   pub line_falls : {job : Job} (w : Word) (ns : List ℕ) (rs : List Record) (g : Going T job c (rec w ns ∷ rs))
       → g.kind ≡ w → steps_left (behind_row T c x) < steps_left c
   unfolding behind_row steps_left phase shown_row limit_of limits
-  line_falls opt ns rs g e = at_key 0 (g.key ∙ ap word_number e) (omega (arith, g.low))
-  line_falls bank ns rs g e = at_key 1 (g.key ∙ ap word_number e) (omega (arith, g.low))
-  line_falls class ns rs g e = at_key 2 (g.key ∙ ap word_number e) (omega (arith, g.low))
-  line_falls reg ns rs g e = at_key 3 (g.key ∙ ap word_number e) (omega (arith, g.low))
-  line_falls block ns rs g e = at_key 4 (g.key ∙ ap word_number e) (omega (arith, g.low))
-  line_falls value ns rs g e = at_key 5 (g.key ∙ ap word_number e) (omega (arith, g.low))
-  line_falls vgroup ns rs g e = at_key 6 (g.key ∙ ap word_number e) (omega (arith, g.low))
-  line_falls operand ns rs g e = at_key 7 (g.key ∙ ap word_number e) (omega (arith, g.low))
-  line_falls hint ns rs g e = at_key 8 (g.key ∙ ap word_number e) (omega (arith, g.low))
   line_falls seg ns rs g e =
       let s : c.segs ≤ 1024 = omega (
         arith,
@@ -50,7 +40,7 @@ module _ (T : List ℕ) (c : Cursor) (x : ℕ) where
         g.few use' (omega arith) (omega arith),
       ) in
       at_key 10 (g.key ∙ ap word_number e) (omega (arith, g.low, u))
-  line_falls end ns rs g e = at_key 11 (g.key ∙ ap word_number e) (omega (arith, g.low))
+  line_falls w ns rs g e = at_key (word_number w) (g.key ∙ ap word_number e) (omega (arith, g.low))
 
 -- behind a kind
 module _ (c : Cursor) where
@@ -68,15 +58,5 @@ module _ (c : Cursor) where
   pass_falls g h = go g.kind g.key h
     where
       go : (w : Word) → c.key ≡ word_number w → word_number w ≤ 10 → steps_left (passed_on c) < steps_left c
-      go opt q m = by_key 0 q (omega (arith, g.low))
-      go bank q m = by_key 1 q (omega (arith, g.low))
-      go class q m = by_key 2 q (omega (arith, g.low))
-      go reg q m = by_key 3 q (omega (arith, g.low))
-      go block q m = by_key 4 q (omega (arith, g.low))
-      go value q m = by_key 5 q (omega (arith, g.low))
-      go vgroup q m = by_key 6 q (omega (arith, g.low))
-      go operand q m = by_key 7 q (omega (arith, g.low))
-      go hint q m = by_key 8 q (omega (arith, g.low))
-      go seg q m = by_key 9 q (omega (arith, g.low))
-      go use' q m = by_key 10 q (omega (arith, g.low))
       go end q m = absurd (omega (arith, m))
+      go w q m = by_key (word_number w) q (omega (arith, g.low))

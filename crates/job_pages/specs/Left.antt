@@ -5,7 +5,7 @@ use Rattle.definition.specs.JobSheet.{Word, opt, bank, class, reg, block, value,
 use Rattle.definition.specs.JobSheet.{word_number, Record, at, only, ordered}
 use Rattle.definition.specs.Conversion.{lines_text, grown}
 use Rattle.coalescing.specs.Rows.{values_at}
-use Rattle.sheet_places.specs.Places.{limit_of}
+use Rattle.sheet_places.specs.Places.{limit_of, row_at}
 use Rattle.sheet_rows.specs.Stands.{Row, Stands}
 use Rattle.sheet_rows.specs.Choices.{Chosen}
 use Rattle.job_lines.specs.Records.{Long}
@@ -15,18 +15,8 @@ use Rattle.job_pages.specs.Cursors.{Cursor, shown_row, rows_in, front_text}
 
 -- no more than eight members
 abbrev pub Grouped : Word → List ℕ → Type 0
-Grouped opt ns = Unit {0}
-Grouped bank ns = Unit {0}
-Grouped class ns = Unit {0}
-Grouped reg ns = Unit {0}
-Grouped block ns = Unit {0}
-Grouped value ns = Unit {0}
 Grouped vgroup ns = length ns ≤ 8
-Grouped operand ns = Unit {0}
-Grouped hint ns = Unit {0}
-Grouped seg ns = Unit {0}
-Grouped use' ns = Unit {0}
-Grouped end ns = Unit {0}
+Grouped w ns = Unit {0}
 
 pub record Fair (w : Word) (ns : List ℕ) : Type 0 where
   pub long : Long w ns
@@ -86,7 +76,7 @@ pub record Going (T : List ℕ) (job : Job) (c : Cursor) (rs : List Record) : Ty
   pub fresh : (k : ℕ) → word_number kind < k → k ≤ 11 → (k ≡ 9 → ⊥) → (k ≡ 10 → ⊥) → rows k ≡ 0
   pub fair : Each Fair rs
   pub insts : c.insts + insts_in (only block rs) ≤ 4096
-  pub values : job.values ≡ values_at T 1430 (rows_in T 5)
+  pub values : job.values ≡ values_at T (row_at 5 0) (rows_in T 5)
 
 pub record Over (c : Cursor) (rs : List Record) : Type 0 where
   pub key : c.key ≡ 12

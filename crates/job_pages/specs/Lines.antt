@@ -13,13 +13,13 @@ use Rattle.words.specs.Words.{word_count, words_of}
 use Rattle.words.specs.Laws.{length_words}
 use Rattle.definition.specs.Types.{Job, val}
 use Rattle.definition.specs.RegInfo.{set_of}
-use Rattle.definition.specs.JobSheet.{Word, opt, bank, class, reg, block, value, vgroup, operand, hint, seg, use', end}
+use Rattle.definition.specs.JobSheet.{Word, opt, block, value, vgroup, seg, use', end}
 use Rattle.definition.specs.JobSheet.{word_number, Record, at, only}
 use Rattle.definition.specs.Conversion.{rec, record_line, lines_text, grown, implied_field, insts_behind}
 use Rattle.form_agree.specs.Jobs.{same_word}
 use Rattle.coalescing.specs.Rows.{values_at}
-use Rattle.sheet_places.specs.Places.{limits, limit_of, widths, width_of, stored_fields, stored_of, bases, base_of, row_at}
-use Rattle.sheet_places.specs.Places.{table_words}
+use Rattle.sheet_places.specs.Places.{limits, limit_of, widths, width_of, stored_fields, stored_of, bases, base_of}
+use Rattle.sheet_places.specs.Places.{row_at, table_words}
 use Rattle.sheet_rows.specs.Regions.{row_is, row_low}
 use Rattle.sheet_rows.specs.Stands.{Row}
 use Rattle.sheet_rows.specs.Choices.{Chosen}
@@ -59,39 +59,22 @@ pub record Ready (T : List ℕ) (c : Cursor) (k x : ℕ) : Type 0 where
 most_rows : (w : Word) → limit_of (word_number w) ≤ 4096
 unfolding limit_of limits
 most_rows opt = omega arith
-most_rows bank = omega arith
-most_rows class = omega arith
-most_rows reg = omega arith
-most_rows block = omega arith
-most_rows value = omega arith
-most_rows vgroup = omega arith
-most_rows operand = omega arith
-most_rows hint = omega arith
-most_rows seg = omega arith
-most_rows use' = omega arith
-most_rows end = omega arith
+most_rows w = omega arith
 
 -- a row has a word
 some_word : (w : Word) → word_number w ≤ 10 → 0 < width_of (word_number w)
 unfolding width_of widths
-some_word opt h = omega arith
-some_word bank h = omega arith
-some_word class h = omega arith
-some_word reg h = omega arith
-some_word block h = omega arith
-some_word value h = omega arith
-some_word vgroup h = omega arith
-some_word operand h = omega arith
-some_word hint h = omega arith
-some_word seg h = omega arith
-some_word use' h = omega arith
 some_word end h = absurd (omega (arith, h))
+some_word w h = omega arith
 
--- few segments are printed
-pub few_left : {T : List ℕ} {job : Job} {c : Cursor} {rs : List Record} → Going T job c rs → c.segs ≤ 1024
+-- the table has few segments
+pub few_segs : {T : List ℕ} {job : Job} {c : Cursor} {rs : List Record} → Going T job c rs → rows_in T 9 ≤ 1024
 unfolding limit_of limits
-few_left g =
-    omega (arith, g.segs, g.counts seg (omega arith) (omega arith), g.few seg (omega arith) (omega arith))
+few_segs g = g.few seg (omega arith) (omega arith)
+
+-- so few are printed
+few_left : {T : List ℕ} {job : Job} {c : Cursor} {rs : List Record} → Going T job c rs → c.segs ≤ 1024
+few_left g = omega (arith, g.segs, g.counts seg (omega arith) (omega arith), few_segs g)
 
 module _ {T : List ℕ} {job : Job} {c : Cursor} (long : length T ≡ table_words) (w : Word) (ns : List ℕ)
     (rs : List Record) (g : Going T job c (rec w ns ∷ rs)) (e : g.kind ≡ w) where
@@ -124,20 +107,12 @@ module _ {T : List ℕ} {job : Job} {c : Cursor} (long : length T ≡ table_word
   unfolding stored_of stored_fields
   first_is h n = go w h n (row_here w ns rs g e h)
     where
-      go : (v : Word) → word_number v ≤ 10 → (word_number v ≡ 6 → ⊥) → Row T (word_number v) (shown_row c) ns (g.rows 10)
+      go : (v : Word) → word_number v ≤ 10 → (word_number v ≡ 6 → ⊥)
+          → Row T (word_number v) (shown_row c) ns (g.rows 10)
           → get_or T (row_at (word_number v) (shown_row c)) 0 ≡ get_or ns 0 0
-      go opt a b r = first_word T long (shown_row c) ns (g.rows 10) 0 (omega arith) r refl (omega arith)
-      go bank a b r = first_word T long (shown_row c) ns (g.rows 10) 1 (omega arith) r refl (omega arith)
-      go class a b r = first_word T long (shown_row c) ns (g.rows 10) 2 (omega arith) r refl (omega arith)
-      go reg a b r = first_word T long (shown_row c) ns (g.rows 10) 3 (omega arith) r refl (omega arith)
-      go block a b r = first_word T long (shown_row c) ns (g.rows 10) 4 (omega arith) r refl (omega arith)
-      go value a b r = first_word T long (shown_row c) ns (g.rows 10) 5 (omega arith) r refl (omega arith)
       go vgroup a b r = absurd (b refl)
-      go operand a b r = first_word T long (shown_row c) ns (g.rows 10) 7 (omega arith) r refl (omega arith)
-      go hint a b r = first_word T long (shown_row c) ns (g.rows 10) 8 (omega arith) r refl (omega arith)
-      go seg a b r = first_word T long (shown_row c) ns (g.rows 10) 9 (omega arith) r refl (omega arith)
-      go use' a b r = first_word T long (shown_row c) ns (g.rows 10) 10 (omega arith) r refl (omega arith)
       go end a b r = absurd (omega (arith, a))
+      go v a b r = first_word T long (shown_row c) ns (g.rows 10) (word_number v) a r refl (omega arith)
 
   -- the number k is this kind's
   of_kind : (k : ℕ) → eqb (word_number w) k ≡ true → word_number w ≡ k
@@ -210,18 +185,8 @@ module _ {T : List ℕ} {job : Job} {c : Cursor} (long : length T ≡ table_word
 
 -- by the kind
 word_cases : (P : Word → Type 0) → ((w : Word) → word_number w ≤ 10 → P w) → P end → (w : Word) → P w
-word_cases P p q opt = p opt (omega arith)
-word_cases P p q bank = p bank (omega arith)
-word_cases P p q class = p class (omega arith)
-word_cases P p q reg = p reg (omega arith)
-word_cases P p q block = p block (omega arith)
-word_cases P p q value = p value (omega arith)
-word_cases P p q vgroup = p vgroup (omega arith)
-word_cases P p q operand = p operand (omega arith)
-word_cases P p q hint = p hint (omega arith)
-word_cases P p q seg = p seg (omega arith)
-word_cases P p q use' = p use' (omega arith)
 word_cases P p q end = q
+word_cases P p q w = p w (omega arith)
 
 set_is : (T : List ℕ) (job : Job) (c : Cursor) (x : ℕ) → c.key ≡ 9
     → written_by true T job c x ≡ Some (set_of job (val (get_or T x 0))).0
@@ -262,55 +227,26 @@ module _ {T : List ℕ} {job : Job} {c : Cursor} (long : length T ≡ table_word
   written_is true w g e = go w g e (g.key ∙ ap word_number e)
     where
       go : (v : Word) (h : Going T job c (rec v ns ∷ rs)) → h.kind ≡ v → c.key ≡ word_number v
-          → written_by true T job c (row_at (word_number v) (shown_row c)) ≡ written true v (implied_field v c.insts job ns)
-      go opt h q k = rw k
-      go bank h q k = rw k
-      go class h q k = rw k
-      go reg h q k = rw k
-      go block h q k = rw k
-      go value h q k = rw k
-      go vgroup h q k = rw k
-      go operand h q k = rw k
-      go hint h q k = rw k
+          → written_by true T job c (row_at (word_number v) (shown_row c))
+          ≡ written true v (implied_field v c.insts job ns)
       go seg h q k =
           set_is T job c (row_at 9 (shown_row c)) k
           ∙ ap (λ (n : ℕ). Some (set_of job (val n)).0)
           (first_is long seg ns rs h q (omega arith) (λ z. omega (arith, z)))
-      go use' h q k = rw k
-      go end h q k = rw k
+      go v h q k = rw k
 
 -- the instructions behind a record, and no form line comes any more
 module _ (T : List ℕ) (c : Cursor) (x : ℕ) where
   insts_behind_lem : (w : Word) (ns : List ℕ) → c.key ≡ word_number w → (w ≡ block → get_or T x 0 ≡ at ns 0)
       → (behind_row T c x).insts ≡ insts_behind w c.insts ns
   unfolding behind_row
-  insts_behind_lem opt ns k h = rw k
-  insts_behind_lem bank ns k h = rw k
-  insts_behind_lem class ns k h = rw k
-  insts_behind_lem reg ns k h = rw k
   insts_behind_lem block ns k h = rw (k, h refl)
-  insts_behind_lem value ns k h = rw k
-  insts_behind_lem vgroup ns k h = rw k
-  insts_behind_lem operand ns k h = rw k
-  insts_behind_lem hint ns k h = rw k
-  insts_behind_lem seg ns k h = rw k
-  insts_behind_lem use' ns k h = rw k
-  insts_behind_lem end ns k h = rw k
+  insts_behind_lem w ns k h = rw k
 
   key_behind : (w : Word) → c.key ≡ word_number w → eqb (behind_row T c x).key 0 ≡ false
   unfolding behind_row
   key_behind opt k = rw k
-  key_behind bank k = rw k
-  key_behind class k = rw k
-  key_behind reg k = rw k
-  key_behind block k = rw k
-  key_behind value k = rw k
-  key_behind vgroup k = rw k
-  key_behind operand k = rw k
-  key_behind hint k = rw k
-  key_behind seg k = rw k
-  key_behind use' k = rw k
-  key_behind end k = rw k
+  key_behind w k = rw k
 
 no_front : (second : Bool) (k : ℕ) → eqb k 0 ≡ false → front_text second k ≡ []
 unfolding front_text
@@ -351,8 +287,8 @@ module _ (second : Bool) {T : List ℕ} {job : Job} {c : Cursor} (long : length 
   -- behind it
   text_behind : text_left second job c (rec w ns ∷ rs)
       ≡ (front_text second c.key
-      ++ line_text (word_number w) (take (field_count T (word_number w) first) (drop (first_field (word_number w) first) T))
-      (written_by second T job c first))
+      ++ line_text (word_number w) (take (field_count T (word_number w) first)
+      (drop (first_field (word_number w) first) T)) (written_by second T job c first))
       ++ text_left second job (behind_row T c first) rs
   unfolding text_left
   text_behind =
@@ -404,7 +340,7 @@ module _ (x : List ℕ) (c : Cursor) (more : eqb c.key 12 ≡ false) where
     module _ (second : Bool) (k : ℕ) (B : List ℕ) (w n front a z : ℕ) (more' : Option ℕ) (B₁ B₂ : List ℕ) (d : Cursor)
         (s : Shows x c) (h : has_row T c ≡ true) (ew : w ≡ row_at c.key (shown_row c))
         (en : n ≡ field_count T c.key w)
-        (ef : (job : Job) → job.values ≡ values_at T 1430 (rows_in T 5) → more' ≡ written_by second T job c w)
+        (ef : (job : Job) → job.values ≡ values_at T (row_at 5 0) (rows_in T 5) → more' ≡ written_by second T job c w)
         (wf : Wrote (7) k B front B₁ (front_text second c.key))
         (ea : a ≡ first_field c.key w)
         (wl : Wrote (248) front B₁ z B₂ (line_text c.key (take n (drop a T)) more'))
@@ -413,8 +349,8 @@ module _ (x : List ℕ) (c : Cursor) (more : eqb c.key 12 ≡ false) where
         -- by the number of the kind
         abbrev text_at : ℕ → List ℕ
         text_at j =
-            line_text j (take (field_count T j (row_at j (shown_row c))) (drop (first_field j (row_at j (shown_row c))) T))
-            (written_by second T job c (row_at j (shown_row c)))
+            line_text j (take (field_count T j (row_at j (shown_row c)))
+            (drop (first_field j (row_at j (shown_row c))) T)) (written_by second T job c (row_at j (shown_row c)))
 
         abbrev text_from : ℕ → List ℕ
         text_from v =

@@ -2,8 +2,7 @@
 use Rattle.std.specs.Prelude.{◌≡◌, refl, Bool, true, false, cond, ◌&&◌, ◌||◌, List, [], ◌∷◌, ℕ, ◌≤◌, ◌<◌, eqb}
 use Rattle.std.proofs.Common.{sym, ap, subst, ◌∙◌, arith, eqb-true, ne_eqb}
 use Rattle.std.proofs.lemmas.Bool.{false≢true}
-use Rattle.definition.specs.JobSheet.{Word, opt, bank, class, reg, block, value, vgroup, operand, hint, seg, use', end}
-use Rattle.definition.specs.JobSheet.{word_number, Record, next, among, only, ordered}
+use Rattle.definition.specs.JobSheet.{Word, opt, end, word_number, Record, next, among, only, ordered}
 use Rattle.sheet_rows.specs.Sheets.{ordered_first}
 use Rattle.form_agree.specs.Jobs.{same_word}
 use Rattle.job_pages.specs.Left.{later}
@@ -25,39 +24,14 @@ among_above k v (w ∷ ws) h e = go (eqb (word_number v) (word_number w)) refl e
         let s : word_number v ≡ word_number w = eqb-true (word_number v) (word_number w) q in omega (arith, h.0, s)
     go false q f ih = ih f
 
--- so from blocks on
-from_block : (k : ℕ) → k < 4 → Above k (block ∷ later block)
-from_block k l =
-    (omega arith, (omega arith, (omega arith, (omega arith, (omega arith, (omega arith, (omega arith, tt)))))))
-
 -- behind a record of a greater number come such records alone, up to hints
 next_above : (k : ℕ) → k ≤ 8 → (u : Word) → k < word_number u → Above k (next u)
-next_above k h opt l = absurd (omega (arith, l))
-next_above k h bank l = (omega arith, (omega arith, tt))
-next_above k h class l = (omega arith, (omega arith, (omega arith, tt)))
-next_above k h reg l = (omega arith, (omega arith, tt))
-next_above k h block l = from_block k l
-next_above k h value l = (omega arith, (omega arith, (omega arith, (omega arith, (omega arith, (omega arith, tt))))))
-next_above k h vgroup l = (omega arith, (omega arith, (omega arith, (omega arith, (omega arith, tt)))))
-next_above k h operand l = (omega arith, (omega arith, (omega arith, (omega arith, tt))))
-next_above k h hint l = (omega arith, (omega arith, (omega arith, tt)))
-next_above k h seg l = (omega arith, (omega arith, (omega arith, tt)))
-next_above k h use' l = (omega arith, (omega arith, (omega arith, tt)))
 next_above k h end l = tt
+next_above k h u l = omega arith
 
 later_above : (w : Word) → 1 ≤ word_number w → word_number w ≤ 8 → Above (word_number w) (later w)
 later_above opt a b = tt
-later_above bank a b = (omega arith, (omega arith, from_block 1 (omega arith)))
-later_above class a b = (omega arith, from_block 2 (omega arith))
-later_above reg a b = from_block 3 (omega arith)
-later_above block a b = (omega arith, (omega arith, (omega arith, (omega arith, (omega arith, (omega arith, tt))))))
-later_above value a b = (omega arith, (omega arith, (omega arith, (omega arith, (omega arith, tt)))))
-later_above vgroup a b = (omega arith, (omega arith, (omega arith, (omega arith, tt))))
-later_above operand a b = (omega arith, (omega arith, (omega arith, tt)))
-later_above hint a b = (omega arith, (omega arith, tt))
-later_above seg a b = absurd (omega (arith, b))
-later_above use' a b = absurd (omega (arith, b))
-later_above end a b = absurd (omega (arith, b))
+later_above w a b = omega arith
 
 -- where such words alone may come, there is no record of the kind
 none_above : (w : Word) → word_number w ≤ 8 → (rs : List Record) (ws : List Word) → Above (word_number w) ws

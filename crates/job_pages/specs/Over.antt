@@ -2,8 +2,7 @@
 use Rattle.std.specs.Prelude.{◌≡◌, Bool, true, false, List, [], ◌++◌, ℕ}
 use Rattle.std.proofs.Common.{sym, ap, ◌∙◌, inl, inr, arith}
 use Rattle.definition.specs.Types.{Job}
-use Rattle.definition.specs.JobSheet.{Word, opt, bank, class, reg, block, value, vgroup, operand, hint, seg, use', end}
-use Rattle.definition.specs.JobSheet.{word_number, Record}
+use Rattle.definition.specs.JobSheet.{Word, opt, word_number, Record}
 use Rattle.definition.specs.Conversion.{lines_text, grown}
 use Rattle.job_pages.specs.Cursors.{Cursor, front_text}
 use Rattle.job_pages.specs.Left.{Left, text_left}
@@ -16,17 +15,7 @@ over_text second T job c rs e (inl g) = absurd (few g.kind (sym g.key ∙ e))
   where
     few : (k : Word) → word_number k ≡ 12 → ⊥
     few opt q = omega (arith, q)
-    few bank q = omega (arith, q)
-    few class q = omega (arith, q)
-    few reg q = omega (arith, q)
-    few block q = omega (arith, q)
-    few value q = omega (arith, q)
-    few vgroup q = omega (arith, q)
-    few operand q = omega (arith, q)
-    few hint q = omega (arith, q)
-    few seg q = omega (arith, q)
-    few use' q = omega (arith, q)
-    few end q = omega (arith, q)
+    few k q = omega (arith, q)
 over_text true T job c rs e (inr o) =
     ap (λ (k : ℕ). front_text true k ++ lines_text true (grown c.insts job rs)) e
     ∙ ap (λ (l : List Record). lines_text true (grown c.insts job l)) o.none_left

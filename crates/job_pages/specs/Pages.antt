@@ -41,17 +41,17 @@ pub record Stepped (second : Bool) (T : List ℕ) (c : Cursor) (at : ℕ) (B : L
   pub goes : Goes second T c at B r.cur r.n B'
 
 -- what is left at c is the page's bytes and what is left behind it
-pub record Paged (second : Bool) (T : List ℕ) (job : Job) (c : Cursor) (rs : List Record) (r : Page Cursor) (B' : List ℕ) :
-    Type 0 where
+pub record Paged (second : Bool) (T : List ℕ) (job : Job) (c : Cursor) (rs : List Record) (r : Page Cursor)
+    (B' : List ℕ) : Type 0 where
   pub records : List Record
   pub left : Left T job r.cur records
   pub text : text_left second job c rs ≡ take r.n B' ++ text_left second job r.cur records
 
--- a page is written to the first bytes of the buffer, which is B' now: a next page can follow, and where the end was
--- not written and a line has room, fewer steps are left
+-- a page is written to the first bytes of the buffer, which is B' now, until the end is written or a line might have no
+-- room: a next page can follow, and where the end was not written and a line has room, fewer steps are left
 pub record Filled (second : Bool) (x : List ℕ) (c : Cursor) (r : Page Cursor) (B' : List ℕ) : Type 0 where
   pub within : r.n ≤ length B'
-  pub counts : r.n ≡ length (take r.n B')
+  pub full : eqb r.cur.key 12 ≡ false → length B' < r.n + 256
   pub shows : Shows x r.cur
   pub fewer : eqb c.key 12 ≡ false → 256 ≤ length B' → steps_left r.cur < steps_left c
   pub paged : (job : Job) (rs : List Record) → Left (words_of x) job c rs → Paged second (words_of x) job c rs r B'

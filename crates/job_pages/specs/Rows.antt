@@ -3,8 +3,7 @@ use Rattle.std.specs.Prelude.{◌≡◌, List, ℕ, zero, suc, ◌+◌, ◌-◌,
 use Rattle.std.proofs.Math.Path.{refl, sym, ap}
 use Rattle.std.proofs.Common.{◌∙◌, arith, length-drop, length-take-le, get_or-take, get_or-drop, ext_get_or}
 use Rattle.std.proofs.Math.ListN.{length, get_or}
-use Rattle.definition.specs.JobSheet.{Word, opt, bank, class, reg, block, value, vgroup, operand, hint, seg, use', end}
-use Rattle.definition.specs.JobSheet.{word_number, kind_fields}
+use Rattle.definition.specs.JobSheet.{Word, vgroup, use', end, word_number, kind_fields}
 use Rattle.sheet_places.specs.Places.{base_of, width_of, limit_of, stored_fields, stored_of, row_at, table_words}
 use Rattle.sheet_rows.specs.Regions.{first_of, sizes, row_is, row_end}
 use Rattle.sheet_rows.specs.Stands.{Row}
@@ -32,36 +31,19 @@ row_start w i = row_at (word_number w) i
 pub record Fields (T : List ℕ) (w : Word) (i : ℕ) (ns : List ℕ) : Type 0 where
   pub within : first_field (word_number w) (row_start w i) + field_count T (word_number w) (row_start w i) ≤ table_words
   pub few : field_count T (word_number w) (row_start w i) ≤ 8
-  pub are : take (field_count T (word_number w) (row_start w i)) (drop (first_field (word_number w) (row_start w i)) T) ≡ ns
+  pub are : take (field_count T (word_number w) (row_start w i)) (drop (first_field (word_number w) (row_start w i)) T)
+      ≡ ns
 
 -- as many numbers as a use of the kind has
 use_numbers_lem : (k : ℕ) → k ≤ 9 → use_length k ≡ 2 + kind_fields k
 unfolding use_length
-use_numbers_lem zero h = refl
-use_numbers_lem (suc zero) h = refl
-use_numbers_lem (suc (suc zero)) h = refl
-use_numbers_lem (suc (suc (suc zero))) h = refl
-use_numbers_lem (suc (suc (suc (suc zero)))) h = refl
-use_numbers_lem (suc (suc (suc (suc (suc zero))))) h = refl
-use_numbers_lem (suc (suc (suc (suc (suc (suc zero)))))) h = refl
-use_numbers_lem (suc (suc (suc (suc (suc (suc (suc zero))))))) h = refl
-use_numbers_lem (suc (suc (suc (suc (suc (suc (suc (suc zero)))))))) h = refl
-use_numbers_lem (suc (suc (suc (suc (suc (suc (suc (suc (suc zero))))))))) h = refl
 use_numbers_lem (suc (suc (suc (suc (suc (suc (suc (suc (suc (suc k)))))))))) h = absurd (omega (arith, h))
+use_numbers_lem k h = refl
 
 use_few : (k : ℕ) → k ≤ 9 → use_length k ≤ 6
 unfolding use_length
-use_few zero h = omega arith
-use_few (suc zero) h = omega arith
-use_few (suc (suc zero)) h = omega arith
-use_few (suc (suc (suc zero))) h = omega arith
-use_few (suc (suc (suc (suc zero)))) h = omega arith
-use_few (suc (suc (suc (suc (suc zero))))) h = omega arith
-use_few (suc (suc (suc (suc (suc (suc zero)))))) h = omega arith
-use_few (suc (suc (suc (suc (suc (suc (suc zero))))))) h = omega arith
-use_few (suc (suc (suc (suc (suc (suc (suc (suc zero)))))))) h = omega arith
-use_few (suc (suc (suc (suc (suc (suc (suc (suc (suc zero))))))))) h = omega arith
 use_few (suc (suc (suc (suc (suc (suc (suc (suc (suc (suc k)))))))))) h = absurd (omega (arith, h))
+use_few k h = omega arith
 
 module _ (T : List ℕ) (long : length T ≡ table_words) (i : ℕ) (ns : List ℕ) (u : ℕ) where
   -- n of the fields, from word a on
@@ -98,8 +80,8 @@ module _ (T : List ℕ) (long : length T ≡ table_words) (i : ℕ) (ns : List �
   -- a kind whose records all have the same number of fields
   plain_fields : (w : Word) → word_number w ≤ 10 → Row T (word_number w) i ns u
       → first_field (word_number w) (row_start w i) ≡ row_at (word_number w) i + first_of (word_number w)
-      → field_count T (word_number w) (row_start w i) ≡ stored_of (word_number w) → length ns ≡ stored_of (word_number w)
-      → Fields T w i ns
+      → field_count T (word_number w) (row_start w i) ≡ stored_of (word_number w)
+      → length ns ≡ stored_of (word_number w) → Fields T w i ns
   plain_fields w h r ea en l =
       let m : length ns ≤ stored_of (word_number w) = omega (arith, l) in
       let c : length ns ≡ field_count T (word_number w) (row_start w i) = l ∙ sym en in
@@ -113,15 +95,6 @@ module _ (T : List ℕ) (long : length T ≡ table_words) (i : ℕ) (ns : List �
   -- THE LAW: the words that are written of a row are its record's fields
   pub row_fields : (w : Word) → word_number w ≤ 10 → Row T (word_number w) i ns u → Fair w ns → Fields T w i ns
   unfolding field_count first_field stored_of stored_fields
-  row_fields opt h r f = plain_fields opt h r (omega arith) refl f.long
-  row_fields bank h r f = plain_fields bank h r (omega arith) refl f.long
-  row_fields class h r f = plain_fields class h r (omega arith) refl f.long
-  row_fields reg h r f = plain_fields reg h r (omega arith) refl f.long
-  row_fields block h r f = plain_fields block h r (omega arith) refl f.long
-  row_fields value h r f = plain_fields value h r (omega arith) refl f.long
-  row_fields operand h r f = plain_fields operand h r (omega arith) refl f.long
-  row_fields hint h r f = plain_fields hint h r (omega arith) refl f.long
-  row_fields seg h r f = plain_fields seg h r (omega arith) refl f.long
   row_fields end h r f = absurd (omega (arith, h))
   row_fields vgroup h r f =
       let e : row_at 6 i ≡ base_of 6 + i * width_of 6 + 0 = omega (arith, row_is 6 i r.within) in
@@ -146,3 +119,4 @@ module _ (T : List ℕ) (long : length T ≡ table_words) (i : ℕ) (ns : List �
         few = omega (arith, m);
         are = fields_are 10 (omega arith) r (row_at 10 i) (use_length (get_or T (row_at 10 i) 0)) (omega arith) c m;
       }
+  row_fields w h r f = plain_fields w h r (omega arith) refl f.long

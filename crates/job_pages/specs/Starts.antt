@@ -7,20 +7,21 @@ use Rattle.std.proofs.Math.Bool.{false}
 use Rattle.std.proofs.Math.Option.{Option, none, some}
 use mathlib.Core.List.{List, [], ◌∷◌, map}
 use Rattle.definition.specs.declared.Refusal.{Refusal}
-use Rattle.definition.specs.declared.Refusal.TheVariants.{NotARecord}
 use Rattle.definition.specs.declared.SheetRefusal.{SheetRefusal}
-use Rattle.definition.specs.declared.SheetRefusal.TheVariants.{By}
 use Rattle.definition.specs.Types.{Job}
 use Rattle.definition.specs.Place.{total}
 use Rattle.definition.specs.Entry.{insts_of, insts, entry}
 use Rattle.definition.specs.JobSheet.{Word, opt, block, word_number, Record, at, only, block_data_of, job_of_records}
-use Rattle.definition.specs.SheetForms.{is_second, records_in, as_written, tenth_test, tests_of, verdict_of, verdict, given'}
-use Rattle.definition.specs.SheetForms.{refused'}
-use Rattle.definition.specs.Conversion.{sheet_text, rec, shrunk, moved_records, moved_unless, moved_for, already, move_to}
+use Rattle.definition.specs.SheetForms.{is_second, records_in, as_written, tenth_test, verdict_of, verdict}
+use Rattle.definition.specs.SheetForms.{given'}
+use Rattle.definition.specs.Conversion.{sheet_text, rec, shrunk, moved_records, moved_sheet, moved_unless, already}
+use Rattle.definition.specs.Conversion.{move_to}
 use Rattle.definition.proofs.Entries.{accepted_insts}
+use Rattle.definition.proofs.Conversions.{other_form, moved_other}
+use Rattle.coalescing.specs.Rows.{values_at}
 use Rattle.job.specs.Job.{job_by, raw_job}
 use Rattle.sheet_places.specs.Places.{bases, base_of, widths, width_of, limits, limit_of, stored_fields, stored_of}
-use Rattle.sheet_places.specs.Places.{table_words}
+use Rattle.sheet_places.specs.Places.{row_at, table_words}
 use Rattle.agree.specs.Words.{none_some}
 use Rattle.agree.specs.Values.{Small}
 use Rattle.agree.specs.Table.{fill, blank}
@@ -97,8 +98,12 @@ module _ (rs : List Record) (s : Sound rs) (e : entry (job_of_records rs) ≡ no
   count w a b = ap (λ (k : ℕ). get_or table k 0) (sym (count_is (word_number w) a b))
       ∙ counted table_words refl rs under w a b
 
+  values_are : (job_of_records rs).values ≡ values_at table (row_at 5 0) (rows_in table 5)
+  unfolding raw_job job_by fixed_layout table_at row_at bases base_of widths width_of limits limit_of
+  values_are = sym (table_job table_words refl rs s under).values
+
   going : Each Fair rs → Going table (job_of_records rs) at_start rs
-  unfolding shown_row job_of_records raw_job job_by fixed_layout table_at
+  unfolding shown_row job_of_records
   going h = record {
     kind = opt;
     key = refl;
@@ -118,7 +123,7 @@ module _ (rs : List Record) (s : Sound rs) (e : entry (job_of_records rs) ≡ no
     fresh = λ k a b c d. refl;
     fair = h;
     insts = omega (arith, insts_few rs e);
-    values = sym (table_job table_words refl rs s under).values;
+    values = values_are;
   }
     where
       first : (xs : List Record) → SmallRecords xs → (fill (blank table_words) xs).over ≡ false → Opened xs
@@ -150,11 +155,6 @@ module _ (asked : Bool) (sheet T : List ℕ) (e : T ≡ sheet_table table_words 
           ∙ ap (λ (t : Bool). cond t (fill (blank table_words) ks).out (replicate table_words 0))
           (fits ks sound p)
 
-other_form : (asked second : Bool) → already asked second ≡ false → second ≡ not asked
-other_form true second a = a
-other_form false true a = refl
-other_form false false a = sym a
-
 entry_none : (o : Option Refusal) (w : Bool) → tenth_test o w ≡ none → o ≡ none
 entry_none none w p = refl
 entry_none (some r) w p = absurd (none_some (sym p))
@@ -162,34 +162,19 @@ entry_none (some r) w p = absurd (none_some (sym p))
 -- THE LAW: a sheet that passes, in the form that is not asked for, has its bare records left at the start
 pub moves : (asked : Bool) (sheet T : List ℕ) → T ≡ sheet_table table_words sheet → verdict sheet ≡ none
     → already asked (is_second sheet) ≡ false → Moves asked sheet T
-unfolding verdict bare_in move_to sheet_text moved_records text_left front_text
-moves asked sheet T e p a = go asked (records_in sheet) refl (other_form asked (is_second sheet) a) a
+unfolding verdict bare_in sheet_text moved_records text_left front_text
+moves asked sheet T e p a =
+    let s : is_second sheet ≡ not asked = other_form asked (is_second sheet) a in
+    go asked (records_in sheet) (ap (λ (t : Bool). bare_of t (records_in sheet)) s)
+    (ap (λ (t : Bool). verdict_of t (records_in sheet)) (sym s) ∙ p)
+    (moved_other asked sheet a
+    ∙ ap (λ (o : Option SheetRefusal). moved_unless o (moved_sheet asked (records_in sheet))) p)
   where
-    moved : (d : Bool) (rs : List Record) → records_in sheet ≡ some rs → already d (is_second sheet) ≡ false
-        → tests_of (not d) rs ≡ none → move_to d sheet ≡ given' (sheet_text d (moved_records d rs))
-    moved d rs i b q =
-        ap (λ (t : Bool). cond t (refused' (By NotARecord)) (moved_for d (records_in sheet))) b
-        ∙ ap (λ (m : Option (List Record)). moved_for d m) i
-        ∙ ap (λ (o : Option SheetRefusal). moved_unless o (sheet_text d (moved_records d rs))) q
-
-    passes : (t : Bool) (m : Option (List Record)) → is_second sheet ≡ t → records_in sheet ≡ m → verdict_of t m ≡ none
-    passes t m i j =
-        ap (λ (u : Bool). verdict_of u m) (sym i)
-        ∙ ap (λ (o : Option (List Record)). verdict_of (is_second sheet) o) (sym j)
-        ∙ p
-
-    bare : (t : Bool) (m : Option (List Record)) → is_second sheet ≡ t → records_in sheet ≡ m → bare_in sheet ≡ bare_of t m
-    bare t m i j = ap (λ (u : Bool). bare_of u (records_in sheet)) i ∙ ap (bare_of t) j
-
-    go : (d : Bool) (m : Option (List Record)) → records_in sheet ≡ m → is_second sheet ≡ not d
-        → already d (is_second sheet) ≡ false → Moves d sheet T
-    go d none j i b = absurd (none_some (sym (passes (not d) none i j)))
-    go true (some rs) j i b =
-        let q : tests_of false rs ≡ none = passes false (some rs) i j in
-        by_bare true sheet T e rs (bare false (some rs) i j) (entry_none (entry (job_of_records rs)) true q)
-        (moved true rs j b q)
-    go false (some rs) j i b =
-        let q : tests_of true rs ≡ none = passes true (some rs) i j in
-        by_bare false sheet T e (shrunk rs) (bare true (some rs) i j)
-        (ap entry (bare_job rs) ∙ entry_none (entry (job_of_records rs)) (as_written rs) q)
-        (moved false rs j b q)
+    go : (d : Bool) (m : Option (List Record)) → bare_in sheet ≡ bare_of (not d) m → verdict_of (not d) m ≡ none
+        → move_to d sheet ≡ given' (moved_sheet d m) → Moves d sheet T
+    go d none i q m = absurd (none_some (sym q))
+    go true (some rs) i q m =
+        by_bare true sheet T e rs i (entry_none (entry (job_of_records rs)) true q) m
+    go false (some rs) i q m =
+        by_bare false sheet T e (shrunk rs) i
+        (ap entry (bare_job rs) ∙ entry_none (entry (job_of_records rs)) (as_written rs) q) m

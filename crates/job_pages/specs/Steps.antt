@@ -1,11 +1,12 @@
 -- One step of the cursor: whether a record of its kind comes next, and what is left behind. Assumes nothing.
-use Rattle.std.specs.Prelude.{◌≡◌, refl, Bool, true, false, cond, List, [], ◌∷◌, ℕ, suc, ◌+◌, ◌-◌, ◌*◌, ◌≤◌, ◌<◌, ltb, eqb, length}
+use Rattle.std.specs.Prelude.{◌≡◌, refl, Bool, true, false, cond, List, [], ◌∷◌, ℕ, suc, ◌+◌, ◌-◌, ◌*◌, ◌≤◌, ◌<◌}
+use Rattle.std.specs.Prelude.{ltb, eqb, length}
 use Rattle.std.proofs.Common.{sym, ap, ◌∙◌, lt-ltb, le-ltb, eq-eqb}
 use Rattle.std.proofs.lemmas.Bool.{false≢true}
 use native.Mathlib.Omega.{arith}
 use Rattle.rows.specs.RowsAt.{length_rows_at}
 use Rattle.definition.specs.Types.{Job}
-use Rattle.definition.specs.JobSheet.{Word, opt, bank, class, reg, block, value, vgroup, operand, hint, seg, use', end}
+use Rattle.definition.specs.JobSheet.{Word, opt, seg, use', end}
 use Rattle.definition.specs.JobSheet.{word_number, Record, next, among, only, ordered, segments_of}
 use Rattle.definition.specs.Conversion.{rec}
 use Rattle.uses.specs.Rows.{raw_row}
@@ -23,32 +24,14 @@ module _ (T : List ℕ) (c : Cursor) where
   -- by the kind
   abbrev has_at : Word → Bool
   has_at opt = true
-  has_at bank = ltb (shown_row c) (rows_in T 1)
-  has_at class = ltb (shown_row c) (rows_in T 2)
-  has_at reg = ltb (shown_row c) (rows_in T 3)
-  has_at block = ltb (shown_row c) (rows_in T 4)
-  has_at value = ltb (shown_row c) (rows_in T 5)
-  has_at vgroup = ltb (shown_row c) (rows_in T 6)
-  has_at operand = ltb (shown_row c) (rows_in T 7)
-  has_at hint = ltb (shown_row c) (rows_in T 8)
-  has_at seg = ltb (shown_row c) (rows_in T 9)
   has_at use' = ltb c.uses (next_first T c.segs)
   has_at end = true
+  has_at w = ltb (shown_row c) (rows_in T (word_number w))
 
   has_at_lem : (w : Word) → c.key ≡ word_number w → has_row T c ≡ has_at w
   unfolding has_row
   has_at_lem opt e = rw e
-  has_at_lem bank e = rw e
-  has_at_lem class e = rw e
-  has_at_lem reg e = rw e
-  has_at_lem block e = rw e
-  has_at_lem value e = rw e
-  has_at_lem vgroup e = rw e
-  has_at_lem operand e = rw e
-  has_at_lem hint e = rw e
-  has_at_lem seg e = rw e
-  has_at_lem use' e = rw e
-  has_at_lem end e = rw e
+  has_at_lem w e = rw e
 
 -- a record of the kind itself, one more of it
 only_here : (w : Word) (ns : List ℕ) (rs : List Record) → length (only w (rec w ns ∷ rs)) ≡ suc (length (only w rs))
@@ -68,18 +51,8 @@ none_behind (r ∷ rs) e = go r.word (ordered_first (end ∷ []) r rs e)
 
     go : (w : Word) → (among w (end ∷ []) ≡ true) × (ordered (next w) rs ≡ true)
         → only seg (rec w r.fields ∷ rs) ≡ []
-    go opt o = absurd (false≢true o.0)
-    go bank o = absurd (false≢true o.0)
-    go class o = absurd (false≢true o.0)
-    go reg o = absurd (false≢true o.0)
-    go block o = absurd (false≢true o.0)
-    go value o = absurd (false≢true o.0)
-    go vgroup o = absurd (false≢true o.0)
-    go operand o = absurd (false≢true o.0)
-    go hint o = absurd (false≢true o.0)
-    go seg o = absurd (false≢true o.0)
-    go use' o = absurd (false≢true o.0)
     go end o = last rs o.1
+    go w o = absurd (false≢true o.0)
 
 module _ {T : List ℕ} {job : Job} {c : Cursor} where
   -- how many uses come next
@@ -121,19 +94,11 @@ has_here {T = T} {job = job} {c = c} w ns rs g e = has_at_lem T c w (at_key w ns
   where
     go : (v : Word) (ms : List ℕ) (h : Going T job c (rec v ms ∷ rs)) → h.kind ≡ v → has_at T c v ≡ true
     go opt ms h q = refl
-    go bank ms h q = counted_here bank ms rs h q (omega arith) (omega arith)
-    go class ms h q = counted_here class ms rs h q (omega arith) (omega arith)
-    go reg ms h q = counted_here reg ms rs h q (omega arith) (omega arith)
-    go block ms h q = counted_here block ms rs h q (omega arith) (omega arith)
-    go value ms h q = counted_here value ms rs h q (omega arith) (omega arith)
-    go vgroup ms h q = counted_here vgroup ms rs h q (omega arith) (omega arith)
-    go operand ms h q = counted_here operand ms rs h q (omega arith) (omega arith)
-    go hint ms h q = counted_here hint ms rs h q (omega arith) (omega arith)
-    go seg ms h q = counted_here seg ms rs h q (omega arith) (omega arith)
     go use' ms h q =
         let u = uses_next h in
         lt-ltb c.uses (next_first T c.segs) (omega (arith, u.0, u.1))
     go end ms h q = refl
+    go w ms h q = counted_here w ms rs h q (omega arith) (omega arith)
 
 -- and where a record of a later kind comes next it has none
 module _ {T : List ℕ} {job : Job} {c : Cursor} {rs : List Record} (g : Going T job c rs) where
@@ -156,20 +121,13 @@ module _ {T : List ℕ} {job : Job} {c : Cursor} {rs : List Record} (g : Going T
 
       go : (w : Word) → g.kind ≡ w → ordered (later w) rs ≡ true → has_at T c w ≡ false
       go opt e q = absurd (empty rs (some_left g) q)
-      go bank e q = plain bank e (omega arith) (omega arith) q
-      go class e q = plain class e (omega arith) (omega arith) q
-      go reg e q = plain reg e (omega arith) (omega arith) q
-      go block e q = plain block e (omega arith) (omega arith) q
-      go value e q = plain value e (omega arith) (omega arith) q
-      go vgroup e q = plain vgroup e (omega arith) (omega arith) q
-      go operand e q = plain operand e (omega arith) (omega arith) q
-      go hint e q = plain hint e (omega arith) (omega arith) q
       go seg e q = counted_none seg e (omega arith) (omega arith) (none_behind rs q)
       go use' e q =
           let u = uses_next g in
           let z : length (segments_of rs).waiting ≡ 0 = ap length (none_waits rs (seg ∷ end ∷ []) refl q) in
           le-ltb c.uses (next_first T c.segs) (omega (arith, u.0, u.1, z))
       go end e q = absurd (empty rs (some_left g) q)
+      go w e q = plain w e (omega arith) (omega arith) q
 
 -- THE LAW of the test: the first record left is of the cursor's kind exactly where it says so
 pub record Here (T : List ℕ) (job : Job) (c : Cursor) (rs : List Record) : Type 0 where

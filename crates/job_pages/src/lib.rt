@@ -1,4 +1,5 @@
-// A job sheet in either form from the table that the reader of job sheets filled, page by page through a lent buffer of any length.
+// A job sheet in either form from the table that the reader of job sheets filled, page by page through a lent buffer:
+// of any length, but with fewer than 256 bytes no line is written.
 #![tactic(auto)]
 
 ghost use Rattle.std.specs.Prelude.{◌≡◌, true, false, ◌+◌, ◌^◌, ◌≤◌, ◌<◌, eqb, length, get_or};
@@ -9,7 +10,8 @@ ghost use Rattle.sheet_rules.specs.Kinds.{number_of};
 ghost use Rattle.sheet_places.specs.Places.{table_words, row_at};
 ghost use Rattle.sheet_job.specs.Segments.{next_first};
 ghost use Rattle.lines.specs.Wrote.{Wrote};
-ghost use Rattle.job_pages.specs.Cursors.{cursor_of, at_start, shown_row, rows_in, has_row, passed_on, field_count, first_field, behind_row, written_by, front_text};
+ghost use Rattle.job_pages.specs.Cursors.{cursor_of, at_start, shown_row, rows_in, has_row, passed_on, field_count};
+ghost use Rattle.job_pages.specs.Cursors.{first_field, behind_row, written_by, front_text};
 ghost use Rattle.job_pages.specs.Pages.{page_at, Shows, Stepped, Filled};
 
 use definition::Value;
@@ -17,7 +19,8 @@ use lines::Page;
 use sheet_rules::Kind;
 use word_rows::Rows;
 
-// The kind of record that comes next, or none behind the end; how many rows of this kind, how many segments and how many uses are printed; how many instructions the printed blocks have.
+// The kind of record that comes next, or none behind the end; how many rows of this kind, how many segments and how
+// many uses are printed; how many instructions the printed blocks have.
 #[derive(Clone, Copy)]
 pub struct Cursor {
     pub key: Option<Kind>,
@@ -61,13 +64,13 @@ fn count(table: &[u8], key: Kind) -> usize
 }
 
 // Where the uses end of the last one of the first s segments.
-#[tactic(auto, unfolding(sheet_job::specs::Segments::next_first))]
+#[tactic(auto, unfolding(sheet_job::specs::Segments::next_first), using(crate::proofs::Places::segment_row))]
 fn uses_end(table: &[u8], s: usize) -> usize
-    requires { (word_count table.now ≡ table_words) × (s ≤ 1024) }
+    requires { (word_count table.now ≡ table_words) × (rows_in (words_of table.now) 9 ≤ 1024) }
     ensures { result ≡ next_first (words_of table.now) s }
 {
     if s < count(table, Kind::Seg) {
-        words::word_at(table, 13974 + s * 5 + 4) as usize
+        words::word_at(table, sheet_places::row_at(Some(Kind::Seg), s as u32) + 4) as usize
     } else {
         count(table, Kind::Use)
     }
@@ -76,7 +79,7 @@ fn uses_end(table: &[u8], s: usize) -> usize
 // Whether a record of its kind comes next. There is one opt and one end.
 #[tactic(auto, unfolding(crate::specs::Cursors::has_row))]
 fn has_row(table: &[u8], cur: Cursor) -> bool
-    requires { (word_count table.now ≡ table_words) × (cur.segs ≤ 1024) }
+    requires { (word_count table.now ≡ table_words) × (rows_in (words_of table.now) 9 ≤ 1024) }
     ensures { result ≡ has_row (words_of table.now) (cursor_of cur) }
 {
     match cur.key {
@@ -114,7 +117,8 @@ fn pass(cur: Cursor) -> Cursor
 // How many fields the record has whose row begins at word w.
 #[tactic(auto, unfolding(crate::specs::Cursors::field_count))]
 fn fields(table: &[u8], key: Kind, w: usize) -> usize
-    requires { (eqb (number_of key) 6 ≡ true → w < word_count table.now) × (eqb (number_of key) 10 ≡ true → (w < word_count table.now) × (get_or (words_of table.now) w 0 < 10)) }
+    requires { (eqb (number_of key) 6 ≡ true → w < word_count table.now)
+        × (eqb (number_of key) 10 ≡ true → (w < word_count table.now) × (get_or (words_of table.now) w 0 < 10)) }
     ensures { result ≡ field_count (words_of table.now) (number_of key) w }
 {
     match key {
@@ -137,10 +141,12 @@ fn first_field(key: Kind, w: usize) -> usize
 }
 
 // The field that the second form has behind a record: the first instruction of a block, the set of a segment.
-#[tactic(auto, unfolding(crate::specs::Cursors::written_by))]
+#[tactic(auto, unfolding(crate::specs::Cursors::written_by), using(crate::proofs::Places::value_row))]
 fn written(second: bool, table: &[u8], cur: Cursor, w: usize) -> Option<u32>
-    requires { (word_count table.now ≡ table_words) × (rows_in (words_of table.now) 5 ≤ 1024) × (eqb (cursor_of cur).key 9 ≡ true → w < table_words) }
-    ensures { (job : Job) → job.values ≡ values_at (words_of table.now) 1430 (rows_in (words_of table.now) 5) → result ≡ written_by second (words_of table.now) job (cursor_of cur) w }
+    requires { (word_count table.now ≡ table_words) × (rows_in (words_of table.now) 5 ≤ 1024)
+        × (eqb (cursor_of cur).key 9 ≡ true → w < table_words) }
+    ensures { (job : Job) → job.values ≡ values_at (words_of table.now) (row_at 5 0) (rows_in (words_of table.now) 5)
+        → result ≡ written_by second (words_of table.now) job (cursor_of cur) w }
 {
     if !second {
         return None;
@@ -150,7 +156,7 @@ fn written(second: bool, table: &[u8], cur: Cursor, w: usize) -> Option<u32>
         Some(Kind::Seg) => {
             let values = Rows {
                 words: table,
-                at: 1430,
+                at: sheet_places::row_at(Some(Kind::Value), 0),
                 n: count(table, Kind::Value),
             };
             let v = Value(words::word_at(table, w));
@@ -177,62 +183,69 @@ fn open(second: bool, key: Kind, buf: &mut [u8], at: usize) -> usize
 // Behind the record whose row begins at word w.
 #[tactic(auto, unfolding(crate::specs::Cursors::behind_row))]
 fn behind(table: &[u8], cur: Cursor, w: usize) -> Cursor
-    requires { ((cursor_of cur).key ≤ 11) × (cur.row < 2 ^ 32) × (cur.segs < 2 ^ 32) × (cur.uses < 2 ^ 32) × (eqb (cursor_of cur).key 4 ≡ true → (w < word_count table.now) × (cur.insts + get_or (words_of table.now) w 0 < 2 ^ 32)) }
+    requires { ((cursor_of cur).key ≤ 11) × (cur.row < 2 ^ 32) × (cur.segs < 2 ^ 32) × (cur.uses < 2 ^ 32)
+        × (eqb (cursor_of cur).key 4 ≡ true → (w < word_count table.now)
+        × (cur.insts + get_or (words_of table.now) w 0 < 2 ^ 32)) }
     ensures { cursor_of result ≡ behind_row (words_of table.now) (cursor_of cur) w }
 {
+    let mut next = cur;
     match cur.key {
-        Some(Kind::Opt) => Cursor {
-            key: Some(Kind::Bank),
-            row: 0,
-            ..cur
-        },
-        Some(Kind::Block) => Cursor {
-            insts: cur.insts + words::word_at(table, w),
-            row: cur.row + 1,
-            ..cur
-        },
-        Some(Kind::Seg) => Cursor {
-            key: Some(Kind::Use),
-            segs: cur.segs + 1,
-            ..cur
-        },
-        Some(Kind::Use) => Cursor {
-            uses: cur.uses + 1,
-            ..cur
-        },
-        Some(Kind::End) => Cursor { key: None, ..cur },
-        _ => Cursor {
-            row: cur.row + 1,
-            ..cur
-        },
+        Some(Kind::Opt) => {
+            next.key = Some(Kind::Bank);
+            next.row = 0;
+        }
+        Some(Kind::Block) => {
+            next.row += 1;
+            next.insts += words::word_at(table, w);
+        }
+        Some(Kind::Seg) => {
+            next.key = Some(Kind::Use);
+            next.segs += 1;
+        }
+        Some(Kind::Use) => next.uses += 1,
+        Some(Kind::End) => next.key = None,
+        _ => next.row += 1,
     }
+    next
 }
 
-// The line of the record that the cursor stands at.
-fn next_line(second: bool, table: &[u8], cur: Cursor, buf: &mut [u8], at: usize) -> Page<Cursor>
-    requires { Shows table.now (cursor_of cur) × (eqb (cursor_of cur).key 12 ≡ false) × (has_row (words_of table.now) (cursor_of cur) ≡ true) × (at + 256 ≤ length buf.old) }
+// The line of the record that the cursor stands at, which is of this kind.
+fn next_line(
+    second: bool,
+    table: &[u8],
+    key: Kind,
+    cur: Cursor,
+    buf: &mut [u8],
+    at: usize,
+) -> Page<Cursor>
+    requires { Shows table.now (cursor_of cur) × ((cursor_of cur).key ≡ number_of key)
+        × (has_row (words_of table.now) (cursor_of cur) ≡ true) × (at + 256 ≤ length buf.old) }
     ensures { Stepped second (words_of table.now) (cursor_of cur) at buf.old (page_at result) buf.new }
 {
-    let Some(key) = cur.key else { unreachable!() };
     let w = sheet_places::row_at(Some(key), shown(cur) as u32);
+    let next = behind(table, cur, w);
     let n = fields(table, key, w);
     let a = first_field(key, w);
     let more = written(second, table, cur, w);
     let front = open(second, key, buf, at);
     let end = job_lines::put_record(buf, front, Some(key), table, a, n, more);
-    Page {
-        cur: behind(table, cur, w),
-        n: end,
-    }
+    Page { cur: next, n: end }
 }
 
 // The next line, behind the first `at` bytes of the buffer; or nothing, where no record of this kind is left.
-fn put_next(second: bool, table: &[u8], cur: Cursor, buf: &mut [u8], at: usize) -> Page<Cursor>
-    requires { Shows table.now (cursor_of cur) × (eqb (cursor_of cur).key 12 ≡ false) × (at + 256 ≤ length buf.old) }
+fn put_next(
+    second: bool,
+    table: &[u8],
+    key: Kind,
+    cur: Cursor,
+    buf: &mut [u8],
+    at: usize,
+) -> Page<Cursor>
+    requires { Shows table.now (cursor_of cur) × ((cursor_of cur).key ≡ number_of key) × (at + 256 ≤ length buf.old) }
     ensures { Stepped second (words_of table.now) (cursor_of cur) at buf.old (page_at result) buf.new }
 {
     if has_row(table, cur) {
-        next_line(second, table, cur, buf, at)
+        next_line(second, table, key, cur, buf, at)
     } else {
         Page {
             cur: pass(cur),
@@ -250,8 +263,11 @@ pub fn fill(second: bool, table: &[u8], cur: Cursor, buf: &mut [u8]) -> Page<Cur
 {
     let mut page = Page { cur, n: 0 };
     // Line by line, and how many bytes a line takes is known behind it: no index counts here.
-    while page.n + 256 <= buf.len() && page.cur.key.is_some() {
-        page = put_next(second, table, page.cur, buf, page.n);
+    while page.n + 256 <= buf.len() {
+        let Some(key) = page.cur.key else {
+            return page;
+        };
+        page = put_next(second, table, key, page.cur, buf, page.n);
     }
     page
 }

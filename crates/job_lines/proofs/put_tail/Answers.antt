@@ -4,7 +4,8 @@ use Rattle.job_lines.proofs.Rowing.{more_field, more_none}
 use Rattle.job_lines.proofs.put_tail.Goals as goal
 
 pub returns-in-Some : goal.returns-in-Some
-returns-in-Some c = as_text 22 _ (then c.put_field-a.ensures c.put_bytes.ensures) (omega arith) (more_field _ _ c.in-Some.is)
+returns-in-Some c =
+    as_text 22 _ (then c.put_field-a.ensures c.put_bytes.ensures) (omega arith) (more_field _ _ c.in-Some.is)
 
 pub returns-in-None : goal.returns-in-None
 returns-in-None c = as_text 22 _ c.put_bytes-in-None.ensures (omega arith) (more_none _ c.in-None.is)

@@ -1,15 +1,16 @@
-use mathlib.Core.Path.{sym, ◌∙◌}
-use Rattle.job_pages.specs.Cursors.{none_key}
-use borrow.Author.Tests.{eq-eqb}
+use mathlib.Core.Path.{sym}
+use mathlib.Core.Bool.{false≢true}
+use native.Mathlib.Omega.{arith}
 use borrow.Author.Rules.{rules}
-use Rattle.job_pages.proofs.Fills.{next, at_end, at_room}
+use Rattle.job_pages.proofs.Fills.{next, filled}
 use Rattle.job_pages.proofs.fill.Goals as goal
 
 pub loop-page-preserved : goal.loop-page-preserved
-loop-page-preserved c = next c.loop-page.invariant c.put_next-page.ensures c.loop-page-test.true (search rules)
+loop-page-preserved c = next c.loop-page.invariant c.put_next-page.ensures (omega arith) (search rules)
 
-pub returns-else-is_some : goal.returns-else-is_some
-returns-else-is_some c = at_end c.loop-page.invariant (eq-eqb _ _ (none_key _ (sym c.is_some.ensures ∙ c.if-is_some.false)))
+pub returns-in_default : goal.returns-in_default
+returns-in_default c = filled c.loop-page.invariant
+    (λ q. absurd (false≢true (sym (rw c.in_default.is at q))))
 
-pub returns-after-loop-page : goal.returns-after-loop-page
-returns-after-loop-page c = at_room c.loop-page.invariant c.loop-page-test.false
+pub returns : goal.returns
+returns c = filled c.loop-page.invariant (λ q. c.loop-page-test.false)
