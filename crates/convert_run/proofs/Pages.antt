@@ -19,7 +19,7 @@ use Rattle.streams.specs.declared.Stream.{Stream}
 use Rattle.streams.specs.declared.Cut.{Cut}
 use Rattle.streams.specs.Tape.{at_of, WroteAll}
 use Rattle.streams.specs.Paper.{Writing, writing_start, writing_next, writing_failed, writing_end}
-use Rattle.convert_run.specs.Ran.{Shown, Refused}
+use Rattle.convert_run.specs.Shown.{Shown, Refused}
 
 -- what is written and what is left are the sheet
 pub record Kept (second : Bool) (T paper : List ℕ) (s cur : Stream) (c : Cursor) (P : List ℕ) (job : Job)
@@ -43,9 +43,9 @@ showing_start second x paper s c y e h =
       kept = λ job rs l. record { records = rs; left = l; writing = writing_start paper _ s h };
     })
 
-module _ (second : Bool) (x paper tape : List ℕ) (s cur : Stream) (c : Cursor) (P : List ℕ) (p : Page Cursor) (B : List ℕ)
-    (w : Result Unit Cut) (t : Stream) (Q : List ℕ) (h : Showing second x paper s cur c P) (f : Filled second x c p B)
-    (a : WroteAll tape P (take p.n B) cur w t Q) where
+module _ (second : Bool) (x paper tape : List ℕ) (s cur : Stream) (c : Cursor) (P : List ℕ) (p : Page Cursor)
+    (B : List ℕ) (w : Result Unit Cut) (t : Stream) (Q : List ℕ) (h : Showing second x paper s cur c P)
+    (f : Filled second x c p B) (a : WroteAll tape P (take p.n B) cur w t Q) where
   module _ (job : Job) (rs : List Record) (l : Left (words_of x) job at_start rs) where
     page_of : Paged second (words_of x) job c (h.kept job rs l).records p B
     page_of = f.paged job (h.kept job rs l).records (h.kept job rs l).left

@@ -1,15 +1,18 @@
-// All that `to_form2` and `to_form1` do between their first read and their last write, over streams: a job sheet is read and judged, and then written in the other form page by page.
+// All that `to_form2` and `to_form1` do between their first read and their last write, over streams: a job sheet is
+// read and judged, and then written in the other form page by page.
 #![tactic(auto)]
 
 ghost use Rattle.std.specs.Prelude.{◌≡◌, ◌≤◌, length, is_err, IsOk};
 ghost use Rattle.words.specs.Words.{word_count, words_of};
 ghost use Rattle.work_layout.specs.Regions.{max_work};
 ghost use Rattle.definition.specs.SheetForms.{sheet_number_of};
+ghost use Rattle.definition.specs.Conversion.{converted};
 ghost use Rattle.sheet_places.specs.Places.{table_words};
 ghost use Rattle.job_pages.specs.Cursors.{at_start};
 ghost use Rattle.job_pages.specs.Pages.{Shows};
 ghost use Rattle.streams.specs.Tape.{at_of};
-ghost use Rattle.convert_run.specs.Ran.{Shown, Refused, Put, Ran};
+ghost use Rattle.streams.specs.Paper.{Ran};
+ghost use Rattle.convert_run.specs.Shown.{Shown, Refused, Put};
 
 use definition::SheetRefusal;
 use std::io::{Read, Write};
@@ -68,7 +71,8 @@ fn put<W: Write>(
     buf: &mut [u8],
     sink: &mut W,
 ) -> Result<(), Cut>
-    requires { (IsOk verdict → Shows table.now at_start) × (256 ≤ length buf.old) × (at_of s.old ≤ length paper.old) }
+    requires { (IsOk verdict → Shows table.now at_start)
+        × (256 ≤ length buf.old) × (at_of s.old ≤ length paper.old) }
     ensures { Put second verdict (words_of table.now) tape.now paper.old s.old (is_err result) s.new paper.new }
 {
     match verdict {
@@ -77,9 +81,13 @@ fn put<W: Write>(
     }
 }
 
-// On a tape: the bytes that were given in the second form or the first, as is asked for, or the definition's refusal, on the paper; or the first bytes of that, where a write failed; or nothing, where a read failed.
+// On a tape: the bytes that were given in the second form or the first, as is asked for, or the definition's refusal,
+// on the paper; or the first bytes of that, where a write failed; or nothing, where a read failed.
 //
-// A program that copies a sheet already in the form asked for, or one that writes some lines and then `refused`, has not this contract.
+// A program that copies a sheet already in the form asked for, or one that writes some lines and then `refused`, has
+// not this contract.
+// The lent tables are parameters and no struct, as vregs_answer::Space is one: where their lengths are known at the
+// call, moving the largest sheet of the second form takes a sixth less time (docs/BENCHMARKS.md).
 pub fn convert<R: Read, W: Write>(
     second: bool,
     input: &mut Stream,
@@ -95,8 +103,10 @@ pub fn convert<R: Read, W: Write>(
     source: &mut R,
     sink: &mut W,
 ) -> Result<(), Broken>
-    requires { (at_of input.old ≤ length given.now) × (at_of output.old ≤ length paper.old) × (256 ≤ length buf.old) × (word_count table.old ≡ table_words) × (word_count written.old ≡ 1536) × (max_work ≤ word_count work.old) }
-    ensures { Ran second reads.now given.now input.old input.new writes.now paper.old output.old result output.new paper.new }
+    requires { (at_of input.old ≤ length given.now) × (at_of output.old ≤ length paper.old) × (256 ≤ length buf.old)
+        × (word_count table.old ≡ table_words) × (word_count written.old ≡ 1536) × (max_work ≤ word_count work.old) }
+    ensures { Ran (converted second) reads.now given.now input.old input.new
+        writes.now paper.old output.old result output.new paper.new }
 {
     let Ok(cur) = sheet_input::feed_all(input, reads, given, buf, table, written, source) else {
         return Err(Broken::Input);
@@ -108,8 +118,8 @@ pub fn convert<R: Read, W: Write>(
 // From a reader to a writer, with tables of its own. The streams are descriptors, so the tape, the bytes that it gives
 // and the paper, of one each, are looked at by nobody.
 // The five lines that make them stand in vregs and replay too: a type of all five would be longer to state.
-// No ensures: no trait promises what descriptors hold. What is promised is `convert`'s, whose requires hold the tables to
-// their sizes.
+// No ensures: no trait promises what descriptors hold. What is promised is `convert`'s, whose requires hold the tables
+// to their sizes.
 pub fn convert_input<R: Read, W: Write>(
     second: bool,
     source: &mut R,

@@ -1,6 +1,6 @@
 -- The verdict on a sheet that was read. Assumes nothing.
 use mathlib.Core.Path.{◌≡◌, refl, sym, ap, ◌∙◌}
-use mathlib.Core.Bool.{Bool, true, false, cond, false≢true}
+use mathlib.Core.Bool.{Bool, true, false, false≢true}
 use mathlib.Core.Option.{Option, none, some}
 use mathlib.Core.List.{List}
 use Rattle.std.specs.Prelude.{Result, Ok, Err, is_ok, IsOk}
@@ -9,9 +9,9 @@ use Rattle.words.specs.Words.{word_count, words_of}
 use Rattle.definition.specs.declared.SheetRefusal.{SheetRefusal}
 use Rattle.definition.specs.declared.SheetRefusal.TheVariants.{By}
 use Rattle.definition.specs.declared.Refusal.TheVariants.{NotARecord}
-use Rattle.definition.specs.JobSheet.{Record}
-use Rattle.definition.specs.SheetForms.{is_second, records_in, tests_of, verdict, verdict_of, refused'}
-use Rattle.definition.specs.Conversion.{already, moved_unless, moved_for, move_to, sheet_text, moved_records}
+use Rattle.definition.specs.SheetForms.{is_second, records_in, verdict}
+use Rattle.definition.specs.Conversion.{already, moved_sheet, moved_unless}
+use Rattle.definition.proofs.Conversions.{moved_same, moved_other}
 use Rattle.entry.specs.declared.Entered.{Entered}
 use Rattle.entry.specs.Number.{refusal_in}
 use Rattle.sheet_places.specs.Places.{table_words}
@@ -40,30 +40,6 @@ unless_verdict : (o : Option SheetRefusal) (t : List ℕ) → ended o ≡ moved_
 unless_verdict none t = refl
 unless_verdict (some r) t = refl
 
--- in the other form than the one that is asked for, the definition's
-for_verdict : (asked second : Bool) (m : Option (List Record)) → already asked second ≡ false
-    → ended (verdict_of second m) ≡ moved_verdict (moved_for asked m)
-for_verdict true true m e = absurd (false≢true (sym e))
-for_verdict true false none e = refl
-for_verdict true false (some rs) e = unless_verdict (tests_of false rs) (sheet_text true (moved_records true rs))
-for_verdict false true none e = refl
-for_verdict false true (some rs) e = unless_verdict (tests_of true rs) (sheet_text false (moved_records false rs))
-for_verdict false false m e = absurd (false≢true (sym e))
-
-other_verdict : (asked : Bool) (sheet : List ℕ) → already asked (is_second sheet) ≡ false
-    → ended (verdict sheet) ≡ moved_verdict (move_to asked sheet)
-unfolding verdict move_to
-other_verdict asked sheet e =
-    for_verdict asked (is_second sheet) (records_in sheet) e
-    ∙ ap (λ (b : Bool). moved_verdict (cond b (refused' (By NotARecord)) (moved_for asked (records_in sheet)))) (sym e)
-
--- and in that form no record's
-same_verdict : (asked : Bool) (sheet : List ℕ) → already asked (is_second sheet) ≡ true
-    → Err (By NotARecord) ≡ moved_verdict (move_to asked sheet)
-unfolding move_to
-same_verdict asked sheet e =
-    ap (λ (b : Bool). moved_verdict (cond b (refused' (By NotARecord)) (moved_for asked (records_in sheet)))) (sym e)
-
 -- ---- the sheets that lead here
 
 module _ (second : Bool) (cur : Reading) (b : Bool) (i : b ≡ already second (second_of (front_at cur.front))) where
@@ -76,20 +52,25 @@ module _ (second : Bool) (cur : Reading) (b : Bool) (i : b ≡ already second (s
   -- they have the form that is asked for
   pub settled_same : (W Y : List ℕ) → b ≡ true → Settles second cur W Y (Err (By NotARecord))
   settled_same W Y e = λ sheet s. record {
-    verdict = same_verdict second sheet (sym (front sheet W Y s) ∙ e);
+    verdict = ap moved_verdict (sym (moved_same second sheet (sym (front sheet W Y s) ∙ e)));
     moves = λ z. absurd (false≢true z);
   }
 
   -- they have the other one: the verdict is the definition's
-  pub settled_judged : (T U K : List ℕ) (r : Result Entered SheetRefusal) (v : Result Unit SheetRefusal) → word_count T ≡ table_words → word_count U ≡ 1536
+  pub settled_judged : (T U K : List ℕ) (r : Result Entered SheetRefusal) (v : Result Unit SheetRefusal)
+      → word_count T ≡ table_words → word_count U ≡ 1536
       → Judged cur T (words_of U) K r → v ≡ ended (refusal_in r) → b ≡ false
       → Settles second cur (words_of T) (words_of U) v
   settled_judged T U K r v l k j q f = λ sheet s.
       let a : already second (is_second sheet) ≡ false = sym (front sheet (words_of T) (words_of U) s) ∙ f in
       let d : v ≡ ended (verdict sheet) = q ∙ ap (λ (o : Option SheetRefusal). ended o) (j.refused sheet s) in
       record {
-        verdict = d ∙ other_verdict second sheet a;
+        verdict =
+            d
+            ∙ unless_verdict (verdict sheet) (moved_sheet second (records_in sheet))
+            ∙ ap moved_verdict (sym (moved_other second sheet a));
         moves = λ z.
-            let p : verdict sheet ≡ none = none_by (verdict sheet) (ap (λ (w : Result Unit SheetRefusal). is_ok w) (sym d) ∙ z) in
+            let p : verdict sheet ≡ none =
+            none_by (verdict sheet) (ap (λ (w : Result Unit SheetRefusal). is_ok w) (sym d) ∙ z) in
             moves second sheet (words_of T) (table_read sheet cur T U l k s p) p a;
       }

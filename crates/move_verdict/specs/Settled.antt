@@ -15,7 +15,8 @@ abbrev pub moved_verdict : SheetOut (List ℕ) → Result Unit SheetRefusal
 moved_verdict (given' t) = Ok tt
 moved_verdict (refused' r) = Err r
 
--- v is the verdict of the answer to the sheet; where it is no refusal, the words T have the records that are to be written
+-- v is the verdict of the answer to the sheet; where it is no refusal, the words T have the records that are to be
+-- written
 pub record Settled (second : Bool) (sheet T : List ℕ) (v : Result Unit SheetRefusal) : Type 0 where
   pub verdict : v ≡ moved_verdict (move_to second sheet)
   pub moves : IsOk v → Moves second sheet T
@@ -25,7 +26,8 @@ abbrev pub Settles : Bool → Reading → List ℕ → List ℕ → Result Unit 
 Settles second cur T Y v = (sheet : List ℕ) → LeadsTo sheet cur T Y → Settled second sheet T v
 
 -- a refusal's line by its number
-pub line_text : (r : SheetRefusal) (o : SheetOut (List ℕ)) → Err r ≡ moved_verdict o → refused_line (sheet_number_of r) ≡ moved_text o
+pub refused_line_text : (r : SheetRefusal) (o : SheetOut (List ℕ)) → Err r ≡ moved_verdict o
+    → refused_line (sheet_number_of r) ≡ moved_text o
 unfolding refused_line
-line_text r (given' t) e = absurd (true≢false (sym (ap is_ok e)))
-line_text r (refused' f) e = let m : r ≡ f = cc in ap (λ (k : SheetRefusal). refused_line (sheet_number_of k)) m
+refused_line_text r (given' t) e = absurd (true≢false (sym (ap is_ok e)))
+refused_line_text r (refused' f) e = let m : r ≡ f = cc in ap (λ (k : SheetRefusal). refused_line (sheet_number_of k)) m

@@ -1,4 +1,5 @@
-// The verdict on a job sheet that was read and is to be moved to a form: no record's refusal where it has that form already, else that of its tests, or none.
+// The verdict on a job sheet that was read and is to be moved to a form: 1 where it has that form already, else the
+// refusal of its tests, or none.
 #![tactic(auto)]
 
 ghost use Rattle.std.specs.Prelude.{◌≡◌, ◌≤◌};
@@ -21,7 +22,8 @@ fn is_already(second: bool, cur: Reading) -> bool
     second == sheet_form::is_second(cur)
 }
 
-// The refusal of every sheet that leads the reader to this state and these tables, or none where it is to be written. A sheet in the form that is asked for is refused with 1 before any test.
+// The refusal of every sheet that leads the reader to this state and these tables, or none where it is to be written. A
+// sheet in the form that is asked for is refused with 1 before any test.
 pub fn verdict_on(
     second: bool,
     cur: Reading,
@@ -29,7 +31,8 @@ pub fn verdict_on(
     written: &[u8],
     work: &mut [u8],
 ) -> Result<(), SheetRefusal>
-    requires { Streamed (open_form table_words 1536) (formed cur (words_of table.now) (words_of written.now)) × (word_count table.now ≡ table_words) × (word_count written.now ≡ 1536) × (max_work ≤ word_count work.old) }
+    requires { Streamed (open_form table_words 1536) (formed cur (words_of table.now) (words_of written.now))
+        × (word_count table.now ≡ table_words) × (word_count written.now ≡ 1536) × (max_work ≤ word_count work.old) }
     ensures { Settles second cur (words_of table.now) (words_of written.now) result }
 {
     if is_already(second, cur) {

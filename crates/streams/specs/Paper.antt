@@ -1,10 +1,16 @@
--- A text written page by page: what stands on the paper, and what is still to come. Assumes nothing.
-use Rattle.std.specs.Prelude.{◌≡◌, refl, Bool, true, false, List, [], ◌++◌, ℕ, ◌≤◌, ◌<◌, length, take, drop, get_or, Result, IsOk, IsErr}
+-- A text written page by page: what stands on the paper, and what is still to come; and a program that reads all and
+-- then writes one text. Assumes nothing.
+use Rattle.std.specs.Prelude.{◌≡◌, refl, Bool, true, false, List, [], ◌++◌, ℕ, ◌≤◌, ◌<◌, length, take, drop, get_or}
+use Rattle.std.specs.Prelude.{Result, Err, IsOk, IsErr, is_err}
+use Rattle.std.specs.Result.{result_or}
 use Rattle.std.proofs.Common.{sym, ap, ◌∙◌, append_assoc, arith, take-append-drop, take_all}
 use Rattle.std.proofs.lemmas.Bool.{false≢true}
 use Rattle.streams.specs.declared.Stream.{Stream}
 use Rattle.streams.specs.declared.Cut.{Cut}
-use Rattle.streams.specs.Tape.{is_tape, call_of, at_of, AllMarked, WroteAll, written}
+use Rattle.streams.specs.declared.Broken.{Broken}
+use Rattle.streams.specs.declared.Broken.TheVariants.{Input, Output}
+use Rattle.streams.specs.Tape.{is_tape, call_of, at_of, AllMarked, WroteAll, written, in_broken, out_broken}
+use Rattle.streams.specs.Ends.{or_broken}
 
 -- the text, behind what stood on the paper: all of it; or its first bytes, and then the tape fails there or the paper
 -- is full
@@ -36,7 +42,8 @@ module _ (paper text tape : List ℕ) (s cur : Stream) (page L P : List ℕ) (w 
   parted y =
       ap (λ (l : List ℕ). l ++ (drop (written page w) page ++ L)) (marked y).text
       ∙ append_assoc (take (at_of cur) P) (take (written page w) page) (drop (written page w) page ++ L)
-      ∙ ap (λ (l : List ℕ). take (at_of cur) P ++ l) (sym (append_assoc (take (written page w) page) (drop (written page w) page) L))
+      ∙ ap (λ (l : List ℕ). take (at_of cur) P ++ l)
+      (sym (append_assoc (take (written page w) page) (drop (written page w) page) L))
       ∙ ap (λ (l : List ℕ). take (at_of cur) P ++ (l ++ L)) (take-append-drop (written page w) page)
       ∙ h.text_left y
 
@@ -68,3 +75,40 @@ writing_end paper text tape s cur P h y = record {
   whole = λ _. refl;
   stopped = λ e. absurd (false≢true e);
 }
+
+-- ---- a program between its first read and its last write
+
+-- where a read failed nothing was written, and on a tape that read fails; else on a tape what was written is the answer
+-- to all bytes that are given, or its first bytes and then a write failed
+pub record Ran (answer : List ℕ → List ℕ) (reads given : List ℕ) (input at : Stream) (writes paper : List ℕ)
+    (output : Stream) (r : Result Unit Broken) (to : Stream) (P : List ℕ) : Type 0 where
+  pub nothing : in_broken r ≡ true → (P ≡ paper) × (to ≡ output)
+  pub unread : in_broken r ≡ true → is_tape input ≡ true → get_or reads (call_of at) 0 ≡ 0
+  pub written : in_broken r ≡ false → is_tape input ≡ true → is_tape output ≡ true
+      → OnPaper writes paper (answer (drop (at_of input) given)) output (out_broken r) to P
+
+module _ (answer : List ℕ → List ℕ) (reads given : List ℕ) (input at : Stream) (writes paper : List ℕ)
+    (output : Stream) where
+  -- a read failed
+  pub ran_unread : (is_tape input ≡ true → get_or reads (call_of at) 0 ≡ 0)
+      → Ran answer reads given input at writes paper output (Err Input) output paper
+  ran_unread h = record {
+    nothing = λ _. (refl, refl);
+    unread = λ _. h;
+    written = λ q. absurd (false≢true (sym q));
+  }
+
+  -- none did, and the last write failed or not
+  pub ran_written : (w : Result Unit Cut) (r : Result Unit Broken) (to : Stream) (P : List ℕ)
+      → r ≡ result_or w (Err Output)
+      → (is_tape input ≡ true → is_tape output ≡ true
+      → OnPaper writes paper (answer (drop (at_of input) given)) output (is_err w) to P)
+      → Ran answer reads given input at writes paper output r to P
+  ran_written w r to P e h =
+      let o : (in_broken r ≡ false) × (out_broken r ≡ is_err w) = or_broken w r e in
+      let none : in_broken r ≡ true → ⊥ = λ q. false≢true (sym o.0 ∙ q) in
+      record {
+        nothing = λ q. absurd (none q);
+        unread = λ q. absurd (none q);
+        written = λ _ y z. rw o.1 (h y z);
+      }

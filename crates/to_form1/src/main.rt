@@ -1,4 +1,5 @@
-// Reads a job sheet on standard input and writes it in the first form, or `refused` and the number, to standard output. What fails is said on standard error.
+// Reads a job sheet on standard input and writes it in the first form, or `refused` and the number, to standard
+// output. What fails is said on standard error.
 #![tactic(auto)]
 
 use std::env::{Env, FillError};

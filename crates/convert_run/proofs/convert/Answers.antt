@@ -1,11 +1,13 @@
 use native.Mathlib.Omega.{arith}
-use Rattle.sheet_verdict.specs.Fed.{streamed_in}
-use Rattle.convert_run.proofs.Starts.{shows_read, ran_unread, ran_written}
+use mathlib.Core.Path.{refl}
 use borrow.Author.Rules.{rules}
+use Rattle.sheet_verdict.specs.Fed.{streamed_in}
+use Rattle.streams.specs.Paper.{ran_unread, ran_written}
+use Rattle.convert_run.proofs.Starts.{shows_read, put_all}
 use Rattle.convert_run.proofs.convert.Goals as goal
 
 pub returns-in_default : goal.returns-in_default
-returns-in_default g c = ran_unread _ _ _ _ _ _ _ _ _ _ c.in_default.ensures
+returns-in_default g c = ran_unread _ _ _ _ _ _ _ _ (λ y. (c.in_default.ensures.on_tape y).stopped refl)
 
 pub verdict_on-verdict-requires : goal.verdict_on-verdict-requires
 verdict_on-verdict-requires g c = let p = c.requires in (
@@ -25,5 +27,6 @@ put-requires g c = let p = c.requires in (
 
 pub returns : goal.returns
 returns g c = let p = c.requires in
-    ran_written _ _ _ _ _ _ _ _ _ _ _ _ _ _ _ _ _ _ p.3 p.4 c.in-Ok.ensures
-    c.verdict_on-verdict.ensures c.put.ensures c.or.ensures
+    ran_written _ _ _ _ _ _ _ _ _ _ _ _ c.or.ensures
+    (put_all _ _ _ _ _ _ _ _ _ p.3 p.4 c.in-Ok.ensures _ _ _ _ _ _ _ _ c.verdict_on-verdict.ensures
+    c.put.ensures)

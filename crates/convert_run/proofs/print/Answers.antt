@@ -8,7 +8,8 @@ use Rattle.convert_run.proofs.print.Goals as goal
 
 pub returns-in_err-write_all : goal.returns-in_err-write_all
 returns-in_err-write_all g c = let p = err_from_is_err_and c.from_residual.result c.from_residual.ensures.1 in
-    rw p.1 (showing_failed _ _ _ _ _ _ _ _ _ _ _ _ _ c.loop-cur.invariant.2 c.fill-page.ensures c.in_err-write_all.ensures refl)
+    rw p.1 (showing_failed _ _ _ _ _ _ _ _ _ _ _ _ _ c.loop-cur.invariant.2 c.fill-page.ensures
+    c.in_err-write_all.ensures refl)
 
 pub loop-cur-smaller : goal.loop-cur-smaller
 loop-cur-smaller g c = let h = c.requires.1 in
@@ -23,4 +24,5 @@ loop-cur-preserved g c = (
 )
 
 pub returns : goal.returns
-returns g c = showing_end _ _ _ _ _ _ _ _ c.loop-cur.invariant.2 (none_key _ (sym c.is_some.ensures ∙ c.loop-cur-test.false))
+returns g c = showing_end _ _ _ _ _ _ _ _ c.loop-cur.invariant.2
+    (none_key _ (sym c.is_some.ensures ∙ c.loop-cur-test.false))

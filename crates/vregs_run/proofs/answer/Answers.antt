@@ -1,10 +1,12 @@
+use mathlib.Core.Path.{refl}
 use native.Mathlib.Omega.{arith}
 use Rattle.sheet_verdict.specs.Fed.{streamed_in}
-use Rattle.vregs_run.proofs.Starts.{prints_read, ran_unread, ran_written}
+use Rattle.streams.specs.Paper.{ran_unread, ran_written}
+use Rattle.vregs_run.proofs.Starts.{prints_read, shown_all}
 use Rattle.vregs_run.proofs.answer.Goals as goal
 
 pub returns-in_default : goal.returns-in_default
-returns-in_default g c = ran_unread _ _ _ _ _ _ _ _ _ c.in_default.ensures
+returns-in_default g c = ran_unread _ _ _ _ _ _ _ _ (λ y. (c.in_default.ensures.on_tape y).stopped refl)
 
 pub print-requires : goal.print-requires
 print-requires g c = let p = c.requires in
@@ -16,7 +18,7 @@ print-requires g c = let p = c.requires in
     )
 
 pub returns : goal.returns
-returns g c = let p = c.requires in
-    let sp = c.args.space.now in
-    ran_written _ _ _ _ _ _ _ _ _ _ _ _ _ _ _ _ _ _ _ sp.job sp.fields c.in-Ok.ensures
-    c.answer_table-end.ensures c.print.ensures c.or.ensures
+returns g c = let sp = c.args.space.now in
+    ran_written _ _ _ _ _ _ _ _ _ _ _ _ c.or.ensures
+    (shown_all _ _ _ _ _ _ _ _ _ sp.job sp.fields c.in-Ok.ensures _ _ _ _ _ _ _ _ _ c.answer_table-end.ensures
+    c.print.ensures)

@@ -14,10 +14,15 @@ loop-cur-init g c = let p = c.requires in
 
 pub returns-in_err-write_all : goal.returns-in_err-write_all
 returns-in_err-write_all g c = let p = err_from_is_err_and c.from_residual.result c.from_residual.ensures.1 in
-    rw p.1 (showing_failed _ _ _ _ _ _ _ _ _ _ _ _ _ _ c.loop-cur.invariant.2 c.page-page.ensures c.in_err-write_all.ensures refl)
+    rw p.1 (showing_failed _ _ _ _ _ _ _ _ _ _ _ _ _ _ c.loop-cur.invariant.2 c.page-page.ensures
+    c.in_err-write_all.ensures refl)
 
 pub loop-cur-preserved : goal.loop-cur-preserved
-loop-cur-preserved g c = (search rules, search rules, showing_next _ _ _ _ _ _ _ _ _ _ _ _ _ _ c.loop-cur.invariant.2 c.page-page.ensures c.in_ok-write_all.ensures refl)
+loop-cur-preserved g c = (
+  search rules,
+  search rules,
+  showing_next _ _ _ _ _ _ _ _ _ _ _ _ _ _ c.loop-cur.invariant.2 c.page-page.ensures c.in_ok-write_all.ensures refl,
+)
 
 pub returns : goal.returns
 returns g c = showing_end _ _ _ _ _ _ _ _ _ c.loop-cur.invariant.2 (not-false _ c.loop-cur-test.false)
