@@ -7,6 +7,7 @@ ghost use Rattle.lines.specs.Wrote.{Wrote};
 ghost use Rattle.home.specs.Tallies.{differs_line, tally_line, broken_line};
 
 use frames::NoFrame;
+use sheet_home::Lent;
 use std::io;
 use std::io::{Error, Stdout};
 use streams::{Noted, STDIN, Stream};
@@ -70,18 +71,10 @@ fn by_tests(answer: &[u8]) -> bool {
 }
 
 // What becomes of a stored sheet.
-fn way_of(
-    sheet: &[u8],
-    answer: &[u8],
-    there: &mut [u8],
-    back: &mut [u8; 524288],
-    table: &mut [u8; 174680],
-    written: &mut [u8; 6144],
-    work: &mut [u8; 110600],
-) -> Way
+fn way_of(sheet: &[u8], answer: &[u8], there: &mut [u8], lent: &mut Lent) -> Way
     requires { 256 ≤ length there.old }
 {
-    let Some(m) = sheet_home::comes_home(sheet, there, back, table, written, work) else {
+    let Some(m) = sheet_home::comes_home(sheet, there, lent) else {
         return Way::Differs;
     };
     if m.refused.is_none() {
@@ -106,14 +99,11 @@ fn way_at(
     answer: &[u8],
     m: usize,
     there: &mut [u8; 524288],
-    back: &mut [u8; 524288],
-    table: &mut [u8; 174680],
-    written: &mut [u8; 6144],
-    work: &mut [u8; 110600],
+    lent: &mut Lent,
 ) -> Way
     requires { (n ≤ length sheet.now) × (m ≤ length answer.now) }
 {
-    way_of(&sheet[..n], &answer[..m], there, back, table, written, work)
+    way_of(&sheet[..n], &answer[..m], there, lent)
 }
 
 fn put_tally(out: &mut [u8], home: u64, refused: u64, differ: u64, all: u64) -> usize
@@ -158,6 +148,17 @@ fn show_broken(t: Tally, sink: &mut Noted<Stdout>) -> bool
     streams::write_to(sink, &line[..n]).is_err()
 }
 
+// The one or the other, by what followed. Whether that is cut.
+fn show_end(t: Tally, e: NoFrame, sink: &mut Noted<Stdout>) -> bool
+    requires { t.home + t.refused + t.differ < 2 ^ 64 }
+{
+    if e == NoFrame::Ended {
+        show(t, sink)
+    } else {
+        show_broken(t, sink)
+    }
+}
+
 // Says on standard error that a line is cut.
 fn tell_cut(rt: &HostRuntime, sink: &Noted<Stdout>) -> io::Result<()> {
     let what = "home: the tally could not be written, and is cut";
@@ -181,15 +182,7 @@ fn end(
         let what = "home: the stored sheets could not be read, and nothing is tallied";
         return streams::fail(rt, what, reason);
     }
-    if t.cut {
-        return Ok(());
-    }
-    let cut = if e == NoFrame::Ended {
-        show(t, sink)
-    } else {
-        show_broken(t, sink)
-    };
-    if cut {
+    if !t.cut && show_end(t, e, sink) {
         return tell_cut(rt, sink);
     }
     Ok(())
@@ -203,10 +196,7 @@ fn run(
     sheet: &mut [u8; 262144],
     answer: &mut [u8; 524288],
     there: &mut [u8; 524288],
-    back: &mut [u8; 524288],
-    table: &mut [u8; 174680],
-    written: &mut [u8; 6144],
-    work: &mut [u8; 110600],
+    lent: &mut Lent,
 ) -> io::Result<()> {
     let mut source = Noted::new(rt.stdin());
     let mut sink = Noted::new(rt.stdout());
@@ -217,9 +207,7 @@ fn run(
     for _ in 0..u64::MAX {
         match frames::read_frame(&mut at, &tape, &given, sheet, answer, &mut source) {
             Ok(f) => {
-                let w = way_at(
-                    sheet, f.sheet, answer, f.answer, there, back, table, written, work,
-                );
+                let w = way_at(sheet, f.sheet, answer, f.answer, there, lent);
                 count(&mut t, w, &mut sink);
             }
             Err(e) => return end(rt, t, e, source.reason, &mut sink),
@@ -232,18 +220,15 @@ fn main(rt: HostRuntime) -> io::Result<()> {
     let mut sheet = [0u8; 262144];
     let mut answer = [0u8; 524288];
     let mut there = [0u8; 524288];
-    let mut back = [0u8; 524288];
+    let mut buf = [0u8; 65536];
     let mut table = [0u8; 174680];
     let mut written = [0u8; 6144];
     let mut work = [0u8; 110600];
-    run(
-        &rt,
-        &mut sheet,
-        &mut answer,
-        &mut there,
-        &mut back,
-        &mut table,
-        &mut written,
-        &mut work,
-    )
+    let mut lent = Lent {
+        buf: &mut buf,
+        table: &mut table,
+        written: &mut written,
+        work: &mut work,
+    };
+    run(&rt, &mut sheet, &mut answer, &mut there, &mut lent)
 }

@@ -1,14 +1,22 @@
 // A job sheet in memory moved to the other form as `to_form2` and `to_form1` answer it, and home again.
 #![tactic(auto)]
 
-ghost use Rattle.std.specs.Prelude.{◌≡◌, true, ◌≤◌, length, IfSome};
-ghost use Rattle.words.specs.Words.{word_count};
-ghost use Rattle.definition.specs.Conversion.{move_to, moved_text};
+ghost use Rattle.std.specs.Prelude.{◌≡◌, ◌≤◌, length, not};
+ghost use Rattle.words.specs.Words.{word_count, words_of};
+ghost use Rattle.definition.specs.Text.{same};
+ghost use Rattle.definition.specs.SheetForms.{is_second};
+ghost use Rattle.definition.specs.Conversion.{converted};
 ghost use Rattle.work_layout.specs.Regions.{max_work};
 ghost use Rattle.sheet_places.specs.Places.{table_words};
-ghost use Rattle.sheet_home.specs.Moved.{Answered};
+ghost use Rattle.job_pages.specs.Cursors.{at_start};
+ghost use Rattle.job_pages.specs.Pages.{Shows};
+ghost use Rattle.move_verdict.specs.Settled.{Settled};
+ghost use Rattle.sheet_home.specs.Moved.{Answered, TellsSheet, gets_back};
+
+mod lent;
 
 use definition::SheetRefusal;
+pub use lent::Lent;
 
 // An answer of n bytes: a sheet, or a refusal.
 #[derive(Clone, Copy)]
@@ -17,29 +25,37 @@ pub struct Moved {
     pub refused: Option<SheetRefusal>,
 }
 
-// The answer of the program that asks for this form, in one page; none where it has no room.
-// The lent tables are slices of so many words, by clauses: an array would ask for just so many bytes.
-pub fn move_sheet(
+// The verdict on the sheet, which is to be moved to a form; where that is none, the table has what is to be written.
+// By its parts and not by a Lent: of a part of a Lent that is lent on to be read, only its length is known then.
+fn settle(
     second: bool,
     sheet: &[u8],
-    out: &mut [u8],
     table: &mut [u8],
     written: &mut [u8],
     work: &mut [u8],
-) -> Option<Moved>
-    requires { (256 ≤ length out.old) × (word_count table.old ≡ table_words) × (word_count written.old ≡ 1536) × (max_work ≤ word_count work.old) }
-    ensures { Answered second sheet.now result out.new }
+) -> Result<(), SheetRefusal>
+    requires { (word_count table.old ≡ table_words) × (word_count written.old ≡ 1536)
+        × (max_work ≤ word_count work.old) }
+    ensures { Settled second sheet.now (words_of table.new) result }
 {
     let first = sheet_form::open(table, written);
     let cur = sheet_form::feed(first, sheet, table, written);
-    if let Err(r) = move_verdict::verdict_on(second, cur, table, written, work) {
+    move_verdict::verdict_on(second, cur, table, written, work)
+}
+
+// The answer of the program that asks for this form, in one page; none where that has no room for it and a line.
+pub fn move_sheet(second: bool, sheet: &[u8], out: &mut [u8], lent: &mut Lent) -> Option<Moved>
+    requires { 256 ≤ length out.old }
+    ensures { Answered second sheet.now result out.new }
+{
+    if let Err(r) = settle(second, sheet, lent.table, lent.written, lent.work) {
         let n = register_sheet::put_refused(out, 0, r.number());
         return Some(Moved {
             n,
             refused: Some(r),
         });
     }
-    let page = job_pages::fill(second, table, job_pages::start(), out);
+    let page = job_pages::fill(second, lent.table, job_pages::start(), out);
     if page.cur.key.is_some() {
         return None;
     }
@@ -49,67 +65,61 @@ pub fn move_sheet(
     })
 }
 
-// Whether the answer is what the program that asks for this form writes.
-pub fn is_moved(
-    second: bool,
-    sheet: &[u8],
-    answer: &[u8],
-    out: &mut [u8],
-    table: &mut [u8],
-    written: &mut [u8],
-    work: &mut [u8],
-) -> bool
-    requires { (256 ≤ length out.old) × (word_count table.old ≡ table_words) × (word_count written.old ≡ 1536) × (max_work ≤ word_count work.old) }
-    ensures { result ≡ true → answer.now ≡ moved_text (move_to second sheet.now) }
+// Whether the answer is the text of the records that the table has, in the form that is asked for.
+fn same_sheet(second: bool, table: &[u8], answer: &[u8], buf: &mut [u8]) -> bool
+    requires { Shows table.now at_start × (256 ≤ length buf.old) }
+    ensures { TellsSheet second (words_of table.now) answer.now result }
 {
-    match move_sheet(second, sheet, out, table, written, work) {
-        Some(m) => answer == &out[..m.n],
-        None => false,
+    let mut cur = job_pages::start();
+    let mut rest = answer;
+    // Page by page, and how many lines a page takes is known behind it: no index counts here.
+    while cur.key.is_some() {
+        let page = job_pages::fill(second, table, cur, buf);
+        let Some(behind) = rest.strip_prefix(&buf[..page.n]) else {
+            return false;
+        };
+        rest = behind;
+        cur = page.cur;
     }
+    rest.is_empty()
+}
+
+// Whether the answer is what the program that asks for this form writes.
+pub fn is_moved(second: bool, sheet: &[u8], answer: &[u8], lent: &mut Lent) -> bool
+    ensures { result ≡ same answer.now (converted second sheet.now) }
+{
+    if let Err(r) = settle(second, sheet, lent.table, lent.written, lent.work) {
+        let n = register_sheet::put_refused(lent.buf, 0, r.number());
+        return answer == &lent.buf[..n];
+    }
+    same_sheet(second, lent.table, answer, lent.buf)
 }
 
 // Whether the sheet is of the second form.
-fn form_of(sheet: &[u8], table: &mut [u8], written: &mut [u8]) -> bool {
-    let first = sheet_form::open(table, written);
-    let cur = sheet_form::feed(first, sheet, table, written);
+fn form_of(sheet: &[u8], lent: &mut Lent) -> bool
+    ensures { result ≡ is_second sheet.now }
+{
+    let first = sheet_form::open(lent.table, lent.written);
+    let cur = sheet_form::feed(first, sheet, lent.table, lent.written);
     sheet_form::is_second(cur)
 }
 
-// Whether what a sheet was moved to comes back as the sheet, where it is no refusal. The program of the sheet's own
-// form has to refuse the sheet with 1.
-fn gets_back(
-    second: bool,
-    m: Moved,
-    sheet: &[u8],
-    moved: &[u8],
-    back: &mut [u8],
-    table: &mut [u8],
-    written: &mut [u8],
-    work: &mut [u8],
-) -> bool
-    requires { (256 ≤ length back.old) × (word_count table.old ≡ table_words) × (word_count written.old ≡ 1536) × (max_work ≤ word_count work.old) }
+// Whether the program of the sheet's own form refuses it with 1 and, where what it was moved to is no refusal, gives it
+// back for that, byte for byte.
+fn gets_back(second: bool, m: Moved, sheet: &[u8], moved: &[u8], lent: &mut Lent) -> bool
+    ensures { result ≡ gets_back second m sheet.now moved.now }
 {
-    if !is_moved(second, sheet, b"refused\t1\n", back, table, written, work) {
-        return false;
-    }
-    m.refused.is_some() || is_moved(second, moved, sheet, back, table, written, work)
+    is_moved(second, sheet, b"refused\t1\n", lent)
+        && (m.refused.is_some() || is_moved(second, moved, sheet, lent))
 }
 
-// The sheet moved to the other form and, where that is no refusal, back, held to the sheet byte for byte; a refused
-// one has to be refused by its own program too. What it was moved to, where it came home.
-pub fn comes_home(
-    sheet: &[u8],
-    there: &mut [u8],
-    back: &mut [u8],
-    table: &mut [u8],
-    written: &mut [u8],
-    work: &mut [u8],
-) -> Option<Moved>
-    requires { (256 ≤ length there.old) × (256 ≤ length back.old) × (word_count table.old ≡ table_words) × (word_count written.old ≡ 1536) × (max_work ≤ word_count work.old) }
-    ensures { IfSome result (λ m. m.n ≤ length there.new) }
+// The sheet moved to the other form, and home again: what it was moved to, or none. That each sheet comes home is
+// proved of the definition, so none says that it had no room; here the programs' own code is run on it.
+pub fn comes_home(sheet: &[u8], there: &mut [u8], lent: &mut Lent) -> Option<Moved>
+    requires { 256 ≤ length there.old }
+    ensures { Answered (not (is_second sheet.now)) sheet.now result there.new }
 {
-    let second = form_of(sheet, table, written);
-    let m = move_sheet(!second, sheet, there, table, written, work)?;
-    let home = gets_back(second, m, sheet, &there[..m.n], back, table, written, work);
-    home.then_some(m)
+    let second = form_of(sheet, lent);
+    let m = move_sheet(!second, sheet, there, lent)?;
+    gets_back(second, m, sheet, &there[..m.n], lent).then_some(m)
 }

@@ -1,5 +1,5 @@
 // The samples of a document: blocks between lines that begin with three back quotes.
-ghost use Rattle.std.specs.Prelude.{◌≤◌, ◌<◌, length};
+ghost use Rattle.std.specs.Prelude.{◌≤◌, ◌<◌, length, IfSome};
 
 // A block: its lines, and the document behind it.
 #[derive(Clone, Copy)]
@@ -8,10 +8,22 @@ struct Block<'a> {
     rest: &'a [u8],
 }
 
-// A sheet and its answer, a block of one of the two marks that has no partner, or another block.
+// The program whose answer a block is.
+#[derive(Clone, Copy)]
+pub enum Program {
+    Vregs,
+    ToForm2,
+    ToForm1,
+}
+
+// A sheet and its answer, a block of one of the four marks that has no partner, or another block.
 #[derive(Clone, Copy)]
 pub enum Sample<'a> {
-    Paired { sheet: &'a [u8], answer: &'a [u8] },
+    Paired {
+        program: Program,
+        sheet: &'a [u8],
+        answer: &'a [u8],
+    },
     Alone,
     Other,
 }
@@ -81,6 +93,27 @@ fn job_block(doc: &[u8]) -> Block<'_>
     b
 }
 
+// The program whose answer begins with the document's first line.
+fn first_program(doc: &[u8]) -> Option<Program>
+    ensures { IfSome result (λ _. 0 < length doc.now) }
+{
+    if doc.starts_with(b"```registers\n") {
+        return Some(Program::Vregs);
+    }
+    if doc.starts_with(b"```to_form2\n") {
+        return Some(Program::ToForm2);
+    }
+    if doc.starts_with(b"```to_form1\n") {
+        return Some(Program::ToForm1);
+    }
+    None
+}
+
+// Whether the document's first line begins as that of an answer, whatever follows.
+fn is_marked(doc: &[u8]) -> bool {
+    doc.starts_with(b"```registers") || doc.starts_with(b"```to_form")
+}
+
 // What begins with the document's first line, which is one of three back quotes, and the document behind it.
 pub fn first_sample(doc: &[u8]) -> (Sample<'_>, &[u8])
     requires { 0 < length doc.now }
@@ -88,7 +121,7 @@ pub fn first_sample(doc: &[u8]) -> (Sample<'_>, &[u8])
 {
     let b = job_block(doc);
     if !doc.starts_with(b"```job") {
-        let s = if doc.starts_with(b"```registers") {
+        let s = if is_marked(doc) {
             Sample::Alone
         } else {
             Sample::Other
@@ -96,11 +129,12 @@ pub fn first_sample(doc: &[u8]) -> (Sample<'_>, &[u8])
         return (s, b.rest);
     }
     let fence = from_fence(b.rest);
-    if !fence.starts_with(b"```registers\n") {
+    let Some(program) = first_program(fence) else {
         return (Sample::Alone, b.rest);
-    }
+    };
     let a = first_block(fence);
     let s = Sample::Paired {
+        program,
         sheet: b.lines,
         answer: a.lines,
     };

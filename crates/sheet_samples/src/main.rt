@@ -1,5 +1,7 @@
-// Runs every sample of the document SHEETS.md: a block marked `job` is read, answered and printed, and held byte for byte to the block
-// marked `registers` behind it. Writes how many samples agree and differ, and how many such blocks have no partner. What fails is said on standard error.
+// Runs every sample of the document SHEETS.md: a block marked `job` is read and answered, and the answer held byte for
+// byte to the block behind it, marked `registers` for the answer of `vregs`, or `to_form2` or `to_form1` for that
+// program's. Writes how many samples agree and differ, and how many such blocks have no partner. What fails is said on
+// standard error.
 #![tactic(auto)]
 
 mod document;
@@ -8,7 +10,8 @@ ghost use Rattle.std.specs.Prelude.{◌+◌, ◌^◌, ◌≤◌, ◌<◌, length
 ghost use Rattle.lines.specs.Wrote.{Wrote};
 ghost use Rattle.sheet_samples.specs.Tallies.{differs_line, tally_line};
 
-use document::Sample;
+use document::{Program, Sample};
+use sheet_home::Lent;
 use std::fs::File;
 use std::io;
 use std::io::Stdout;
@@ -42,14 +45,34 @@ fn tell(number: u64, sink: &mut Noted<Stdout>) -> bool {
     streams::write_to(sink, &line[..n]).is_err()
 }
 
+// Whether the answer is what the program writes for the sheet.
+fn agrees(program: Program, sheet: &[u8], answer: &[u8], space: &mut Space) -> bool {
+    let second = match program {
+        Program::Vregs => return sheet_replay::is_answer(sheet, answer, space),
+        Program::ToForm2 => true,
+        Program::ToForm1 => false,
+    };
+    let mut lent = Lent {
+        buf: &mut *space.buf,
+        table: &mut *space.table,
+        written: &mut *space.written,
+        work: &mut *space.work,
+    };
+    sheet_home::is_moved(second, sheet, answer, &mut lent)
+}
+
 // One more block.
 fn count(s: Sample<'_>, t: &mut Tally, space: &mut Space, sink: &mut Noted<Stdout>)
     requires { t.old.agree + t.old.differ + t.old.alone < 2 ^ 63 }
     ensures { t.new.agree + t.new.differ + t.new.alone ≤ t.old.agree + t.old.differ + t.old.alone + 1 }
 {
     match s {
-        Sample::Paired { sheet, answer } => {
-            if sheet_replay::is_answer(sheet, answer, space) {
+        Sample::Paired {
+            program,
+            sheet,
+            answer,
+        } => {
+            if agrees(program, sheet, answer, space) {
                 t.agree += 1;
             } else {
                 t.differ += 1;
