@@ -123,6 +123,8 @@ at_limits() { # NAME WORD WORD: what gen makes by these words
         feed "$1" "$d/moved" <"$d/first"
     elif grep -q '^form' "$d/moved"; then
         feed "$1" "$d/first" <"$d/moved"
+    else
+        echo "$label$1: not tried, refused in the first form"
     fi
 }
 

@@ -14,8 +14,8 @@ pub fn docs() -> PathBuf {
     Path::new(env!("CARGO_MANIFEST_DIR")).join("../docs")
 }
 
-/// Every pair in docs/samples, its folder of the second form and docs/pictures, and every pair of blocks in
-/// docs/SHEETS.md.
+/// Every pair in docs/samples, its folder of the second form and docs/pictures, and every pair of a `job` and a
+/// `registers` block in docs/SHEETS.md.
 pub fn pairs() -> Vec<Pair> {
     let mut pairs = folder(&docs().join("samples"));
     pairs.extend(folder(&docs().join("samples/second")));
