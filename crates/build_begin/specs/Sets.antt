@@ -13,7 +13,7 @@ use Rattle.definition.specs.Entry.{in_order, chained, every, entry, entry_tests,
 use Rattle.definition.proofs.Places.{All, all_split}
 use Rattle.definition.proofs.Entries.{and_both, lowest_none, Good}
 use Rattle.definition.proofs.Fits.{SegsFit}
-use Rattle.definition.proofs.Order.{Rise, runs_rise}
+use Rattle.definition.proofs.Rises.{Rise, runs_rise}
 use Rattle.definition.proofs.Admission.{UseFits, SegFits}
 use Rattle.uses.specs.Rows.{use_row}
 use Rattle.layout.specs.declared.Layout.{Layout}

@@ -14,10 +14,10 @@ use Rattle.definition.specs.Entry.{lowest_of, entry_tests, entry}
 use Rattle.definition.specs.Text.{◌>>=◌}
 use Rattle.definition.specs.JobSheet.{Record, job_of_records}
 use Rattle.definition.specs.SheetForms.{is_second, records_in, job_in, as_written, sheet_number_of, tenth_test}
-use Rattle.definition.specs.SheetForms.{verdict_of}
+use Rattle.definition.specs.SheetForms.{verdict_of, given_unless}
 use Rattle.definition.specs.SheetForms.{verdict, SheetOut, given', refused', answer_to_sheet, answer_text}
 use Rattle.definition.specs.SheetForms.{refusal_text, vregs_of}
-use Rattle.definition.specs.Conversion.{sheet_text, moved_records, moved_sheet, moved_unless, already, move_to}
+use Rattle.definition.specs.Conversion.{sheet_text, moved_records, moved_sheet, already, move_to}
 use Rattle.definition.specs.Conversion.{moved_text}
 use Rattle.definition.specs.Conversion.{to_form1, to_form2}
 use Rattle.definition.proofs.Places.{All}
@@ -48,7 +48,7 @@ moved_text_lem : (asked : Bool) (bs : List ℕ) (rs : List Record) → already a
     → move_to asked bs ≡ given' (sheet_text asked (moved_records asked rs))
 moved_text_lem asked bs rs a f v =
     moved_other asked bs a
-    ∙ ap (λ (o : Option SheetRefusal). moved_unless o (moved_sheet asked (records_in bs))) v
+    ∙ ap (λ (o : Option SheetRefusal). given_unless o (moved_sheet asked (records_in bs))) v
     ∙ ap (λ (m : Option (List Record)). given' (moved_sheet asked m)) f
 
 job_by : (bs : List ℕ) (rs : List Record) → records_in bs ≡ some rs → job_in bs ≡ some (job_of_records rs)
@@ -154,10 +154,10 @@ pub promise_refused : (asked : Bool) (bs : List ℕ) → already asked (is_secon
     → (move_to asked bs ≡ refused' r → verdict bs ≡ some r) × (verdict bs ≡ some r → move_to asked bs ≡ refused' r)
 promise_refused asked bs a r = (
   λ e. go (verdict bs) (sym (moved_other asked bs a) ∙ e),
-  λ e. moved_other asked bs a ∙ ap (λ (o : Option SheetRefusal). moved_unless o (moved_sheet asked (records_in bs))) e,
+  λ e. moved_other asked bs a ∙ ap (λ (o : Option SheetRefusal). given_unless o (moved_sheet asked (records_in bs))) e,
 )
   where
-    go : (o : Option SheetRefusal) → moved_unless o (moved_sheet asked (records_in bs)) ≡ refused' r → o ≡ some r
+    go : (o : Option SheetRefusal) → given_unless o (moved_sheet asked (records_in bs)) ≡ refused' r → o ≡ some r
     go none e = absurd (let z : ◌≡◌ {A = ℕ} 0 1 = cc in omega arith)
     go (some q) e = let m : q ≡ r = cc in ap some m
 

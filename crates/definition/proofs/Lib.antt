@@ -13,7 +13,7 @@ pub mod Rounds
 pub mod Points
 pub mod Entries
 pub mod ReadBack
-pub mod Order
+pub mod Rises
 pub mod Same
 pub mod Printed
 pub mod Runs
@@ -29,7 +29,7 @@ pub mod Promises
 pub mod Touched
 pub mod Weighed
 pub mod Written
-mod SheetCases
+pub mod SheetCases
 mod ConversionCases
 pub mod Conversions
 pub mod Forms

@@ -19,7 +19,7 @@ use Rattle.definition.proofs.Places.{total_append, counted, All, all_map}
 use Rattle.definition.proofs.Points.{Additive, cond_sum, of_own, Steady, own_uses}
 use Rattle.definition.proofs.ReadBack.{Test, of_piece}
 use Rattle.definition.proofs.Entries.{and_both, conj_all, every_all, Good, segment_good}
-use Rattle.definition.proofs.Order.{led_by, of_total, Rise, runs_rise}
+use Rattle.definition.proofs.Rises.{led_by, of_total, Rise, runs_rise}
 use Rattle.definition.proofs.Same.{same_use_lem}
 use Rattle.definition.proofs.Sets.{InSet}
 

@@ -27,7 +27,7 @@ use Rattle.definition.proofs.Points.{Additive, points_additive, of_own, own_uses
 use Rattle.definition.proofs.Entries.{lowest_none}
 use Rattle.definition.proofs.Tables.{nth}
 use Rattle.definition.proofs.Accepted.{Kept, kept, accepted}
-use Rattle.definition.proofs.Order.{led_by, InOrder, built_in_order, of_total, Rise}
+use Rattle.definition.proofs.Rises.{led_by, InOrder, built_in_order, of_total, Rise}
 use Rattle.definition.proofs.Same.{class_test, other_test, first_total, first_is}
 use Rattle.definition.proofs.Printed.{read_point, read_use, piece_uses, points_read, uses_read}
 use Rattle.definition.proofs.Sets.{InSet, built_in_set, runs_in}

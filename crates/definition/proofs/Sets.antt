@@ -11,7 +11,7 @@ use lib.Seq.{get_or-append-add, get_or-set_same, get_or-set_other}
 use lib.Dec.{ltb, eqb}
 use lib.Ieee.{Float}
 use borrow.Author.Tests.{ltb-true, ltb-false, eqb-false, eq-eqb, ne_eqb}
-use Rattle.definition.specs.Types.{Inst, Value, ValueSet, RegClass, VirtReg, VirtRegGroup, UseKind, Use, Segment, Job, Room, HeldGroup, Held, Piece, Register, Mapped, State, MappedTwice, Overlap, done, inst, val, vset, vreg, vrgroup}
+use Rattle.definition.specs.Types.{Inst, Value, ValueSet, RegClass, VirtReg, VirtRegGroup, UseKind, Use, Segment, Job, Room, HeldGroup, Held, Piece, Register, Mapped, State, MappedTwice, Overlap, done, val, vset, vreg, vrgroup}
 use Rattle.definition.specs.RegInfo.{class_at, common_subclass, set_of}
 use Rattle.definition.specs.Uses.{slot_of}
 use Rattle.definition.specs.Weights.{weight_of}
@@ -24,7 +24,7 @@ use Rattle.definition.proofs.Entries.{every_all}
 use Rattle.definition.proofs.Scans.{scan_step}
 use Rattle.definition.proofs.Tables.{nth, same_group, nth_left, AllMapped, mapped_found, map_all, or_empty, operand_at, vgroup_at_lem, all_inserted, piece_uses, guarded, fits_parts, KindIs, kind_cases, uses_are}
 use Rattle.definition.proofs.Runs.{SegOk, PieceOk, RunOk, runs_all, sets_kept}
-use Rattle.definition.proofs.Order.{AllOf, Rise}
+use Rattle.definition.proofs.Rises.{AllOf, Rise}
 use Rattle.definition.proofs.Accepted.{group_operand}
 
 -- the pieces of a register are of values of its set

@@ -28,7 +28,7 @@ use Rattle.definition.proofs.Fits.{SegsFit, right_fit, turn_fit}
 use Rattle.definition.proofs.Tables.{nth, nth_last, spread_len}
 use Rattle.definition.proofs.Entries.{accepted_ends, accepted_fit, accepted_insts}
 use Rattle.definition.proofs.Builder.{Part, Placing, Keeps, all, before, built_kept, part_all, set_kept, turn_all}
-use Rattle.definition.proofs.Order.{part_follows}
+use Rattle.definition.proofs.Rises.{part_follows}
 use Rattle.definition.proofs.Runs.{runs_all}
 use Rattle.definition.proofs.Touched.{live_insts_most}
 

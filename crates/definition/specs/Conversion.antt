@@ -4,7 +4,6 @@
 use Rattle.std.specs.Prelude.{ℕ, ◌+◌, Bool, true, false, not, cond, List, [], ◌∷◌, ◌++◌, map, take}
 use Rattle.std.proofs.Math.Option.{Option, none, some}
 use Rattle.definition.specs.declared.Refusal.TheVariants.{NotARecord}
-use Rattle.definition.specs.declared.SheetRefusal.{SheetRefusal}
 use Rattle.definition.specs.declared.SheetRefusal.TheVariants.{By}
 use Rattle.definition.specs.Types.{Job, val}
 use Rattle.definition.specs.RegInfo.{set_of}
@@ -12,7 +11,8 @@ use Rattle.definition.specs.Text.{decimal, eight_digits, tabbed}
 use Rattle.definition.specs.JobSheet.{Word, opt, bank, class, reg, block, value, vgroup, operand, hint, seg, use'}
 use Rattle.definition.specs.JobSheet.{end, spelling, Form, up_to, bits, number, flag, remat, use_flags, Record, at}
 use Rattle.definition.specs.JobSheet.{job_of_records}
-use Rattle.definition.specs.SheetForms.{form_line, is_second, records_in, verdict, SheetOut, given', refused', refusal_text}
+use Rattle.definition.specs.SheetForms.{form_line, is_second, records_in, verdict, SheetOut, given', refused'}
+use Rattle.definition.specs.SheetForms.{given_unless, refusal_text}
 
 -- ---- the text of a record
 
@@ -136,22 +136,18 @@ abbrev pub moved_sheet : Bool → Option (List Record) → List ℕ
 moved_sheet asked none = []
 moved_sheet asked (some rs) = sheet_text asked (moved_records asked rs)
 
--- "A sheet that tests 1 to 7 or 10 refuse is answered by `refused` and the same number alone; 8 and 9 play no part."
-abbrev pub moved_unless : Option SheetRefusal → List ℕ → SheetOut (List ℕ)
-moved_unless (some r) t = refused' r
-moved_unless none t = given' t
-
 -- whether a sheet that is of the second form or not has the form asked for
 abbrev pub already : Bool → Bool → Bool
 already true second = second
 already false second = not second
 
--- "A sheet already in the form asked for gets 1, whatever else is wrong with it."
+-- "A sheet already in the form asked for gets 1, whatever else is wrong with it."; "A sheet that tests 1 to 7 or 10 refuse
+-- is answered by `refused` and the same number alone; 8 and 9 play no part."
 unfoldable pub move_to : Bool → List ℕ → SheetOut (List ℕ)
 unfolding is_second records_in verdict moved_records sheet_text
 move_to asked bs =
     cond (already asked (is_second bs)) (refused' (By NotARecord))
-    (moved_unless (verdict bs) (moved_sheet asked (records_in bs)))
+    (given_unless (verdict bs) (moved_sheet asked (records_in bs)))
 
 -- ---- what the programs write
 

@@ -19,3 +19,4 @@ pub mod JobSheet
 pub mod RegisterSheet
 pub mod SheetForms
 pub mod Conversion
+pub mod JobOrder

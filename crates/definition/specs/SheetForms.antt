@@ -147,6 +147,11 @@ pub data SheetOut (A : Type 0) : Type 0 where
   given' : A → SheetOut A
   refused' : SheetRefusal → SheetOut A
 
+-- what a sheet gives, unless its verdict refuses it
+abbrev pub given_unless : {A : Type 0} → Option SheetRefusal → A → SheetOut A
+given_unless (some r) a = refused' r
+given_unless none a = given' a
+
 -- an answer to a job, as one to its sheet
 abbrev pub lift : {A : Type 0} → Out A → SheetOut A
 lift (done a) = given' a

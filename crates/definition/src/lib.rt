@@ -3,7 +3,9 @@
 
 ghost use Rattle.std.specs.Prelude.{◌≡◌};
 ghost use Rattle.definition.specs.Types.{number_of};
+ghost use Rattle.definition.specs.Text.{bytes};
 ghost use Rattle.definition.specs.SheetForms.{sheet_number_of};
+ghost use Rattle.definition.specs.JobOrder.{order_word};
 
 // One tuple struct for each kind of index, as the Rust's entity types.
 
@@ -247,6 +249,27 @@ impl SheetRefusal {
         match self {
             SheetRefusal::By(f) => f.number(),
             SheetRefusal::WrittenDiffers => 10,
+        }
+    }
+}
+
+// Where the first of two jobs stands to the second in the fixed order of jobs.
+#[derive(Clone, Copy, PartialEq, Eq)]
+pub enum Order {
+    Before,
+    Same,
+    After,
+}
+
+impl Order {
+    // The word of an answer.
+    pub fn word(self) -> &'static [u8]
+        ensures { result.now ≡ bytes (order_word self) }
+    {
+        match self {
+            Order::Before => b"before",
+            Order::Same => b"same",
+            Order::After => b"after",
         }
     }
 }

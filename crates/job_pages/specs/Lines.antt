@@ -322,7 +322,7 @@ module _ (x : List ℕ) (c : Cursor) (more : eqb c.key 12 ≡ false) where
   going_on (inl g) = g
   going_on (inr o) = absurd (not_over o)
 
-  key_of : {job : Job} {rs : List Record} (q : Here T job c rs) → word_number q.first.word ≡ c.key
+  pub key_of : {job : Job} {rs : List Record} (q : Here T job c rs) → word_number q.first.word ≡ c.key
   key_of q = sym (q.going.key ∙ ap word_number q.kind)
 
   module _ (long : word_count x ≡ table_words) where
@@ -335,6 +335,38 @@ module _ (x : List ℕ) (c : Cursor) (more : eqb c.key 12 ≡ false) where
         let q : Here T s.job c s.records = here (going_on s.left) h in
         subst (λ (k : ℕ). Ready T c k (row_at k (shown_row c))) (key_of q)
         (ready_here all q.first.fields q.rest q.first.word q.going q.kind)
+
+    -- the row at which the cursor stands, whose first word is here
+    abbrev here_word : ℕ → ℕ
+    here_word j = row_at j (shown_row c)
+
+    module _ {job : Job} {rs : List Record} (q : Here T job c rs) where
+      -- its fields are the record's
+      pub fields_here_are : take (field_count T c.key (here_word c.key)) (drop (first_field c.key (here_word c.key)) T)
+          ≡ q.first.fields
+      fields_here_are =
+          subst
+          (λ (j : ℕ). take (field_count T j (here_word j)) (drop (first_field j (here_word j)) T) ≡ q.first.fields)
+          (key_of q) (fields_are all q.first.fields q.rest q.first.word q.going q.kind)
+
+      -- the first word of a block is how many instructions it has
+      pub block_word : c.key ≡ 4 → get_or T (here_word c.key) 0 ≡ at q.first.fields 0
+      block_word e =
+          ap (λ (j : ℕ). get_or T (here_word j) 0) (sym (key_of q))
+          ∙ block_first false all q.first.word q.first.fields q.rest q.going q.kind
+          (same_word q.first.word block (eq-eqb (word_number q.first.word) 4 (key_of q ∙ e)))
+
+      -- what is left behind it
+      pub line_left : Left T job (behind_row T c (here_word c.key)) q.rest
+      line_left =
+          subst (λ (j : ℕ). Left T job (behind_row T c (here_word j)) q.rest) (key_of q)
+          (behind_left c q.rest (here_word (word_number q.first.word)) q.first.word q.first.fields q.going q.kind
+          (block_first false all q.first.word q.first.fields q.rest q.going q.kind))
+
+      pub line_less : steps_left (behind_row T c (here_word c.key)) < steps_left c
+      line_less =
+          subst (λ (j : ℕ). steps_left (behind_row T c (here_word j)) < steps_left c) (key_of q)
+          (line_falls T c (here_word (word_number q.first.word)) q.first.word q.first.fields q.rest q.going q.kind)
 
     -- THE LAW of a line: w is the row's first word, of n fields from word a on; the text ends at z
     module _ (second : Bool) (k : ℕ) (B : List ℕ) (w n front a z : ℕ) (more' : Option ℕ) (B₁ B₂ : List ℕ) (d : Cursor)
@@ -366,25 +398,19 @@ module _ (x : List ℕ) (c : Cursor) (more : eqb c.key 12 ≡ false) where
             ∙ ap text_from ew
             ∙ ap text_at (sym (key_of q))
 
+        here_is : d ≡ behind_row T c (row_at c.key (shown_row c))
+        here_is = ed ∙ ap (λ (v : ℕ). behind_row T c v) ew
+
         behind_is : d ≡ behind_row T c (row_at (word_number q.first.word) (shown_row c))
-        behind_is =
-            ed ∙ ap (λ (v : ℕ). behind_row T c v) ew
-            ∙ ap (λ (j : ℕ). behind_row T c (row_at j (shown_row c))) (sym (key_of q))
+        behind_is = here_is ∙ ap (λ (j : ℕ). behind_row T c (row_at j (shown_row c))) (sym (key_of q))
 
         falls : steps_left d < steps_left c
-        falls =
-            subst (λ (u : Cursor). steps_left u < steps_left c) (sym behind_is)
-            (line_falls T c (row_at (word_number q.first.word) (shown_row c)) q.first.word q.first.fields
-            q.rest q.going q.kind)
+        falls = subst (λ (u : Cursor). steps_left u < steps_left c) (sym here_is) (line_less q)
 
         went : Went second T job c rs k B d z B₂
         went = record {
           records = q.rest;
-          left =
-              subst (λ (u : Cursor). Left T job u q.rest) (sym behind_is)
-              (behind_left c q.rest (row_at (word_number q.first.word) (shown_row c)) q.first.word
-              q.first.fields q.going q.kind
-              (block_first second all q.first.word q.first.fields q.rest q.going q.kind));
+          left = subst (λ (u : Cursor). Left T job u q.rest) (sym here_is) (line_left q);
           text =
               ap (λ (u : List ℕ). u ++ text_left second job d q.rest) (then wf wl).is
               ∙ append_assoc (take k B) (front_text second c.key ++ line_text c.key (take n (drop a T)) more')

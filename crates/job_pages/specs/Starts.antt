@@ -13,8 +13,8 @@ use Rattle.definition.specs.Place.{total}
 use Rattle.definition.specs.Entry.{insts_of, insts, entry}
 use Rattle.definition.specs.JobSheet.{Word, opt, block, word_number, Record, at, only, block_data_of, job_of_records}
 use Rattle.definition.specs.SheetForms.{is_second, records_in, as_written, tenth_test, verdict_of, verdict}
-use Rattle.definition.specs.SheetForms.{given'}
-use Rattle.definition.specs.Conversion.{sheet_text, rec, shrunk, moved_records, moved_sheet, moved_unless, already}
+use Rattle.definition.specs.SheetForms.{given', given_unless}
+use Rattle.definition.specs.Conversion.{sheet_text, rec, shrunk, moved_records, moved_sheet, already}
 use Rattle.definition.specs.Conversion.{move_to}
 use Rattle.definition.proofs.Entries.{accepted_insts}
 use Rattle.definition.proofs.Conversions.{other_form, moved_other}
@@ -39,6 +39,12 @@ use Rattle.sheet_read.specs.Laws.{counted, few, fill_fits}
 use Rattle.job_pages.specs.Cursors.{at_start, shown_row, rows_in, front_text}
 use Rattle.job_pages.specs.Left.{Fair, Each, insts_in, OptStands, Going, Left, text_left}
 use Rattle.job_pages.specs.Fair.{fair}
+
+-- the words T have the bare records of a sheet left at the start
+pub record Begins (sheet T : List ℕ) : Type 0 where
+  pub records : List Record
+  pub are : bare_in sheet ≡ some records
+  pub left : Left T (job_of_records records) at_start records
 
 -- the words T have some records left at the start, and their text is the sheet in the form that is asked for
 pub record Moves (asked : Bool) (sheet T : List ℕ) : Type 0 where
@@ -131,19 +137,21 @@ module _ (rs : List Record) (s : Sound rs) (e : entry (job_of_records rs) ≡ no
       first [] a b c = tt
       first (r ∷ rest) a b c = opt_row r.word c.0 r.fields rest b c.1 a.0
 
--- ---- the sheet in the other form
+-- ---- a sheet that passes
 
-module _ (asked : Bool) (sheet T : List ℕ) (e : T ≡ sheet_table table_words sheet) where
-  by_bare : (ks : List Record) → bare_in sheet ≡ some ks → entry (job_of_records ks) ≡ none
-      → move_to asked sheet ≡ given' (text_left asked (job_of_records ks) at_start ks) → Moves asked sheet T
+entry_none : (o : Option Refusal) (w : Bool) → tenth_test o w ≡ none → o ≡ none
+entry_none none w p = refl
+entry_none (some r) w p = absurd (none_some (sym p))
+
+module _ (sheet T : List ℕ) (e : T ≡ sheet_table table_words sheet) where
+  by_bare : (ks : List Record) → bare_in sheet ≡ some ks → entry (job_of_records ks) ≡ none → Begins sheet T
   unfolding sheet_table
-  by_bare ks i p m = record {
-    job = job_of_records ks;
+  by_bare ks i p = record {
     records = ks;
+    are = i;
     left =
         inl (subst (λ (W : List ℕ). Going W (job_of_records ks) at_start ks) (sym (e ∙ is_table))
         (going ks sound p (fair sheet ks i p)));
-    is = m;
   }
     where
       sound : Sound ks
@@ -155,26 +163,45 @@ module _ (asked : Bool) (sheet T : List ℕ) (e : T ≡ sheet_table table_words 
           ∙ ap (λ (t : Bool). cond t (fill (blank table_words) ks).out (replicate table_words 0))
           (fits ks sound p)
 
-entry_none : (o : Option Refusal) (w : Bool) → tenth_test o w ≡ none → o ≡ none
-entry_none none w p = refl
-entry_none (some r) w p = absurd (none_some (sym p))
+  -- THE LAW: it has its bare records left at the start
+  pub begins : verdict sheet ≡ none → Begins sheet T
+  unfolding verdict bare_in
+  begins p = go (is_second sheet) (records_in sheet) refl p
+    where
+      go : (t : Bool) (m : Option (List Record)) → bare_in sheet ≡ bare_of t m → verdict_of t m ≡ none
+          → Begins sheet T
+      go t none i q = absurd (none_some (sym q))
+      go true (some rs) i q =
+          by_bare (shrunk rs) i (ap entry (bare_job rs) ∙ entry_none (entry (job_of_records rs)) (as_written rs) q)
+      go false (some rs) i q = by_bare rs i (entry_none (entry (job_of_records rs)) true q)
 
--- THE LAW: a sheet that passes, in the form that is not asked for, has its bare records left at the start
+-- ---- the sheet in the other form
+
+-- its text is that of the bare records
+text_bare : (asked : Bool) (m : Option (List Record)) (ks : List Record) → bare_of (not asked) m ≡ some ks
+    → moved_sheet asked m ≡ text_left asked (job_of_records ks) at_start ks
+unfolding sheet_text moved_records text_left front_text
+text_bare true none ks q = absurd (none_some q)
+text_bare false none ks q = absurd (none_some q)
+text_bare true (some rs) ks q =
+    let s : rs ≡ ks = cc in ap (λ (l : List Record). text_left true (job_of_records l) at_start l) s
+text_bare false (some rs) ks q =
+    let s : shrunk rs ≡ ks = cc in ap (λ (l : List Record). text_left false (job_of_records l) at_start l) s
+
+-- THE LAW: a sheet that passes, in the form that is not asked for, is moved to the text of what is left at the start
 pub moves : (asked : Bool) (sheet T : List ℕ) → T ≡ sheet_table table_words sheet → verdict sheet ≡ none
     → already asked (is_second sheet) ≡ false → Moves asked sheet T
-unfolding verdict bare_in sheet_text moved_records text_left front_text
+unfolding bare_in
 moves asked sheet T e p a =
+    let b : Begins sheet T = begins sheet T e p in
     let s : is_second sheet ≡ not asked = other_form asked (is_second sheet) a in
-    go asked (records_in sheet) (ap (λ (t : Bool). bare_of t (records_in sheet)) s)
-    (ap (λ (t : Bool). verdict_of t (records_in sheet)) (sym s) ∙ p)
-    (moved_other asked sheet a
-    ∙ ap (λ (o : Option SheetRefusal). moved_unless o (moved_sheet asked (records_in sheet))) p)
-  where
-    go : (d : Bool) (m : Option (List Record)) → bare_in sheet ≡ bare_of (not d) m → verdict_of (not d) m ≡ none
-        → move_to d sheet ≡ given' (moved_sheet d m) → Moves d sheet T
-    go d none i q m = absurd (none_some (sym q))
-    go true (some rs) i q m =
-        by_bare true sheet T e rs i (entry_none (entry (job_of_records rs)) true q) m
-    go false (some rs) i q m =
-        by_bare false sheet T e (shrunk rs) i
-        (ap entry (bare_job rs) ∙ entry_none (entry (job_of_records rs)) (as_written rs) q) m
+    record {
+      job = job_of_records b.records;
+      records = b.records;
+      left = b.left;
+      is =
+          moved_other asked sheet a
+          ∙ ap (λ (o : Option SheetRefusal). given_unless o (moved_sheet asked (records_in sheet))) p
+          ∙ ap given' (text_bare asked (records_in sheet) b.records
+          (ap (λ (t : Bool). bare_of t (records_in sheet)) (sym s) ∙ b.are));
+    }

@@ -45,7 +45,7 @@ pub fn start() -> Cursor
 
 // The row of its kind's table that the cursor stands at.
 #[tactic(auto, unfolding(crate::specs::Cursors::shown_row))]
-fn shown(cur: Cursor) -> usize
+pub fn shown(cur: Cursor) -> usize
     ensures { result ≡ shown_row (cursor_of cur) }
 {
     match cur.key {
@@ -78,7 +78,7 @@ fn uses_end(table: &[u8], s: usize) -> usize
 
 // Whether a record of its kind comes next. There is one opt and one end.
 #[tactic(auto, unfolding(crate::specs::Cursors::has_row))]
-fn has_row(table: &[u8], cur: Cursor) -> bool
+pub fn has_row(table: &[u8], cur: Cursor) -> bool
     requires { (word_count table.now ≡ table_words) × (rows_in (words_of table.now) 9 ≤ 1024) }
     ensures { result ≡ has_row (words_of table.now) (cursor_of cur) }
 {
@@ -91,7 +91,7 @@ fn has_row(table: &[u8], cur: Cursor) -> bool
 
 // The next kind; behind the uses of a segment come segments again, and behind all of these the end.
 #[tactic(auto, unfolding(crate::specs::Cursors::passed_on))]
-fn pass(cur: Cursor) -> Cursor
+pub fn pass(cur: Cursor) -> Cursor
     requires { (cursor_of cur).key ≤ 10 }
     ensures { cursor_of result ≡ passed_on (cursor_of cur) }
 {
@@ -116,7 +116,7 @@ fn pass(cur: Cursor) -> Cursor
 
 // How many fields the record has whose row begins at word w.
 #[tactic(auto, unfolding(crate::specs::Cursors::field_count))]
-fn fields(table: &[u8], key: Kind, w: usize) -> usize
+pub fn fields(table: &[u8], key: Kind, w: usize) -> usize
     requires { (eqb (number_of key) 6 ≡ true → w < word_count table.now)
         × (eqb (number_of key) 10 ≡ true → (w < word_count table.now) × (get_or (words_of table.now) w 0 < 10)) }
     ensures { result ≡ field_count (words_of table.now) (number_of key) w }
@@ -130,7 +130,7 @@ fn fields(table: &[u8], key: Kind, w: usize) -> usize
 
 // The word of its first field: a vgroup's row begins with the number of its members.
 #[tactic(auto, unfolding(crate::specs::Cursors::first_field))]
-fn first_field(key: Kind, w: usize) -> usize
+pub fn first_field(key: Kind, w: usize) -> usize
     requires { w < 2 ^ 32 }
     ensures { result ≡ first_field (number_of key) w }
 {
@@ -182,7 +182,7 @@ fn open(second: bool, key: Kind, buf: &mut [u8], at: usize) -> usize
 
 // Behind the record whose row begins at word w.
 #[tactic(auto, unfolding(crate::specs::Cursors::behind_row))]
-fn behind(table: &[u8], cur: Cursor, w: usize) -> Cursor
+pub fn behind(table: &[u8], cur: Cursor, w: usize) -> Cursor
     requires { ((cursor_of cur).key ≤ 11) × (cur.row < 2 ^ 32) × (cur.segs < 2 ^ 32) × (cur.uses < 2 ^ 32)
         × (eqb (cursor_of cur).key 4 ≡ true → (w < word_count table.now)
         × (cur.insts + get_or (words_of table.now) w 0 < 2 ^ 32)) }

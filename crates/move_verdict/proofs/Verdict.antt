@@ -9,8 +9,8 @@ use Rattle.words.specs.Words.{word_count, words_of}
 use Rattle.definition.specs.declared.SheetRefusal.{SheetRefusal}
 use Rattle.definition.specs.declared.SheetRefusal.TheVariants.{By}
 use Rattle.definition.specs.declared.Refusal.TheVariants.{NotARecord}
-use Rattle.definition.specs.SheetForms.{is_second, records_in, verdict}
-use Rattle.definition.specs.Conversion.{already, moved_sheet, moved_unless}
+use Rattle.definition.specs.SheetForms.{is_second, records_in, verdict, given_unless}
+use Rattle.definition.specs.Conversion.{already, moved_sheet}
 use Rattle.definition.proofs.Conversions.{moved_same, moved_other}
 use Rattle.entry.specs.declared.Entered.{Entered}
 use Rattle.entry.specs.Number.{refusal_in}
@@ -36,7 +36,7 @@ none_by : (o : Option SheetRefusal) → IsOk (ended o) → o ≡ none
 none_by none e = refl
 none_by (some r) e = absurd (false≢true e)
 
-unless_verdict : (o : Option SheetRefusal) (t : List ℕ) → ended o ≡ moved_verdict (moved_unless o t)
+unless_verdict : (o : Option SheetRefusal) (t : List ℕ) → ended o ≡ moved_verdict (given_unless o t)
 unless_verdict none t = refl
 unless_verdict (some r) t = refl
 
