@@ -18,7 +18,7 @@ use Rattle.job_pages.specs.Over.{over_text}
 use Rattle.streams.specs.declared.Stream.{Stream}
 use Rattle.streams.specs.declared.Cut.{Cut}
 use Rattle.streams.specs.Tape.{at_of, WroteAll}
-use Rattle.streams.specs.Paper.{Writing, writing_start, writing_next, writing_failed, writing_end}
+use Rattle.streams.specs.Paper.{OnPaper, Writing, writing_start, writing_next, writing_failed, writing_end, one_page}
 use Rattle.convert_run.specs.Shown.{Shown, Refused}
 
 -- what is written and what is left are the sheet
@@ -84,13 +84,6 @@ showing_end second x paper tape s cur c P h e = λ job rs l y.
 pub refused_line_lem : (n m : ℕ) (paper tape : List ℕ) (s : Stream) (O B : List ℕ) (w : Result Unit Cut) (t : Stream)
     (Q : List ℕ) → at_of s ≤ length paper → Wrote 256 0 O m B (refused_line n)
     → WroteAll tape paper (take m B) s w t Q → Refused n tape paper s (is_err w) t Q
-refused_line_lem n m paper tape s O B w t Q h y a = go w a
-  where
-    begun : Writing paper (refused_line n) s s (take m B ++ []) paper
-    begun = subst (λ (l : List ℕ). Writing paper (refused_line n) s s l paper)
-        (sym y.is ∙ sym (append-nil (take m B))) (writing_start paper (refused_line n) s h)
-
-    go : (w : Result Unit Cut) → WroteAll tape paper (take m B) s w t Q → Refused n tape paper s (is_err w) t Q
-    go (Err e) a = λ z. writing_failed paper _ tape s s (take m B) [] paper (Err e) t Q begun a refl z
-    go (Ok u) a = λ z.
-        writing_end paper _ tape s t Q (writing_next paper _ tape s s (take m B) [] paper (Ok u) t Q begun a refl) z
+refused_line_lem n m paper tape s O B w t Q h y a = λ z.
+    subst (λ (l : List ℕ). OnPaper tape paper l s (is_err w) t Q) y.is
+    (one_page tape paper (take m B) s w t Q h a z)

@@ -18,7 +18,7 @@ use Rattle.job_pages.specs.Cursors.{at_start}
 use Rattle.job_pages.specs.Pages.{Shows}
 use Rattle.job_pages.specs.Starts.{Moves}
 use Rattle.sheet_verdict.specs.Judged.{LeadsTo}
-use Rattle.sheet_verdict.specs.Fed.{both_open, leads}
+use Rattle.sheet_verdict.specs.Fed.{leads, leads_all}
 use Rattle.move_verdict.specs.Settled.{Settles, refused_line_text}
 use Rattle.streams.specs.declared.Stream.{Stream}
 use Rattle.streams.specs.Tape.{is_tape, at_of}
@@ -53,18 +53,10 @@ module _ (second : Bool) (v : Result Unit SheetRefusal) (T tape paper : List ℕ
 
 module _ (reads given : List ℕ) (input next : Stream) (n m : ℕ) (cur : Reading) (W Y : List ℕ) (en : n ≡ table_words)
     (em : m ≡ 1536) (t : Taken reads given input (open_form n m) (formed cur W Y) false next) where
-  leads_all : is_tape input ≡ true → LeadsTo (drop (at_of input) given) cur W Y
-  leads_all y =
-      let b : List ℕ = t.streamed.bytes in
-      subst (λ (l : List ℕ). LeadsTo l cur W Y) (all_fed reads given b input next (t.on_tape y)) (record {
-        bytes = all_bytes b t.streamed.small;
-        is = t.streamed.is ∙ ap (λ (f : Formed). run_form f b) (both_open n m en em);
-      })
-
   -- what is put is the answer to them
   pub put_all : (second : Bool) (v : Result Unit SheetRefusal) (writes paper : List ℕ) (output : Stream) (failed : Bool)
       (to : Stream) (P : List ℕ) → Settles second cur W Y v → Put second v W writes paper output failed to P
       → is_tape input ≡ true → Written writes paper (converted second (drop (at_of input) given)) output failed to P
   put_all second v writes paper output failed to P a h y =
       let sheet : List ℕ = drop (at_of input) given in
-      h sheet (a sheet (leads_all y))
+      h sheet (a sheet (leads_all reads given input next n m cur W Y en em t y))

@@ -1,3 +1,4 @@
 pub mod Wrote
 pub mod Places
 pub mod Laws
+pub mod Comparing

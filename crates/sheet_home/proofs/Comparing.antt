@@ -13,37 +13,12 @@ use Rattle.definition.specs.Types.{Job}
 use Rattle.definition.specs.JobSheet.{Record}
 use Rattle.definition.specs.Text.{same}
 use Rattle.lines.specs.declared.Page.{Page}
+use Rattle.lines.specs.Comparing.{same_append, same_none}
 use Rattle.job_pages.specs.Cursors.{Cursor, at_start}
 use Rattle.job_pages.specs.Left.{Left, text_left}
 use Rattle.job_pages.specs.Pages.{Shows, Filled, Paged}
 use Rattle.job_pages.specs.Over.{over_text}
 use Rattle.sheet_home.specs.Moved.{TellsSheet}
-
--- ---- a text, and what is behind it
-
--- the comparison with a text and more, by the two parts
-same_append : (text xs more : List ℕ)
-    → same xs (text ++ more) ≡ pointwise eqb (take (length text) xs) text && same (drop (length text) xs) more
-same_append [] xs more = refl
-same_append (y ∷ ys) [] more = refl
-same_append (y ∷ ys) (x ∷ xs) more = go (eqb x y) (same_append ys xs more)
-  where
-    go : (b : Bool) → same xs (ys ++ more) ≡ pointwise eqb (take (length ys) xs) ys && same (drop (length ys) xs) more
-        → b && same xs (ys ++ more)
-        ≡ (b && pointwise eqb (take (length ys) xs) ys) && same (drop (length ys) xs) more
-    go true e = e
-    go false e = refl
-
-same_none : (xs : List ℕ) → eqb (length xs) 0 ≡ same xs []
-same_none [] = refl
-same_none (x ∷ xs) = ne_eqb (length (x ∷ xs)) 0 (λ e. omega (arith, e))
-
--- the comparison of slices
-pub same_pointwise : (xs ys : List ℕ) → pointwise eqb xs ys ≡ same xs ys
-same_pointwise [] [] = refl
-same_pointwise [] (y ∷ ys) = refl
-same_pointwise (x ∷ xs) [] = refl
-same_pointwise (x ∷ xs) (y ∷ ys) = ap (λ (b : Bool). eqb x y && b) (same_pointwise xs ys)
 
 -- ---- page by page
 

@@ -19,12 +19,9 @@ use Rattle.register_sheet.specs.Typed.{refused_line}
 use Rattle.sheet_places.specs.Places.{table_words}
 use Rattle.sheet_form.specs.declared.Reading.{Reading}
 use Rattle.sheet_form.specs.Front.{Formed, formed, run_form, open_form, second_of}
-use Rattle.sheet_form.specs.Stream.{Streamed}
 use Rattle.sheet_form.specs.Fronts.{front_at}
 use Rattle.form_agree.specs.Read.{forms_front}
-use Rattle.agree.specs.Agree.{all_bytes}
 use Rattle.sheet_verdict.specs.Judged.{LeadsTo}
-use Rattle.sheet_verdict.specs.Fed.{both_open}
 use Rattle.job_pages.specs.Cursors.{Cursor, at_start}
 use Rattle.job_pages.specs.Left.{Left, text_left}
 use Rattle.job_pages.specs.Pages.{Filled, Paged}
@@ -33,22 +30,7 @@ use Rattle.job_pages.specs.Starts.{Moves}
 use Rattle.move_verdict.specs.Settled.{Settled, refused_line_text}
 use Rattle.sheet_home.specs.Moved.{Whole}
 
--- ---- the sheet that was fed
-
-pub led : (n m : ℕ) (f : Formed) (cur : Reading) (W Y sheet : List ℕ) → n ≡ table_words → m ≡ 1536
-    → ((i : ℕ) → get_or sheet i 0 < 256) → f ≡ open_form n m → formed cur W Y ≡ run_form f sheet
-    → LeadsTo sheet cur W Y
-led n m f cur W Y sheet e d s a b = record {
-  bytes = all_bytes sheet s;
-  is = b ∙ ap (λ (k : Formed). run_form k sheet) (a ∙ both_open n m e d);
-}
-
--- the whole sheet as one part
-pub streamed : (n m : ℕ) (f : Formed) (cur : Reading) (W Y sheet : List ℕ) → n ≡ table_words → m ≡ 1536
-    → ((i : ℕ) → get_or sheet i 0 < 256) → f ≡ open_form n m → formed cur W Y ≡ run_form f sheet
-    → Streamed (open_form table_words 1536) (formed cur W Y)
-streamed n m f cur W Y sheet e d s a b =
-    record { bytes = sheet; small = s; is = (led n m f cur W Y sheet e d s a b).is }
+-- ---- the form
 
 pub form_is : (cur : Reading) (W Y sheet : List ℕ) → LeadsTo sheet cur W Y
     → second_of (front_at cur.front) ≡ is_second sheet

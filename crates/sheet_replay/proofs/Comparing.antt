@@ -19,29 +19,13 @@ use Rattle.sheet_form.specs.Front.{Formed, formed, run_form, open_form}
 use Rattle.agree.specs.Agree.{all_bytes}
 use Rattle.sheet_output.specs.declared.Cursor.{Cursor}
 use Rattle.lines.specs.declared.Page.{Page}
+use Rattle.lines.specs.Comparing.{same_append, same_none}
 use Rattle.sheet_output.specs.Left.{at_start}
 use Rattle.build_answer.specs.declared.BuildEnd.{BuildEnd}
 use Rattle.answer_pages.specs.Pages.{left_of, Printing, Prints, Turned}
 use Rattle.answer_pages.specs.Laws.{left_start, printing_start, prints_next, left_end}
 use Rattle.vregs_answer.specs.Sheet.{vregs_tables, Answers}
 use Rattle.sheet_replay.specs.Same.{TellsSheet}
-
--- ---- a text, and what is behind it
-
--- the comparison with a text and more, by the two parts
-pub same_append : (text xs more : List ℕ) → same xs (text ++ more) ≡ pointwise eqb (take (length text) xs) text && same (drop (length text) xs) more
-same_append [] xs more = refl
-same_append (y ∷ ys) [] more = refl
-same_append (y ∷ ys) (x ∷ xs) more = go (eqb x y) (same_append ys xs more)
-  where
-    go : (b : Bool) → same xs (ys ++ more) ≡ pointwise eqb (take (length ys) xs) ys && same (drop (length ys) xs) more
-        → b && same xs (ys ++ more) ≡ (b && pointwise eqb (take (length ys) xs) ys) && same (drop (length ys) xs) more
-    go true e = e
-    go false e = refl
-
-same_none : (xs : List ℕ) → eqb (length xs) 0 ≡ same xs []
-same_none [] = refl
-same_none (x ∷ xs) = ne_eqb (length (x ∷ xs)) 0 (λ e. omega (arith, e))
 
 -- ---- page by page: the answer is the sheet if the rest of it is what is left
 

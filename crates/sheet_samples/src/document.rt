@@ -16,7 +16,16 @@ pub enum Program {
     ToForm1,
 }
 
-// A sheet and its answer, a block of one of the four marks that has no partner, or another block.
+// Two sheets and the answer of `order` to them.
+#[derive(Clone, Copy)]
+pub struct OrderedPair<'a> {
+    pub first: &'a [u8],
+    pub second: &'a [u8],
+    pub answer: &'a [u8],
+}
+
+// A sheet and its answer, two sheets and theirs, a block of one of the five marks that has no partner, or another
+// block.
 #[derive(Clone, Copy)]
 pub enum Sample<'a> {
     Paired {
@@ -24,6 +33,7 @@ pub enum Sample<'a> {
         sheet: &'a [u8],
         answer: &'a [u8],
     },
+    Ordered(OrderedPair<'a>),
     Alone,
     Other,
 }
@@ -111,7 +121,44 @@ fn first_program(doc: &[u8]) -> Option<Program>
 
 // Whether the document's first line begins as that of an answer, whatever follows.
 fn is_marked(doc: &[u8]) -> bool {
-    doc.starts_with(b"```registers") || doc.starts_with(b"```to_form")
+    doc.starts_with(b"```registers")
+        || doc.starts_with(b"```to_form")
+        || doc.starts_with(b"```order")
+}
+
+// What a job sheet makes with the block behind it that answers it, and the document behind that one.
+fn paired<'a>(sheet: &'a [u8], doc: &'a [u8]) -> Option<(Sample<'a>, &'a [u8])>
+    ensures { IfSome result (λ r. length r.1.now < length doc.now) }
+{
+    let program = first_program(doc)?;
+    let a = first_block(doc);
+    let s = Sample::Paired {
+        program,
+        sheet,
+        answer: a.lines,
+    };
+    Some((s, a.rest))
+}
+
+// The same with a second job block and the answer of `order` behind that.
+fn ordered<'a>(first: &'a [u8], doc: &'a [u8]) -> Option<(Sample<'a>, &'a [u8])>
+    ensures { IfSome result (λ r. length r.1.now < length doc.now) }
+{
+    if !doc.starts_with(b"```job") {
+        return None;
+    }
+    let b = job_block(doc);
+    let fence = from_fence(b.rest);
+    if !fence.starts_with(b"```order\n") {
+        return None;
+    }
+    let a = first_block(fence);
+    let pair = OrderedPair {
+        first,
+        second: b.lines,
+        answer: a.lines,
+    };
+    Some((Sample::Ordered(pair), a.rest))
 }
 
 // What begins with the document's first line, which is one of three back quotes, and the document behind it.
@@ -129,14 +176,11 @@ pub fn first_sample(doc: &[u8]) -> (Sample<'_>, &[u8])
         return (s, b.rest);
     }
     let fence = from_fence(b.rest);
-    let Some(program) = first_program(fence) else {
-        return (Sample::Alone, b.rest);
-    };
-    let a = first_block(fence);
-    let s = Sample::Paired {
-        program,
-        sheet: b.lines,
-        answer: a.lines,
-    };
-    (s, a.rest)
+    if let Some(pair) = paired(b.lines, fence) {
+        return pair;
+    }
+    match ordered(b.lines, fence) {
+        Some(three) => three,
+        None => (Sample::Alone, b.rest),
+    }
 }

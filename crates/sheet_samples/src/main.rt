@@ -1,16 +1,20 @@
 // Runs every sample of the document SHEETS.md: a block marked `job` is read and answered, and the answer held byte for
 // byte to the block behind it, marked `registers` for the answer of `vregs`, or `to_form2` or `to_form1` for that
-// program's. Writes how many samples agree and differ, and how many such blocks have no partner. What fails is said on
-// standard error.
+// program's. Two of them with a block marked `order` behind are compared, and the answer is held to that block. Writes
+// how many samples agree and differ, and how many such blocks have no partner. What fails is said on standard error.
 #![tactic(auto)]
 
 mod document;
 
-ghost use Rattle.std.specs.Prelude.{◌+◌, ◌^◌, ◌≤◌, ◌<◌, length};
+ghost use Rattle.std.specs.Prelude.{◌≡◌, ◌+◌, ◌^◌, ◌≤◌, ◌<◌, length};
+ghost use Rattle.definition.specs.Text.{same};
+ghost use Rattle.definition.specs.JobOrder.{ordered_text};
+ghost use Rattle.words.specs.Words.{word_count};
+ghost use Rattle.sheet_places.specs.Places.{table_words};
 ghost use Rattle.lines.specs.Wrote.{Wrote};
 ghost use Rattle.sheet_samples.specs.Tallies.{differs_line, tally_line};
 
-use document::{Program, Sample};
+use document::{OrderedPair, Program, Sample};
 use sheet_home::Lent;
 use std::fs::File;
 use std::io;
@@ -61,8 +65,43 @@ fn agrees(program: Program, sheet: &[u8], answer: &[u8], space: &mut Space) -> b
     sheet_home::is_moved(second, sheet, answer, &mut lent)
 }
 
+// Whether the answer is what `order` writes for the two sheets. `second` is the table of the second one.
+fn is_order(pair: OrderedPair<'_>, space: &mut Space, second: &mut [u8]) -> bool
+    requires { word_count second.old ≡ table_words }
+    ensures { result ≡ same pair.entry.answer.now (ordered_text pair.entry.first.now pair.entry.second.now) }
+{
+    let mut lent = sheet_order::Lent {
+        first: &mut *space.table,
+        second: &mut *second,
+        written: &mut *space.written,
+        work: &mut *space.work,
+    };
+    sheet_order::is_answer(pair.first, pair.second, pair.answer, &mut lent)
+}
+
+// One more sample.
+fn count_sample(agrees: bool, t: &mut Tally, sink: &mut Noted<Stdout>)
+    requires { t.old.agree + t.old.differ + t.old.alone < 2 ^ 63 }
+    ensures { t.new.agree + t.new.differ + t.new.alone ≡ t.old.agree + t.old.differ + t.old.alone + 1 }
+{
+    if agrees {
+        t.agree += 1;
+        return;
+    }
+    t.differ += 1;
+    if !t.cut {
+        t.cut = tell(t.agree + t.differ, sink);
+    }
+}
+
 // One more block.
-fn count(s: Sample<'_>, t: &mut Tally, space: &mut Space, sink: &mut Noted<Stdout>)
+fn count(
+    s: Sample<'_>,
+    t: &mut Tally,
+    space: &mut Space,
+    second: &mut [u8; 174680],
+    sink: &mut Noted<Stdout>,
+)
     requires { t.old.agree + t.old.differ + t.old.alone < 2 ^ 63 }
     ensures { t.new.agree + t.new.differ + t.new.alone ≤ t.old.agree + t.old.differ + t.old.alone + 1 }
 {
@@ -71,23 +110,20 @@ fn count(s: Sample<'_>, t: &mut Tally, space: &mut Space, sink: &mut Noted<Stdou
             program,
             sheet,
             answer,
-        } => {
-            if agrees(program, sheet, answer, space) {
-                t.agree += 1;
-            } else {
-                t.differ += 1;
-                if !t.cut {
-                    t.cut = tell(t.agree + t.differ, sink);
-                }
-            }
-        }
+        } => count_sample(agrees(program, sheet, answer, space), t, sink),
+        Sample::Ordered(pair) => count_sample(is_order(pair, space, second), t, sink),
         Sample::Alone => t.alone += 1,
         Sample::Other => {}
     }
 }
 
 // All blocks of the document.
-fn count_all(doc: &[u8], space: &mut Space, sink: &mut Noted<Stdout>) -> Tally
+fn count_all(
+    doc: &[u8],
+    space: &mut Space,
+    second: &mut [u8; 174680],
+    sink: &mut Noted<Stdout>,
+) -> Tally
     requires { length doc.now < 2 ^ 62 }
 {
     let mut t = Tally::default();
@@ -95,7 +131,7 @@ fn count_all(doc: &[u8], space: &mut Space, sink: &mut Noted<Stdout>) -> Tally
     // From block to block, and where a block ends is known behind it: no index counts here.
     while !rest.is_empty() {
         let (s, behind) = document::first_sample(rest);
-        count(s, &mut t, space, sink);
+        count(s, &mut t, space, second, sink);
         rest = document::from_fence(behind);
     }
     t
@@ -128,6 +164,7 @@ fn run(rt: &HostRuntime, doc: &[u8]) -> io::Result<()>
 {
     let mut buf = [0u8; 4096];
     let mut table = [0u8; 174680];
+    let mut second = [0u8; 174680];
     let mut written = [0u8; 6144];
     let mut out = [0u8; 460800];
     let mut work = [0u8; 110600];
@@ -139,7 +176,7 @@ fn run(rt: &HostRuntime, doc: &[u8]) -> io::Result<()>
         out: &mut out,
         work: &mut work,
     };
-    let t = count_all(doc, &mut space, &mut sink);
+    let t = count_all(doc, &mut space, &mut second, &mut sink);
     if show(t, &mut sink) {
         let what = "sheet_samples: the tally could not be written, and is cut";
         return streams::fail(rt, what, sink.reason);

@@ -1,11 +1,14 @@
 -- A sheet that was fed to the reader leads to its state and its tables. Assumes nothing.
-use Rattle.std.specs.Prelude.{◌≡◌, List, ℕ}
+use Rattle.std.specs.Prelude.{◌≡◌, true, false, List, ℕ, ◌<◌, drop, get_or}
 use Rattle.std.proofs.Common.{ap, subst, ◌∙◌}
 use Rattle.sheet_places.specs.Places.{table_words}
 use Rattle.sheet_form.specs.declared.Reading.{Reading}
-use Rattle.sheet_form.specs.Front.{Formed, formed, open_form}
+use Rattle.sheet_form.specs.Front.{Formed, formed, run_form, open_form}
 use Rattle.sheet_form.specs.Stream.{Streamed}
 use Rattle.agree.specs.Agree.{all_bytes}
+use Rattle.streams.specs.declared.Stream.{Stream}
+use Rattle.streams.specs.Tape.{is_tape, at_of}
+use Rattle.sheet_input.specs.Taken.{Taken, all_fed}
 use Rattle.sheet_verdict.specs.Judged.{LeadsTo}
 
 -- the reader's tables have the words of all tables and of all written fields
@@ -19,3 +22,31 @@ streamed_in n m g e f s = subst (λ (k : Formed). Streamed k g) (both_open n m e
 pub leads : (cur : Reading) (W Y : List ℕ) (s : Streamed (open_form table_words 1536) (formed cur W Y))
     → LeadsTo s.bytes cur W Y
 leads cur W Y s = record { bytes = all_bytes s.bytes s.small; is = s.is }
+
+-- ---- a whole sheet that was fed as one part
+
+pub led : (n m : ℕ) (f : Formed) (cur : Reading) (W Y sheet : List ℕ) → n ≡ table_words → m ≡ 1536
+    → ((i : ℕ) → get_or sheet i 0 < 256) → f ≡ open_form n m → formed cur W Y ≡ run_form f sheet
+    → LeadsTo sheet cur W Y
+led n m f cur W Y sheet e d s a b = record {
+  bytes = all_bytes sheet s;
+  is = b ∙ ap (λ (k : Formed). run_form k sheet) (a ∙ both_open n m e d);
+}
+
+pub streamed : (n m : ℕ) (f : Formed) (cur : Reading) (W Y sheet : List ℕ) → n ≡ table_words → m ≡ 1536
+    → ((i : ℕ) → get_or sheet i 0 < 256) → f ≡ open_form n m → formed cur W Y ≡ run_form f sheet
+    → Streamed (open_form table_words 1536) (formed cur W Y)
+streamed n m f cur W Y sheet e d s a b =
+    record { bytes = sheet; small = s; is = (led n m f cur W Y sheet e d s a b).is }
+
+-- ---- where no read failed, the sheet that was read is all bytes that are given
+
+pub leads_all : (reads given : List ℕ) (input next : Stream) (n m : ℕ) (cur : Reading) (W Y : List ℕ)
+    → n ≡ table_words → m ≡ 1536 → Taken reads given input (open_form n m) (formed cur W Y) false next
+    → is_tape input ≡ true → LeadsTo (drop (at_of input) given) cur W Y
+leads_all reads given input next n m cur W Y en em t y =
+    let b : List ℕ = t.streamed.bytes in
+    subst (λ (l : List ℕ). LeadsTo l cur W Y) (all_fed reads given b input next (t.on_tape y)) (record {
+      bytes = all_bytes b t.streamed.small;
+      is = t.streamed.is ∙ ap (λ (f : Formed). run_form f b) (both_open n m en em);
+    })

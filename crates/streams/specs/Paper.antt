@@ -1,9 +1,9 @@
 -- A text written page by page: what stands on the paper, and what is still to come; and a program that reads all and
 -- then writes one text. Assumes nothing.
 use Rattle.std.specs.Prelude.{◌≡◌, refl, Bool, true, false, List, [], ◌++◌, ℕ, ◌≤◌, ◌<◌, length, take, drop, get_or}
-use Rattle.std.specs.Prelude.{Result, Err, IsOk, IsErr, is_err}
+use Rattle.std.specs.Prelude.{Result, Ok, Err, IsOk, IsErr, is_err}
 use Rattle.std.specs.Result.{result_or}
-use Rattle.std.proofs.Common.{sym, ap, ◌∙◌, append_assoc, arith, take-append-drop, take_all}
+use Rattle.std.proofs.Common.{sym, ap, subst, ◌∙◌, append_assoc, append-nil, arith, take-append-drop, take_all}
 use Rattle.std.proofs.lemmas.Bool.{false≢true}
 use Rattle.streams.specs.declared.Stream.{Stream}
 use Rattle.streams.specs.declared.Cut.{Cut}
@@ -75,6 +75,20 @@ writing_end paper text tape s cur P h y = record {
   whole = λ _. refl;
   stopped = λ e. absurd (false≢true e);
 }
+
+-- a text that is one page
+pub one_page : (tape paper page : List ℕ) (s : Stream) (w : Result Unit Cut) (t : Stream) (Q : List ℕ)
+    → at_of s ≤ length paper → WroteAll tape paper page s w t Q → is_tape s ≡ true
+    → OnPaper tape paper page s (is_err w) t Q
+one_page tape paper page s w t Q h a y = go w a
+  where
+    begun : Writing paper page s s (page ++ []) paper
+    begun = subst (λ (l : List ℕ). Writing paper page s s l paper) (sym (append-nil page)) (writing_start paper page s h)
+
+    go : (w : Result Unit Cut) → WroteAll tape paper page s w t Q → OnPaper tape paper page s (is_err w) t Q
+    go (Err e) a = writing_failed paper page tape s s page [] paper (Err e) t Q begun a refl y
+    go (Ok u) a =
+        writing_end paper page tape s t Q (writing_next paper page tape s s page [] paper (Ok u) t Q begun a refl) y
 
 -- ---- a program between its first read and its last write
 

@@ -2,7 +2,8 @@ use mathlib.Core.Path.{◌∙◌}
 use native.Mathlib.Omega.{arith}
 use Prim.Native.Nat.{ℕ, ◌<◌}
 use lib.ListN.{get_or}
-use Rattle.sheet_home.proofs.Ways.{led, form_is}
+use Rattle.sheet_verdict.specs.Fed.{led}
+use Rattle.sheet_home.proofs.Ways.{form_is}
 use Rattle.sheet_home.proofs.form_of.Goals as goal
 
 pub returns : goal.returns

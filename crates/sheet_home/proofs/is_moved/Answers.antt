@@ -2,7 +2,7 @@ use mathlib.Core.Path.{ap, ◌∙◌}
 use lib.ListN.{take}
 use Rattle.definition.specs.Text.{same}
 use Rattle.sheet_home.proofs.Ways.{refused_is}
-use Rattle.sheet_home.proofs.Comparing.{same_pointwise}
+use Rattle.lines.specs.Comparing.{same_pointwise}
 use Rattle.sheet_home.proofs.is_moved.Goals as goal
 
 pub returns-in-Err : goal.returns-in-Err

@@ -1,7 +1,7 @@
 use native.Mathlib.Omega.{arith}
 use Prim.Native.Nat.{ℕ, ◌<◌}
 use lib.ListN.{get_or}
-use Rattle.sheet_home.proofs.Ways.{led, streamed}
+use Rattle.sheet_verdict.specs.Fed.{led, streamed}
 use Rattle.sheet_home.proofs.settle.Goals as goal
 
 pub verdict_on-requires : goal.verdict_on-requires

@@ -1,0 +1,2 @@
+// The order on whole jobs: the laws are in specs.
+#![tactic(auto)]
