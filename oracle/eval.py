@@ -9,12 +9,13 @@ A line of MANIFEST has four fields, parted by tabs:
 - the room as registers,segments,uses,groups, or - for that of `vregs`;
 - the stop's name (no-start, turned-def, values-differ, mapped-twice, overlap, none-admitted), or - where it is not compared.
 
-A temporary copy of crates/definition, without its proofs, gets a module of tables: sheets and expected outputs
+A temporary copy of crates/definition, without its proofs but for those of its functions, gets a module of tables: sheets and expected outputs
 as texts, and an equation by computation for each lemma. A module holds about --bytes bytes of sheets, a lemma
 about --lemma. Where an equation is refused, or the checker gives no verdict on it, its sheets are tried one by one.
 Prints the counts, and the paths of the sheets that differ or got no verdict. Exit status 0 if all agree.
 """
 import argparse
+import glob
 import os
 import re
 import shutil
@@ -169,6 +170,10 @@ class Checker:
             shutil.copytree(os.path.join(root, 'crates', 'definition', part), os.path.join(crate, part))
         self.proofs = os.path.join(crate, 'proofs')
         os.mkdir(self.proofs)
+        kept = os.path.join(root, 'crates', 'definition', 'proofs')
+        for answers in glob.glob('**/Answers.antt', root_dir=kept, recursive=True):
+            os.makedirs(os.path.join(self.proofs, os.path.dirname(answers)), exist_ok=True)
+            shutil.copy(os.path.join(kept, answers), os.path.join(self.proofs, answers))
         with open(os.path.join(self.folder, 'crates.txt'), 'w') as f:
             f.write('definition:\n')
         self.seconds = 0.0

@@ -2,7 +2,7 @@
  * As a program: `faults in PROGRAM` gives PROGRAM a non-blocking pipe as standard input, whose writer is late;
  * `faults out PROGRAM` a non-blocking pipe as standard output, which is emptied when the program has ended.
  * As a preloaded library (-shared -fPIC): half of all reads of descriptor 0 and writes to descriptor 1 are
- * interrupted, and the others move fewer bytes than asked. */
+ * interrupted, and the others move fewer bytes than asked. With -DFILES so are the reads of descriptors above 2. */
 #define _GNU_SOURCE
 #include <errno.h>
 #include <fcntl.h>
@@ -23,8 +23,14 @@ static unsigned draw(void) {
 /* The number of bytes that a call may move, or 0 for an interruption. */
 static size_t part(size_t n) { return draw() % 2 ? 0 : n < 2 ? n : 1 + draw() % n; }
 
+#ifdef FILES
+#define FAULTY(fd) ((fd) == 0 || (fd) > 2)
+#else
+#define FAULTY(fd) ((fd) == 0)
+#endif
+
 ssize_t read(int fd, void *to, size_t n) {
-    size_t m = fd == 0 && n ? part(n) : n;
+    size_t m = FAULTY(fd) && n ? part(n) : n;
     if (n && !m) {
         errno = EINTR;
         return -1;

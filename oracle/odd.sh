@@ -1,6 +1,7 @@
-# For odd_input.sh and odd_convert.sh, which read it: a program under odd input and under faults of its standard streams.
+# For odd_input.sh, odd_convert.sh and odd_order.sh, which read it: a program under odd input and under faults of its streams.
 # They set program, its path; name, as it calls itself; label, what stands before each line; sheet, what it calls its
-# output; job, a file whose answer has more than 65,536 bytes; answer, the file of that answer; and usage.
+# output; job, a file whose answer has more than 65,536 bytes; answer, the file of that answer; and usage. odd_order.sh sets
+# last_lines, how the last line of a whole answer begins.
 set -u
 ulimit -Ss 8192 # the usual stack
 d=$(mktemp -d)
@@ -8,7 +9,8 @@ trap 'umount "$d/small" 2>/dev/null; rm -rf "$d"' EXIT
 bad=0
 
 # The rule of docs/SHEETS.md: whole exactly if the last byte is a line feed and the last line begins with end or refused.
-is_whole() { [ -z "$(tail -c 1 "$1")" ] && tail -n 1 "$1" | grep -qE '^(end|refused)'; }
+last_lines=${last_lines:-end|refused}
+is_whole() { [ -z "$(tail -c 1 "$1")" ] && tail -n 1 "$1" | grep -qE "^($last_lines)"; }
 
 kind_of() { # OUTPUT EXPECTED-ANSWER
     if cmp -s "$1" "$2"; then echo whole
@@ -51,6 +53,31 @@ second_form() { # FILE
         { print }' "$1"
 }
 of_digit() { yes "$1" | tr -d '\n' | head -c "$2"; } # DIGIT TIMES
+
+# Sheets made of the sample own; most: how many bytes a long field has.
+before() { sed "/^$1/,\$d" "$own"; } # the sample up to its first line of a record
+behind() { sed "0,/^$1/d" "$own"; }  # and what follows that line
+from() { sed -n "/^$1/,\$p" "$own"; }
+more() { # RECORD LINE TIMES: the sample with so many lines more, before its first one of that record
+    before "$1"
+    yes "$2" | head -n "$3"
+    from "$1"
+}
+without_end() { sed '$d'; }
+long_field() { # RECORD FIELDS: the sample with a last field of $most digits in its first line of that record
+    before "$1"
+    printf '%s\t' "$2"
+    of_digit 1 $most
+    echo
+    behind "$1"
+}
+long_group() { # MEMBERS
+    before seg
+    printf 'vgroup'
+    yes "$(printf '\t0')" | head -n "$1" | tr -d '\n'
+    echo
+    from seg
+}
 in_pieces() { # FILE PAUSE: 4,001 bytes at a time
     local at=0
     while [ $at -lt "$(stat -c %s "$1")" ]; do tail -c +$((at + 1)) "$1" | head -c 4001; at=$((at + 4001)); sleep "$2"; done

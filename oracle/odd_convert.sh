@@ -23,29 +23,6 @@ first_job=crates/vregs/stdin second_job=$d/second
 second_form $first_job >"$second_job"
 
 # own and other: the sample in the form that the program reads and in the other one; field: what the first has behind a block or a segment
-before() { sed "/^$1/,\$d" "$own"; } # the sample up to its first line of a record
-behind() { sed "0,/^$1/d" "$own"; }  # and what follows that line
-from() { sed -n "/^$1/,\$p" "$own"; }
-more() { # RECORD LINE TIMES: the sample with so many lines more, before its first one of that record
-    before "$1"
-    yes "$2" | head -n "$3"
-    from "$1"
-}
-without_end() { sed '$d'; }
-long_field() { # RECORD FIELDS: the sample with a last field of $most digits in its first line of that record
-    before "$1"
-    printf '%s\t' "$2"
-    of_digit 1 $most
-    echo
-    behind "$1"
-}
-long_group() { # MEMBERS
-    before seg
-    printf 'vgroup'
-    yes "$(printf '\t0')" | head -n "$1" | tr -d '\n'
-    echo
-    from seg
-}
 twice() { # NAME ANSWER-FILE: $most bytes of standard input, bare and behind the form line
     head -c $most >"$d/bytes"
     feed "$1, $most bytes" "$2" <"$d/bytes"

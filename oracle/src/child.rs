@@ -1,6 +1,7 @@
-//! A program run on a sheet.
+//! A program run on a sheet, or on files of sheets.
 
 use std::io::{self, Read, Write};
+use std::path::Path;
 use std::process::{Command, Stdio};
 
 /// What the program writes when the sheet is its standard input. Its exit status has to be 0.
@@ -26,5 +27,22 @@ pub fn run(program: &str, sheet: &[u8]) -> io::Result<Vec<u8>> {
         Ok(text)
     } else {
         Err(io::Error::other(format!("{status}")))
+    }
+}
+
+/// What the program writes when the files are its arguments. Its exit status has to be 0, and it has to say nothing.
+pub fn run_on(program: &str, files: &[&Path]) -> io::Result<Vec<u8>> {
+    let output = Command::new(program)
+        .args(files)
+        .stdin(Stdio::null())
+        .output()?;
+    if !output.stderr.is_empty() {
+        let said = String::from_utf8_lossy(&output.stderr).into_owned();
+        return Err(io::Error::other(said));
+    }
+    if output.status.success() {
+        Ok(output.stdout)
+    } else {
+        Err(io::Error::other(format!("{}", output.status)))
     }
 }

@@ -12,6 +12,7 @@ pub mod form;
 pub mod frames;
 pub mod job;
 pub mod make;
+pub mod order;
 pub mod print;
 pub mod run;
 pub mod sheet;

@@ -1,5 +1,6 @@
 //! `gen PROFILE SEED`: one sheet. `gen PROFILE SEED COUNT`: frames of the seeds
 //! from SEED on. `gen --stats PROFILE SEED COUNT`: what comes up in them.
+//! `gen --threes PROFILE SEED COUNT`: six frames for each seed, the three pairs of three sheets near one another.
 //! `gen --second`: the sheet on standard input, rewritten into the second form.
 //! `gen --cases`: how many cases `second-damaged` goes through.
 //! `gen --largest [tied|group]`: a sheet of the first form at every limit at once, with tied uses or with group uses.
@@ -10,7 +11,7 @@ use std::process::exit;
 
 use oracle::frames::{self, Frame};
 use oracle::make::{
-    LargestUses, PROFILES, largest, make, second_damaged_cases, second_form, sheet_of,
+    LargestUses, PROFILES, largest, make, second_damaged_cases, second_form, sheet_of, three,
 };
 use oracle::tally::Tally;
 
@@ -23,6 +24,7 @@ fn main() {
         ["--largest"] | ["--largest", "tied"] => largest_sheet(LargestUses::Tied),
         ["--largest", "group"] => largest_sheet(LargestUses::Group),
         ["--stats", profile, seed, count] => stats(profile, number(seed), number(count)),
+        ["--threes", profile, seed, count] => threes(profile, number(seed), number(count)),
         [profile, seed] => one(profile, number(seed)),
         [profile, seed, count] => many(profile, number(seed), number(count)),
         _ => usage(),
@@ -35,6 +37,7 @@ fn main() {
 
 fn usage() -> ! {
     eprintln!("usage: gen [--stats] PROFILE SEED [COUNT]");
+    eprintln!("       gen --threes PROFILE SEED COUNT");
     eprintln!("       gen --second");
     eprintln!("       gen --cases");
     eprintln!("       gen --largest [tied|group]");
@@ -73,6 +76,18 @@ fn many(profile: &str, seed: u64, count: u64) -> io::Result<()> {
     let mut out = BufWriter::new(io::stdout().lock());
     for seed in seed..seed + count {
         frames::write(&mut out, &sheet(profile, seed))?;
+    }
+    out.flush()
+}
+
+fn threes(profile: &str, seed: u64, count: u64) -> io::Result<()> {
+    let mut out = BufWriter::new(io::stdout().lock());
+    for seed in seed..seed + count {
+        let sheets = three(profile, seed).unwrap_or_else(|| usage());
+        for place in [0, 1, 1, 2, 0, 2] {
+            let bytes = sheets[place].clone();
+            frames::write(&mut out, &Frame { bytes, room: None })?;
+        }
     }
     out.flush()
 }

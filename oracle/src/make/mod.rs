@@ -11,6 +11,7 @@ mod full;
 mod leaning;
 mod limits;
 mod long;
+mod pairs;
 mod pieces;
 pub(crate) mod rng;
 mod rooms;
@@ -26,6 +27,7 @@ use rng::Rng;
 
 pub use forms::{count as second_damaged_cases, first_form, second_form};
 pub use limits::{Uses as LargestUses, largest};
+pub use pairs::three;
 pub use write::sheet_of;
 
 /// The profiles of the first form. Those of the second are `second`, `second-damaged` and, for each of these, its name
