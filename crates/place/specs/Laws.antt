@@ -85,7 +85,8 @@ abbrev pub LeastFrom : OutLayout → List ℕ → VirtRegGroup → ℕ → ℕ �
 LeastFrom ol O g i w₀ w = (st : State) → Members ol O st g → BitsOf w (least_weight st i 0 (members_at st g) (of_bits binary32 w₀))
 
 module _ (J : Job) (ol : OutLayout) (O O₁ : List ℕ) (c : Counts) (np nu : ℕ) (hint : Bool) (st : State) (ps : List Piece) (r : Ready J ol O c np nu hint st ps O₁) (s : Space ol c np nu) where
-  ready_weight : (k : RegClass) (w : ℕ) → WeightFrom J ol O₁ c.segs np k w → BitsOf w (weight_of J k (segs_of ps))
+  -- the weight of the pieces, read off their rows
+  pub ready_weight : (k : RegClass) (w : ℕ) → WeightFrom J ol O₁ c.segs np k w → BitsOf w (weight_of J k (segs_of ps))
   ready_weight k w f =
       let shown : Shown ol O₁ c.segs c.uses ps =
       shown_written ol O O₁ c.segs c.uses ps r.written r.holds.long (omega (arith, r.pieces, s.segs)) (omega (arith, r.uses, s.uses)) (typed_uses (uses_of (segs_of ps)) r.typed) in
@@ -113,11 +114,11 @@ module _ (J : Job) (ol : OutLayout) (O O₁ : List ℕ) (c : Counts) (np nu : �
 
   -- ---- a register of no group
 
-  pub left_alone : (vs : ValueSet) (k : RegClass) (h : Held) (w : ℕ) (n : Counts) (O₂ : List ℕ) → WeightFrom J ol O₁ c.segs np k w → w ≤ 2139095040 → h.class ≡ k
+  pub left_alone : (vs : ValueSet) (k : RegClass) (h : Held) (w : ℕ) (n : Counts) (O₂ : List ℕ) → BitsOf w (weight_of J k (segs_of ps)) → w ≤ 2139095040 → h.class ≡ k
       → n ≡ one_more c np nu → O₂ ≡ splice O₁ (c.regs * 8) (register_words (row_of c vs k w 0 0 np hint)) → Left ol O₂ n (alone_state J vs h ps st)
   unfolding alone_state
-  left_alone vs k h w n O₂ f l ek en e =
-      let one = added vs k (weight_of J k (segs_of ps)) none 0 w O₂ (ready_weight k w f) l e in
+  left_alone vs k h w n O₂ b l ek en e =
+      let one = added vs k (weight_of J k (segs_of ps)) none 0 w O₂ b l e in
       let same : record { registers = st.registers ++ (record { set = vs; class = k; weight = weight_of J k (segs_of ps); group = none; index = 0; pieces = ps } ∷ []); groups = st.groups; mapping = st.mapping } ≡ alone_state J vs h ps st =
       λ t. record { registers = st.registers ++ (record { set = vs; class = sym ek t; weight = weight_of J (sym ek t) (segs_of ps); group = none; index = 0; pieces = ps } ∷ []); groups = st.groups; mapping = st.mapping } in
       record { holds = subst (λ (z : State). Holds ol O₂ z) same one; counts = en ∙ one_more_lem ∙ counts_alone J vs h ps st c r.counts }
@@ -125,17 +126,17 @@ module _ (J : Job) (ol : OutLayout) (O O₁ : List ℕ) (c : Counts) (np nu : �
   -- ---- a register that leads a new group
 
   pub left_lead : (vs : ValueSet) (k : RegClass) (h : Held) (hg : HeldGroup) (ms : List Mapped) (i w : ℕ) (d : ClassData) (n m : Counts) (O₂ O₃ : List ℕ)
-      → WeightFrom J ol O₁ c.segs np k w → w ≤ 2139095040 → h.class ≡ k → hg.index ≡ i → c.groups < ol.groups → i < (class_at J k).size → (class_at J k).size ≤ 8
+      → BitsOf w (weight_of J k (segs_of ps)) → w ≤ 2139095040 → h.class ≡ k → hg.index ≡ i → c.groups < ol.groups → i < (class_at J k).size → (class_at J k).size ≤ 8
       → n ≡ one_more c np nu → O₂ ≡ splice O₁ (c.regs * 8) (register_words (row_of c vs k w (c.groups + 1) i np hint)) → d ≡ class_at J k
       → m ≡ group_more n → O₃ ≡ set (set O₂ (group_base ol + c.groups * 9) d.size) (group_base ol + (c.groups * 9 + (i + 1))) (c.regs + 1)
       → Left ol O₃ m (lead_state J vs h hg ps st ms)
   unfolding lead_state
-  left_lead vs k h hg ms i w d n m O₂ O₃ f l ek ei fg hi hs en e ed em e₃ =
+  left_lead vs k h hg ms i w d n m O₂ O₃ b l ek ei fg hi hs en e ed em e₃ =
       let g : VirtRegGroup = vrgroup c.groups in
       let size : ℕ = (class_at J k).size in
       let q : Register = record { set = vs; class = k; weight = weight_of J k (segs_of ps); group = some g; index = i; pieces = ps } in
       let places : List (Option VirtReg) = set (replicate size none) i (some (vreg c.regs)) in
-      let one = added vs k (weight_of J k (segs_of ps)) (some g) i w O₂ (ready_weight k w f) l e in
+      let one = added vs k (weight_of J k (segs_of ps)) (some g) i w O₂ b l e in
       let here : c.regs < length (st.registers ++ (q ∷ [])) = omega (arith, regs_held, length-append st.registers (q ∷ [])) in
       let st₁ : State = record { registers = st.registers ++ (q ∷ []); groups = st.groups; mapping = st.mapping } in
       let st₂ : State = record { registers = st.registers ++ (q ∷ []); groups = st.groups ++ (places ∷ []); mapping = st.mapping } in
@@ -156,17 +157,16 @@ module _ (J : Job) (ol : OutLayout) (O O₁ : List ℕ) (c : Counts) (np nu : �
   -- ---- a register that joins a group
 
   pub left_join : (vs : ValueSet) (k : RegClass) (h : Held) (hg : HeldGroup) (g : VirtRegGroup) (i w₀ w : ℕ) (n : Counts) (O₂ O₃ O₄ : List ℕ)
-      → WeightFrom J ol O₁ c.segs np k w₀ → LeastFrom ol O₁ g i w₀ w → w ≤ 2139095040 → h.class ≡ k → hg.index ≡ i → g.0 < length st.groups → i < length (members_at st g)
+      → BitsOf w₀ (weight_of J k (segs_of ps)) → LeastFrom ol O₁ g i w₀ w → w ≤ 2139095040 → h.class ≡ k → hg.index ≡ i → g.0 < length st.groups → i < length (members_at st g)
       → n ≡ one_more c np nu → O₂ ≡ splice O₁ (c.regs * 8) (register_words (row_of c vs k w (g.0 + 1) i np hint)) → O₃ ≡ spread_in ol k.0 w g O₂
       → O₄ ≡ set O₃ (group_base ol + (g.0 * 9 + (i + 1))) (c.regs + 1)
       → Left ol O₄ n (join_state J vs h hg g ps st)
   unfolding join_state group_weight members_at
-  left_join vs k h hg g i w₀ w n O₂ O₃ O₄ f lf l ek ei here hi en e₂ e₃ e₄ =
+  left_join vs k h hg g i w₀ w n O₂ O₃ O₄ b₀ lf l ek ei here hi en e₂ e₃ e₄ =
       let rs : List Register = st.registers in
       let ms : List (Option VirtReg) = members_at st g in
       let x : Float = least_weight st i 0 ms (weight_of J k (segs_of ps)) in
       let fit : g.0 < ol.groups = omega (arith, r.holds.fit_groups) in
-      let b₀ : BitsOf w₀ (weight_of J k (segs_of ps)) = ready_weight k w₀ f in
       let b : BitsOf w x =
       subst (λ (y : Float). BitsOf w (least_weight st i 0 ms y)) b₀.1 (lf st (members_written ol O O₁ st g c.segs c.uses ps (uses_of (segs_of ps)) r.written fit (members_held ol O st g r.holds here))) in
       let q : Register = record { set = vs; class = k; weight = x; group = some g; index = i; pieces = ps } in
@@ -221,13 +221,12 @@ filled_asks J ol O c np nu v st new g f l =
     let there : v.0 < length (with_new v new st).registers = omega (arith, f.here, length_update (with_pieces (all_of v new st)) v.0 st.registers) in
     (spread_able ol O (with_new v new st) f.holds g l, omega (arith, f.holds.fit_registers), span_in ol O (with_new v new st) f.holds v there)
 
-pub left_merge : (J : Job) (ol : OutLayout) (O O₂ : List ℕ) (c n : Counts) (np nu : ℕ) (v : VirtReg) (st : State) (new : List Piece) (k : RegClass) (h : Held) (hg : HeldGroup) (g : VirtRegGroup) (i p m w₀ w : ℕ)
-    → Filled J ol c np nu v st new O → p ≡ get_or O (v.0 * 8 + 6) 0 → m ≡ get_or O (v.0 * 8 + 7) 0 → WeightFrom J ol O p m k w₀ → LeastFrom ol O g i w₀ w → w ≤ 2139095040
-    → h.class ≡ k → hg.index ≡ i → g.0 < length st.groups → n ≡ pieces_more c np nu → O₂ ≡ spread_in ol k.0 w g O → Left ol O₂ n (merge_state J h hg g v new st)
-unfolding merge_state group_weight members_at register_at
-left_merge J ol O O₂ c n np nu v st new k h hg g i p m w₀ w fd ep em f lf l ek ei here en e₂ =
+-- the weight of all of its pieces, read off their rows
+pub merge_weight : (J : Job) (ol : OutLayout) (O : List ℕ) (c : Counts) (np nu : ℕ) (v : VirtReg) (st : State) (new : List Piece) (k : RegClass) (p m w : ℕ) → Filled J ol c np nu v st new O
+    → p ≡ get_or O (v.0 * 8 + 6) 0 → m ≡ get_or O (v.0 * 8 + 7) 0 → WeightFrom J ol O p m k w → BitsOf w (weight_of J k (segs_of (all_of v new st)))
+unfolding register_at
+merge_weight J ol O c np nu v st new k p m w fd ep em f =
     let rs : List Register = st.registers in
-    let ms : List (Option VirtReg) = members_at st g in
     let qs : List Piece = all_of v new st in
     let st₁ : State = with_new v new st in
     let held : Holds ol O st₁ = fd.holds in
@@ -237,9 +236,19 @@ left_merge J ol O O₂ c n np nu v st new k h hg g i p m w₀ w fd ep em f lf l 
     let shown : Shown ol O p (first_use st₁ (first_piece st₁ v)) (register_at st₁ v).pieces =
     subst (λ (t : ℕ). Shown ol O t (first_use st₁ (first_piece st₁ v)) (register_at st₁ v).pieces) (sym (ep ∙ first_held ol O st₁ held v there))
     (shown_held ol O st₁ v held there (typed_uses _ (typed_register st₁ v there held.typed))) in
-    let b₀ : BitsOf w₀ (weight_of J k (segs_of qs)) =
-    subst (λ (t : List Piece). BitsOf w₀ (weight_of J k (segs_of t))) eq
-    (f (first_use st₁ (first_piece st₁ v)) (register_at st₁ v).pieces shown (sym (em ∙ count_held ol O st₁ held v there)) wd.inside wd.least wd.most) in
+    subst (λ (t : List Piece). BitsOf w (weight_of J k (segs_of t))) eq
+    (f (first_use st₁ (first_piece st₁ v)) (register_at st₁ v).pieces shown (sym (em ∙ count_held ol O st₁ held v there)) wd.inside wd.least wd.most)
+
+pub left_merge : (J : Job) (ol : OutLayout) (O O₂ : List ℕ) (c n : Counts) (np nu : ℕ) (v : VirtReg) (st : State) (new : List Piece) (k : RegClass) (h : Held) (hg : HeldGroup) (g : VirtRegGroup) (i w₀ w : ℕ)
+    → Filled J ol c np nu v st new O → BitsOf w₀ (weight_of J k (segs_of (all_of v new st))) → LeastFrom ol O g i w₀ w → w ≤ 2139095040
+    → h.class ≡ k → hg.index ≡ i → g.0 < length st.groups → n ≡ pieces_more c np nu → O₂ ≡ spread_in ol k.0 w g O → Left ol O₂ n (merge_state J h hg g v new st)
+unfolding merge_state group_weight members_at
+left_merge J ol O O₂ c n np nu v st new k h hg g i w₀ w fd b₀ lf l ek ei here en e₂ =
+    let rs : List Register = st.registers in
+    let ms : List (Option VirtReg) = members_at st g in
+    let qs : List Piece = all_of v new st in
+    let st₁ : State = with_new v new st in
+    let held : Holds ol O st₁ = fd.holds in
     let x : Float = least_weight st i 0 ms (weight_of J k (segs_of qs)) in
     let b₁ : BitsOf w (least_weight st₁ i 0 ms (weight_of J k (segs_of qs))) = subst (λ (y : Float). BitsOf w (least_weight st₁ i 0 ms y)) b₀.1 (lf st₁ (members_held ol O st₁ g held here)) in
     let b : BitsOf w x = subst (λ (y : Float). BitsOf w y) (least_same st st₁ (λ a. weight_pieces qs v.0 a.0 rs no_register) i 0 ms (weight_of J k (segs_of qs))) b₁ in

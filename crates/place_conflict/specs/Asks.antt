@@ -15,25 +15,26 @@ use Rattle.definition.specs.declared.Inst.{Inst}
 use Rattle.definition.specs.Types.{Job, Piece, Turned, State, point}
 use Rattle.definition.specs.Entry.{insts_of}
 use Rattle.definition.specs.Build.{conflict_piece}
-use Rattle.definition.specs.Place.{first_from, last_to}
+use Rattle.definition.specs.Place.{uses_of, segs_of, first_from, last_to}
 use Rattle.layout.specs.declared.Layout.{Layout}
 use Rattle.job.specs.Job.{job_of}
 use Rattle.virt_regs.specs.declared.OutLayout.{OutLayout}
 use Rattle.virt_regs.specs.declared.Counts.{Counts}
 use Rattle.virt_regs.specs.Encoding.{tables_end, counts_of, Holds}
-use Rattle.vreg_find.specs.Ends.{place_of}
 use Rattle.constraints.specs.declared.Held.{Held}
 use Rattle.work_layout.specs.declared.WorkLayout.{WorkLayout}
 use Rattle.constraints.specs.Ready as constraints
 use Rattle.part_maps.specs.Maps.{MapApart, Outside}
 use Rattle.part_maps.proofs.Kept.{ready_kept}
+use Rattle.vreg_put.specs.Written.{Written}
 use Rattle.vreg_weight.specs.Fair.{Fair}
 use Rattle.conflict_piece.specs.Conflict.{turned_row_at, turned_rows_of, RowsOk, param_by, open_count}
 use Rattle.conflict_piece.proofs.Rows.{count_conflict, hint_conflict}
 use Rattle.conflict_piece.proofs.Going.{row_kept, known_kept}
 use Rattle.place.specs.Ready.{RowsOf}
 use Rattle.place_laws.specs.Held.{HeldFits}
-use Rattle.place_laws.specs.Puts.{Small}
+use Rattle.plan.specs.Asked.{Measured}
+use Rattle.finish.specs.Setting.{Small, Setting}
 use Rattle.place_conflict.specs.Piece.{insts_in, fair_rows}
 use Rattle.place_end.specs.Ends.{Sane}
 
@@ -72,22 +73,6 @@ abbrev pub HeldIn : Job → Held → State → Type 0
 HeldIn J h st = HeldFits J st h × Sane J st
 
 module _ {t w n : ℕ} {W K O : List ℕ} {lay : Layout} {wl : WorkLayout} {ol : OutLayout} {a b : ℕ} {p : Inst} {c : Counts} where
-  pub asks_more : {F G : State → Type 0} → ((st : State) → F st → G st) → Asks t w n W K O lay wl ol a b p c F → Asks t w n W K O lay wl ol a b p c G
-  asks_more f k =
-      record {
-        ready = k.ready;
-        apart = k.apart;
-        rows = k.rows;
-        segments = k.segments;
-        inst = k.inst;
-        long = k.long;
-        small = k.small;
-        st = k.st;
-        holds = k.holds;
-        counts = k.counts;
-        more = f k.st k.more;
-      }
-
   module _ {F : State → Type 0} (k : Asks t w n W K O lay wl ol a b p c F) where
     -- an instruction of the job
     pub asks_inst : p.0 < 4096
@@ -101,7 +86,7 @@ module _ {t w n : ℕ} {W K O : List ℕ} {lay : Layout} {wl : WorkLayout} {ol :
     asks_groups = omega (arith, ap (λ (y : Counts). y.groups) k.counts, k.holds.fit_groups, k.small.3)
 
     pub asks_small : Small ol
-    asks_small = (k.small.0, k.small.1, k.small.2)
+    asks_small = (k.small.0, k.small.1, k.small.2, k.small.3)
 
     module _ (v : Value) (q : code.Option ℕ) where
       pub asks_fair : Fair (job_of W lay) 4096 (pieces_of K wl.turned W lay a b v p q)
@@ -116,11 +101,25 @@ piece_rows K turned W lay a b v p q e = record {
   hinted = sym (hint_conflict v p (param_by q) (turned_rows_of K turned W lay a b));
 }
 
--- its place is looked for from its start to its end
-pub piece_place : (K : List ℕ) (turned : ℕ) (W : List ℕ) (lay : Layout) (a b : ℕ) (v : Value) (p : Inst) (q : code.Option ℕ) (x : Option ℕ) (old : List Piece) → x ≡ place_of (point (4 * p.0)) (point (4 * p.0 + 2)) old
-    → x ≡ place_of (first_from (pieces_of K turned W lay a b v p q)) (last_to (pieces_of K turned W lay a b v p q)) old
+pub piece_measured : {nu : ℕ} (K : List ℕ) (turned : ℕ) (W : List ℕ) (lay : Layout) (a b : ℕ) (v : Value) (p : Inst) (q : code.Option ℕ) → nu ≡ open_count q + (b - a)
+    → Measured (pieces_of K turned W lay a b v p q) (record { pieces = 1; uses = nu; «from» = point (4 * p.0); to = point (4 * p.0 + 2) })
 unfolding first_from last_to conflict_piece
-piece_place K turned W lay a b v p q x old e = e
+piece_measured K turned W lay a b v p q e = record {
+  pieces = refl;
+  uses = e ∙ sym (count_conflict v p q K turned W lay a b);
+  begin = refl;
+  end = refl;
+}
+
+-- what is asked is a setting of the plan
+pub asks_setting : {t w n : ℕ} {W K O : List ℕ} {lay : Layout} {wl : WorkLayout} {ol : OutLayout} {a b : ℕ} {p : Inst} {c : Counts} {h : Held} (k : Asks t w n W K O lay wl ol a b p c (HeldIn (job_of W lay) h)) (v : Value) (q : code.Option ℕ)
+    → Setting (job_of W lay) ol O c h k.st (pieces_of K wl.turned W lay a b v p q)
+asks_setting k v q = record { holds = k.holds; counts = k.counts; fits = k.more.0; sane = k.more.1; fair = asks_fair k v q }
+
+-- and so for every state that the tables hold
+pub stands_setting : {t w n : ℕ} {W K O : List ℕ} {lay : Layout} {wl : WorkLayout} {ol : OutLayout} {a b : ℕ} {p : Inst} {c : Counts} {F : State → Type 0} (k : Asks t w n W K O lay wl ol a b p c F) (v : Value) (q : code.Option ℕ) (h : Held) (st : State)
+    → Holds ol O st → c ≡ counts_of st → Sane (job_of W lay) st → HeldFits (job_of W lay) st h → Setting (job_of W lay) ol O c h st (pieces_of K wl.turned W lay a b v p q)
+stands_setting k v q h st hs ec s f = record { holds = hs; counts = ec; fits = f; sane = s; fair = asks_fair k v q }
 
 -- ---- after operands have been mapped
 
@@ -149,20 +148,14 @@ module _ (lay : Layout) (wl : WorkLayout) (K K₁ : List ℕ) (o : Outside lay w
   pub pieces_kept : (W : List ℕ) (a b : ℕ) (v : Value) (p : Inst) (q : code.Option ℕ) → pieces_of K₁ wl.turned W lay a b v p q ≡ pieces_of K wl.turned W lay a b v p q
   pieces_kept W a b v p q = ap (λ (ts : List Turned). conflict_piece v p (param_by q) ts ∷ []) (sym (rows_kept W a b))
 
-pub asks_kept : {t n : ℕ} {W O : List ℕ} (work work' : List ℕ) {lay : Layout} {wl : WorkLayout} {ol : OutLayout} {a b : ℕ} {p : Inst} {c : Counts} {F : State → Type 0} → Outside lay wl (words_of work) (words_of work')
-    → Asks t (word_count work) n W (words_of work) O lay wl ol a b p c F → Asks t (word_count work') n W (words_of work') O lay wl ol a b p c F
-asks_kept {t} {n} {W} {O} work work' {lay} {wl} {ol} {a} {b} x k =
+pub ready_then : (t : ℕ) (W work work' : List ℕ) (lay : Layout) (wl : WorkLayout) → Outside lay wl (words_of work) (words_of work') → MapApart lay wl → constraints.Ready t (word_count work) W (words_of work) lay wl
+    → constraints.Ready t (word_count work') W (words_of work') lay wl
+ready_then t W work work' lay wl x a r =
     let e : word_count work ≡ word_count work' = sym (length_words work) ∙ sym x.long ∙ length_words work' in
-    record {
-      ready = subst (λ (m : ℕ). constraints.Ready t m W (words_of work') lay wl) e (ready_kept lay wl (words_of work) (words_of work') x k.apart t (word_count work) W k.ready);
-      apart = k.apart;
-      rows = rows_ok lay wl (words_of work) (words_of work') x k.apart (word_count work) (word_count work') a b (sym e) k.rows;
-      segments = k.segments;
-      inst = k.inst;
-      long = k.long;
-      small = k.small;
-      st = k.st;
-      holds = k.holds;
-      counts = k.counts;
-      more = k.more;
-    }
+    subst (λ (m : ℕ). constraints.Ready t m W (words_of work') lay wl) e (ready_kept lay wl (words_of work) (words_of work') x a t (word_count work) W r)
+
+-- the piece's rows, written when its operands were mapped
+pub written_then : (ol : OutLayout) (O O₁ : List ℕ) (i u : ℕ) (W K K' : List ℕ) (lay : Layout) (wl : WorkLayout) (a b : ℕ) (v : Value) (p : Inst) (q : code.Option ℕ) → Outside lay wl K K' → MapApart lay wl
+    → Written ol O i u (pieces_of K' wl.turned W lay a b v p q) (uses_of (segs_of (pieces_of K' wl.turned W lay a b v p q))) O₁
+    → Written ol O i u (pieces_of K wl.turned W lay a b v p q) (uses_of (segs_of (pieces_of K wl.turned W lay a b v p q))) O₁
+written_then ol O O₁ i u W K K' lay wl a b v p q x m w = subst (λ (ps : List Piece). Written ol O i u ps (uses_of (segs_of ps)) O₁) (pieces_kept lay wl K K' x m W a b v p q) w

@@ -10,7 +10,7 @@ use Rattle.definition.specs.declared.Stop.{Stop}
 use Rattle.definition.specs.declared.Refusal.{Refusal}
 use Rattle.definition.specs.declared.Refusal.TheVariants.{NotARecord, OverALimit, BadBook, BadFunction, BadHint, BadSegment, BadUse, Stopped, Full}
 use Rattle.definition.specs.Types.{Job, Register, State, Out, done, refused}
-use Rattle.definition.specs.Place.{gate, if_room, with_weight, update, spread}
+use Rattle.definition.specs.Place.{with_weight, update, spread}
 use Rattle.definition.specs.Admit.{register_at, no_register}
 use Rattle.layout.specs.declared.Layout.{Layout}
 use Rattle.virt_regs.specs.declared.OutLayout.{OutLayout}
@@ -82,33 +82,6 @@ module _ (J : Job) (ol : OutLayout) (W : List ℕ) (lay : Layout) (wl : WorkLayo
   pub ends_full : r ≡ Err not_placed.Full → Ends J ol W lay wl K₀ O K r (refused Full)
   unfolding Answers
   ends_full e = record { outside = out; answers = subst (λ (x : Placed). Answers J ol W lay wl O K x (refused Full)) (sym e) refl }
-
-  -- by the room: none, or the state
-  pub room_full : (m : Bool) (st : State) → m ≡ false → r ≡ Err not_placed.Full → Ends J ol W lay wl K₀ O K r (if_room m st)
-  unfolding if_room
-  room_full false st em e = ends_full e
-  room_full true st em e = absurd (let z : ◌≡◌ {A = ℕ} 0 1 = cc in omega arith)
-
-  pub room_done : (m : Bool) (c : Counts) (st : State) → m ≡ true → r ≡ Ok c → DoneAs J ol W lay wl O K c st → Ends J ol W lay wl K₀ O K r (if_room m st)
-  unfolding if_room
-  room_done true c st em e d = ends_done c st e d
-  room_done false c st em e d = absurd (let z : ◌≡◌ {A = ℕ} 0 1 = cc in omega arith)
-
-  -- by the gate: a stop, or by the room
-  pub gate_stopped : (b : Bool) (s : Stop) (m : Bool) (st : State) → b ≡ true → r ≡ Err (not_placed.Stopped s) → Ends J ol W lay wl K₀ O K r (gate b s m st)
-  unfolding gate
-  gate_stopped true s m st eb e = ends_stopped s e
-  gate_stopped false s m st eb e = absurd (let z : ◌≡◌ {A = ℕ} 0 1 = cc in omega arith)
-
-  pub gate_full : (b : Bool) (s : Stop) (m : Bool) (st : State) → b ≡ false → m ≡ false → r ≡ Err not_placed.Full → Ends J ol W lay wl K₀ O K r (gate b s m st)
-  unfolding gate
-  gate_full false s m st eb em e = room_full m st em e
-  gate_full true s m st eb em e = absurd (let z : ◌≡◌ {A = ℕ} 0 1 = cc in omega arith)
-
-  pub gate_done : (b : Bool) (s : Stop) (m : Bool) (c : Counts) (st : State) → b ≡ false → m ≡ true → r ≡ Ok c → DoneAs J ol W lay wl O K c st → Ends J ol W lay wl K₀ O K r (gate b s m st)
-  unfolding gate
-  gate_done false s m c st eb em e d = room_done m c st em e d
-  gate_done true s m c st eb em e d = absurd (let z : ◌≡◌ {A = ℕ} 0 1 = cc in omega arith)
 
 -- placing that is done has left a state
 pub placed_state : (J : Job) (ol : OutLayout) (W : List ℕ) (lay : Layout) (wl : WorkLayout) (O K : List ℕ) (r : Placed) (o : Out State) (c : Counts) → Answers J ol W lay wl O K r o → r ≡ Ok c

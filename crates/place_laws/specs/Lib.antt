@@ -1,4 +1,3 @@
-pub mod Ways
 pub mod Kept
 pub mod Held
-pub mod Puts
+pub mod Weighed

@@ -1,2 +1,2 @@
-// Laws only: how placing pieces ends, in each of the four ways, by what is left in the tables.
+// Laws only: what is held and the state that it fits, and the pieces that can be weighed.
 #![tactic(auto)]

@@ -1,4 +1,4 @@
--- A part's rows in the tables: how many, where it begins and ends, and what stays when the mapping changes. Assumes nothing.
+-- What a working part is to the plan: how many pieces and uses, where it begins and ends, and that mapping operands leaves it. Assumes nothing.
 use mathlib.Core.Path.{◌≡◌, refl, sym, ap, ap₂, ◌∙◌, subst}
 use mathlib.Core.Bool.{Bool, cond}
 use mathlib.Core.List.{List}
@@ -11,7 +11,7 @@ use Rattle.words.specs.Laws.{length_words}
 use Rattle.rows.specs.Tab.{tab}
 use Rattle.definition.specs.declared.LiveRangePoint.{LiveRangePoint}
 use Rattle.definition.specs.declared.Use.{Use}
-use Rattle.definition.specs.Types.{Segment, Piece, State, vrgroup}
+use Rattle.definition.specs.Types.{Job, Segment, Piece, State, vrgroup}
 use Rattle.definition.specs.Lines.{hint_in}
 use Rattle.definition.specs.Build.{as_own}
 use Rattle.definition.specs.Place.{uses_of, segs_of, map_uses, first_from, last_to}
@@ -23,35 +23,18 @@ use Rattle.set_part.specs.Part.{PartOk, part_row, seg_by, marked_use, part_segs}
 use Rattle.virt_regs.specs.declared.OutLayout.{OutLayout}
 use Rattle.virt_regs.specs.declared.Counts.{Counts}
 use Rattle.vreg_put.specs.Written.{Written}
-use Rattle.std.specs.Prelude as code
-use Rattle.vreg_find.specs.Ends.{place_of}
 use Rattle.vreg_weight.specs.Fair.{Fair}
 use Rattle.work_layout.specs.declared.WorkLayout.{WorkLayout}
 use Rattle.constraints.specs.Ready.{Ready}
 use Rattle.part_pieces.proofs.Rows.{own_segs, count_pieces_of, count_part_uses}
 use Rattle.part_maps.specs.Maps.{MapApart, Outside, Maps}
 use Rattle.part_maps.proofs.Kept.{marked_kept, ready_kept}
-use Rattle.place.specs.declared.Rows.{Rows}
+use Rattle.constraints.specs.declared.Held.{Held}
 use Rattle.place.specs.Ready.{RowsOf}
-use Rattle.place_part.specs.Asked.{new_pieces, Asks}
-
--- ---- the rows
-
-pub part_rows_of : (K : List ℕ) (m : ℕ) (W : List ℕ) (lay : Layout) (sp : SetPart) (n : Rows) → PartOk W lay sp → (n.pieces ≡ sp.last + 1 - sp.seg) × (n.uses ≡ sp.end - sp.first)
-    → ((L : List ℕ) (k : ℕ) → n.hint ≡ hint_in (as_own (part_segs L k W lay sp))) → RowsOf (as_own (part_segs K m W lay sp)) n
-part_rows_of K m W lay sp n ok e h = record {
-  pieces = count_pieces_of K m W lay sp ∙ sym e.0;
-  uses = count_part_uses K m W lay sp ok ∙ sym e.1;
-  hinted = h K m;
-}
-
--- the part's uses are those of its pieces
-pub written_own : (ol : OutLayout) (O O₁ : List ℕ) (p u : ℕ) (ss : List Segment) → Written ol O p u (as_own ss) (uses_of ss) O₁ → Written ol O p u (as_own ss) (uses_of (segs_of (as_own ss))) O₁
-written_own ol O O₁ p u ss w = subst (λ (x : List Segment). Written ol O p u (as_own ss) (uses_of x) O₁) (sym (own_segs ss)) w
-
-pub maps_own : (W K K' : List ℕ) (lay : Layout) (wl : WorkLayout) (g : ℕ) (ss : List Segment) (b : Bool) → Maps W K lay wl (map_uses (vrgroup g) (uses_of ss)) b K'
-    → Maps W K lay wl (map_uses (vrgroup g) (uses_of (segs_of (as_own ss)))) b K'
-maps_own W K K' lay wl g ss b m = subst (λ (x : List Segment). Maps W K lay wl (map_uses (vrgroup g) (uses_of x)) b K') (sym (own_segs ss)) m
+use Rattle.place_laws.specs.Held.{HeldFits}
+use Rattle.plan.specs.Asked.{Measured}
+use Rattle.finish.specs.Setting.{Small, Setting}
+use Rattle.place_part.specs.Asked.{new_pieces, Standing, Asked}
 
 -- ---- where a part begins and ends
 
@@ -80,9 +63,28 @@ module _ (K : List ℕ) (m : ℕ) (W : List ℕ) (lay : Layout) (sp : SetPart) (
       ∙ ap (λ (k : ℕ). (seg_by (marked_use K m W lay) (part_row W lay sp k)).to) e
       ∙ ap (λ (b : Bool). cond b sp.to (seg_at W lay sp.last).to) (eq-eqb sp.last sp.last refl)
 
-  -- its place in a register
-  pub part_place : (x : code.Option ℕ) (old : List Piece) → x ≡ place_of sp.«from» sp.to old → x ≡ place_of (first_from (as_own (part_segs K m W lay sp))) (last_to (as_own (part_segs K m W lay sp))) old
-  part_place x old e = e ∙ sym (ap₂ (λ (a b : LiveRangePoint). place_of a b old) part_from part_to)
+  pub part_measured : Measured (as_own (part_segs K m W lay sp)) (record { pieces = sp.last + 1 - sp.seg; uses = sp.end - sp.first; «from» = sp.«from»; to = sp.to })
+  part_measured = record { pieces = sym (count_pieces_of K m W lay sp); uses = sym (count_part_uses K m W lay sp ok); begin = sym part_from; end = sym part_to }
+
+  pub part_rows : (b : Bool) → b ≡ hint_in (as_own (part_segs K m W lay sp)) → RowsOf (as_own (part_segs K m W lay sp)) (record { pieces = sp.last + 1 - sp.seg; uses = sp.end - sp.first; hint = b })
+  part_rows b e = record { pieces = count_pieces_of K m W lay sp; uses = count_part_uses K m W lay sp ok; hinted = e }
+
+-- ---- what is asked
+
+module _ {t w o : ℕ} {W K O : List ℕ} {lay : Layout} {ol : OutLayout} {wl : WorkLayout} {sp : SetPart} {h : Held} {c : Counts} (a : Asked t w o W K O lay ol wl sp h c) where
+  -- groups are counted by words
+  pub asked_groups : c.groups + 1 < 2 ^ 32
+  asked_groups = let e = ap (λ (x : Counts). x.groups) a.counts in omega (arith, e, a.groups, a.holds.fit_groups)
+
+  pub asked_small : Small ol
+  asked_small = (a.regs, a.segs, a.uses, a.groups)
+
+  pub asked_setting : Setting (job_of W lay) ol O c h a.st (new_pieces K wl W lay sp)
+  asked_setting = record { holds = a.holds; counts = a.counts; fits = a.fits; sane = a.sane; fair = a.fair }
+
+pub standing_setting : {J : Job} {ol : OutLayout} {O W K : List ℕ} {lay : Layout} {wl : WorkLayout} {c : Counts} {h : Held} (st : State) (ps : List Piece) → Standing J ol O W K lay wl c st → HeldFits J st h → Fair J 4096 ps
+    → Setting J ol O c h st ps
+standing_setting st ps q hf f = record { holds = q.stands.tables; counts = q.counts; fits = hf; sane = q.sane; fair = f }
 
 -- ---- where the mapping alone is changed
 
@@ -92,28 +94,21 @@ pieces_kept W K K' lay wl sp x a =
     let e : marked_use K' wl.marks W lay ≡ marked_use K wl.marks W lay = λ y n. marked_kept lay wl K K' x a W n y in
     ap (λ (f : ℕ → Use). as_own (tab (λ i. seg_by f (part_row W lay sp i)) sp.seg (sp.last + 1 - sp.seg))) e
 
-pub asks_kept : {t o : ℕ} {W O : List ℕ} (work work' : List ℕ) {lay : Layout} {ol : OutLayout} {wl : WorkLayout} {sp : SetPart} {c : Counts} {F : State → Type 0} → Outside lay wl (words_of work) (words_of work')
-    → Asks t (word_count work) o W (words_of work) O lay ol wl sp c F → Asks t (word_count work') o W (words_of work') O lay ol wl sp c F
-asks_kept {t} {o} {W} {O} work work' {lay} {ol} {wl} {sp} x a =
+pub ready_then : (t : ℕ) (W work work' : List ℕ) (lay : Layout) (wl : WorkLayout) → Outside lay wl (words_of work) (words_of work') → MapApart lay wl → Ready t (word_count work) W (words_of work) lay wl
+    → Ready t (word_count work') W (words_of work') lay wl
+ready_then t W work work' lay wl x a r =
     let e : word_count work ≡ word_count work' = sym (length_words work) ∙ sym x.long ∙ length_words work' in
-    record {
-      ready = subst (λ (n : ℕ). Ready t n W (words_of work') lay wl) e (ready_kept lay wl (words_of work) (words_of work') x a.apart t (word_count work) W a.ready);
-      apart = a.apart;
-      book = a.book;
-      long = a.long;
-      part = a.part;
-      regs = a.regs;
-      segs = a.segs;
-      uses = a.uses;
-      groups = a.groups;
-      st = a.st;
-      holds = a.holds;
-      counts = a.counts;
-      fits = a.fits;
-      sane = a.sane;
-      fair = subst (λ (ps : List Piece). Fair (job_of W lay) 4096 ps) (sym (pieces_kept W (words_of work) (words_of work') lay wl sp x a.apart)) a.fair;
-    }
+    subst (λ (n : ℕ). Ready t n W (words_of work') lay wl) e (ready_kept lay wl (words_of work) (words_of work') x a t (word_count work) W r)
 
--- groups are counted by words
-pub asks_groups : {t w o : ℕ} {W K O : List ℕ} {lay : Layout} {ol : OutLayout} {wl : WorkLayout} {sp : SetPart} {c : Counts} {F : State → Type 0} → Asks t w o W K O lay ol wl sp c F → c.groups + 1 < 2 ^ 32
-asks_groups a = let e = ap (λ (x : Counts). x.groups) a.counts in omega (arith, e, a.groups, a.holds.fit_groups)
+-- the part's rows, written when its operands were mapped
+pub written_then : (ol : OutLayout) (O O₁ : List ℕ) (p u : ℕ) (W K K' : List ℕ) (lay : Layout) (wl : WorkLayout) (sp : SetPart) → Outside lay wl K K' → MapApart lay wl
+    → Written ol O p u (as_own (part_segs K' wl.marks W lay sp)) (uses_of (part_segs K' wl.marks W lay sp)) O₁
+    → Written ol O p u (new_pieces K wl W lay sp) (uses_of (segs_of (new_pieces K wl W lay sp))) O₁
+written_then ol O O₁ p u W K K' lay wl sp x a w =
+    let ss : List Segment = part_segs K' wl.marks W lay sp in
+    subst (λ (ps : List Piece). Written ol O p u ps (uses_of (segs_of ps)) O₁) (pieces_kept W K K' lay wl sp x a)
+    (subst (λ (l : List Segment). Written ol O p u (as_own ss) (uses_of l) O₁) (sym (own_segs ss)) w)
+
+pub maps_own : (W K K' : List ℕ) (lay : Layout) (wl : WorkLayout) (g : ℕ) (ss : List Segment) (b : Bool) → Maps W K lay wl (map_uses (vrgroup g) (uses_of ss)) b K'
+    → Maps W K lay wl (map_uses (vrgroup g) (uses_of (segs_of (as_own ss)))) b K'
+maps_own W K K' lay wl g ss b m = subst (λ (x : List Segment). Maps W K lay wl (map_uses (vrgroup g) (uses_of x)) b K') (sym (own_segs ss)) m

@@ -28,8 +28,8 @@ pub record Standing (J : Job) (ol : OutLayout) (O W K : List ℕ) (lay : Layout)
   pub counts : c ≡ counts_of st
   pub sane : Sane J st
 
--- the job is accepted, the work slice has its parts, the tables hold some state with the counts c of which F is so, and the part is one of the job
-pub record Asks (t w o : ℕ) (W K O : List ℕ) (lay : Layout) (ol : OutLayout) (wl : WorkLayout) (sp : SetPart) (c : Counts) (F : State → Type 0) : Type 0 where
+-- the job is accepted, the work slice has its parts, the tables hold some state with the counts c that what is held fits, and the part is one of the job
+pub record Asked (t w o : ℕ) (W K O : List ℕ) (lay : Layout) (ol : OutLayout) (wl : WorkLayout) (sp : SetPart) (h : Held) (c : Counts) : Type 0 where
   pub ready : Ready t w W K lay wl
   pub apart : MapApart lay wl
   pub book : SmallBook W lay
@@ -42,30 +42,6 @@ pub record Asks (t w o : ℕ) (W K O : List ℕ) (lay : Layout) (ol : OutLayout)
   pub st : State
   pub holds : Holds ol O st
   pub counts : c ≡ counts_of st
-  pub fits : F st
+  pub fits : HeldFits (job_of W lay) st h
   pub sane : Sane (job_of W lay) st
   pub fair : Fair (job_of W lay) 4096 (new_pieces K wl W lay sp)
-
--- the state is one that what is held fits
-abbrev pub Asked : ℕ → ℕ → ℕ → List ℕ → List ℕ → List ℕ → Layout → OutLayout → WorkLayout → SetPart → Held → Counts → Type 0
-Asked t w o W K O lay ol wl sp h c = Asks t w o W K O lay ol wl sp c (λ st. HeldFits (job_of W lay) st h)
-
-pub asks_more : {t w o : ℕ} {W K O : List ℕ} {lay : Layout} {ol : OutLayout} {wl : WorkLayout} {sp : SetPart} {c : Counts} {F G : State → Type 0} → ((st : State) → F st → Sane (job_of W lay) st → G st)
-    → Asks t w o W K O lay ol wl sp c F → Asks t w o W K O lay ol wl sp c G
-asks_more f a = record {
-  ready = a.ready;
-  apart = a.apart;
-  book = a.book;
-  long = a.long;
-  part = a.part;
-  regs = a.regs;
-  segs = a.segs;
-  uses = a.uses;
-  groups = a.groups;
-  st = a.st;
-  holds = a.holds;
-  counts = a.counts;
-  fits = f a.st a.fits a.sane;
-  sane = a.sane;
-  fair = a.fair;
-}

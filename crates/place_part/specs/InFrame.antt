@@ -12,11 +12,7 @@ use Rattle.virt_regs.specs.declared.Counts.{Counts}
 use Rattle.constraints.specs.declared.Held.{Held}
 use Rattle.place_part.specs.Asked as asked
 
--- what the placing of a part asks, where F is so of the state
-abbrev pub Asks : Frame → List ℕ → List ℕ → SetPart → Counts → (State → Type 0) → Type 0
-Asks fr work out = asked.Asks (word_count fr.job.bytes.now) (word_count work) (word_count out) (words_in fr.job) (words_of work) (words_of out) fr.job.lay fr.ol fr.wl
-
--- where what is held fits the state
+-- what the placing of a part asks
 abbrev pub Asked : Frame → List ℕ → List ℕ → SetPart → Held → Counts → Type 0
 Asked fr work out = asked.Asked (word_count fr.job.bytes.now) (word_count work) (word_count out) (words_in fr.job) (words_of work) (words_of out) fr.job.lay fr.ol fr.wl
 

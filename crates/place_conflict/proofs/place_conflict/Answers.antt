@@ -1,33 +1,113 @@
-use mathlib.Core.Path.{refl}
-use Rattle.constraints.specs.Held.{group_held, held_of}
-use Rattle.place_laws.specs.Held.{way_alone, way_lead, way_join, way_merge, class_held}
-use Rattle.place_end.specs.Ends.{ends_by}
-use Rattle.place_conflict.specs.Asks.{asks_more}
+use mathlib.Core.Path.{refl, sym, ◌∙◌}
+use native.Mathlib.Omega.{arith}
+use Rattle.std.specs.Prelude.{not}
+use Rattle.words.specs.Words.{words_of}
+use Rattle.constraints.specs.Held.{held_of}
+use Rattle.place_end.specs.Ends.{err_kept}
+use Rattle.place_laws.specs.Kept.{weighable_kept}
+use Rattle.place_laws.specs.Held.{class_held}
+use Rattle.finish.specs.Way.{planned_way}
+use Rattle.finish.specs.Setting.{can_decide, can_open, can_write, is_filling, can_finish, ends_not, ends_made}
+use Rattle.place_conflict.specs.InFrame.{pieces_of}
+use Rattle.place_conflict.specs.Asks.{asks_inst, asks_small, asks_groups, asks_setting, stands_setting, piece_rows, piece_measured, rows_ok, ready_then, written_then}
 use Rattle.place_conflict.proofs.place_conflict.Goals as goal
 
-pub returns-in_default : goal.returns-in_default
-returns-in_default c = let h = c.args.held in
-    λ st sd ec sane hf. ends_by _ _ _ _ _ _ _ _ _ _ _ (way_alone _ _ _ h _ st c.in_default.is) (c.conflict_alone.ensures st (held_of h) sd ec sane (class_held h))
+pub map_new-free-requires : goal.map_new-free-requires
+map_new-free-requires c = let k = c.requires.1 in
+    (k.ready, k.apart, k.rows, k.segments, asks_groups k)
 
-pub returns-in_default-mapped : goal.returns-in_default-mapped
-returns-in_default-mapped c = let h = c.args.held in
+pub overflow_mul-from : goal.overflow_mul-from
+overflow_mul-from c = omega (arith, asks_inst c.requires.1)
+
+pub overflow_add-new : goal.overflow_add-new
+overflow_add-new c = omega (arith, asks_inst c.requires.1)
+
+pub decide-p-requires : goal.decide-p-requires
+decide-p-requires c = let k = c.requires.1 in
+    can_decide _ _ _ _ _ k.st _ (asks_setting k c.args.x.value c.args.x.param) _ k.long
+
+pub returns-in_err-placed : goal.returns-in_err-placed
+returns-in_err-placed c = let k = c.requires.1 in
+    let x = c.args.x in
+    let e = c.map_new-free.ensures x.value x.pos x.param in
     λ st sd ec sane hf.
-    ends_by _ _ _ _ _ _ _ _ _ _ _ (way_lead _ _ _ h _ st _ c.in-Some.is c.in_default-mapped.is) (c.conflict_lead.ensures st (held_of h) (group_held _) sd ec sane (class_held h) refl)
+    ends_not _ _ _ _ _ _ _ _ _ _ _ _ _ e st (stands_setting k x.value x.param _ st sd.tables ec sane hf) sd.mapped _
+    (c.decide-p.ensures st _ sd.tables ec hf.target (piece_measured (words_of c.args.work.now) c.args.fr.now.wl.turned _ _ _ _ x.value x.pos x.param c.use_count.ensures)) _ _ _ (sym c.placed.ensures ∙ c.in_err-placed.was)
+    (err_kept _ _ c.from_residual.ensures.1)
 
-pub conflict_join-requires : goal.conflict_join-requires
-conflict_join-requires c = (c.requires.0, asks_more (λ st x. x.0.group _ _ c.in-Some.is c.in-Some-mapped.is) c.requires.1)
+pub make_room-at-requires : goal.make_room-at-requires
+make_room-at-requires c = let k = c.requires.1 in
+    let x = c.args.x in
+    let K = words_of c.args.work.now in
+    let t = c.args.fr.now.wl.turned in
+    let ps = pieces_of c.args.fr.now c.args.work.now c.args.a c.args.b x.value x.pos x.param in
+    let d = c.decide-p.ensures k.st ps k.holds k.counts k.more.0.target (piece_measured K t _ _ _ _ x.value x.pos x.param c.use_count.ensures) in
+    can_open _ _ _ _ _ _ k.st _ (asks_setting k x.value x.param) (asks_small k) _ (piece_rows K t _ _ _ _ x.value x.pos x.param c.use_count.ensures) _
+    (planned_way (not c.map_new-free.result) _ _ _ k.st _ d (sym c.placed.ensures ∙ c.in_ok-placed.was))
 
-pub returns-in-None : goal.returns-in-None
-returns-in-None c = let h = c.args.held in
+pub write_conflict-requires : goal.write_conflict-requires
+write_conflict-requires c = let k = c.requires.1 in
+    let x = c.args.x in
+    let K = words_of c.args.work.now in
+    let t = c.args.fr.now.wl.turned in
+    let e = c.map_new-free.ensures x.value x.pos x.param in
+    let ps = pieces_of c.args.fr.now c.args.work.now c.args.a c.args.b x.value x.pos x.param in
+    let d = c.decide-p.ensures k.st ps k.holds k.counts k.more.0.target (piece_measured K t _ _ _ _ x.value x.pos x.param c.use_count.ensures) in
+    let m =
+    can_write _ _ _ _ _ _ k.st _ (asks_setting k x.value x.param) (asks_small k) _ (piece_rows K t _ _ _ _ x.value x.pos x.param c.use_count.ensures) _ _ _
+    (planned_way (not c.map_new-free.result) _ _ _ k.st _ d (sym c.placed.ensures ∙ c.in_ok-placed.was)) (c.make_room-at.ensures k.st k.holds k.counts) in record {
+      fits = (rows_ok _ _ _ _ e.outside k.apart _ _ _ _ (omega (arith, c.map_new-free)) k.rows, omega (arith, c.make_room-at, k.long));
+      room = (omega (arith, m.0), omega (arith, c.use_count.ensures, m.1), omega (arith, c.use_count.ensures, m.2), omega (arith, asks_inst k));
+    }
+
+pub weigh-w-requires : goal.weigh-w-requires
+weigh-w-requires c = let k = c.requires.1 in
+    let x = c.args.x in
+    let K = words_of c.args.work.now in
+    let t = c.args.fr.now.wl.turned in
+    let e = c.map_new-free.ensures x.value x.pos x.param in
+    let ps = pieces_of c.args.fr.now c.args.work.now c.args.a c.args.b x.value x.pos x.param in
+    let s = asks_setting k x.value x.param in
+    let n = piece_rows K t _ _ _ _ x.value x.pos x.param c.use_count.ensures in
+    let d = c.decide-p.ensures k.st ps k.holds k.counts k.more.0.target (piece_measured K t _ _ _ _ x.value x.pos x.param c.use_count.ensures) in
+    let w = planned_way (not c.map_new-free.result) _ _ _ k.st _ d (sym c.placed.ensures ∙ c.in_ok-placed.was) in (
+      weighable_kept _ _ _ _ _ _ _ c.requires.0 (ready_then _ _ _ _ _ _ e.outside k.apart k.ready) (omega (arith, c.map_new-free)),
+      omega (arith, k.long, c.make_room-at, c.write_conflict),
+      can_finish _ _ _ _ _ _ k.st _ s (asks_small k) _ n _ _ w
+          (is_filling _ _ _ _ _ _ k.st _ s (asks_small k) _ n _ _ _ _ w (c.make_room-at.ensures k.st k.holds k.counts)
+          (written_then _ _ _ _ _ _ _ _ _ _ _ _ x.value x.pos x.param e.outside k.apart (c.write_conflict.ensures _ refl))),
+    )
+
+pub finish-requires : goal.finish-requires
+finish-requires c = let k = c.requires.1 in
+    let x = c.args.x in
+    let K = words_of c.args.work.now in
+    let t = c.args.fr.now.wl.turned in
+    let e = c.map_new-free.ensures x.value x.pos x.param in
+    let ps = pieces_of c.args.fr.now c.args.work.now c.args.a c.args.b x.value x.pos x.param in
+    let s = asks_setting k x.value x.param in
+    let n = piece_rows K t _ _ _ _ x.value x.pos x.param c.use_count.ensures in
+    let d = c.decide-p.ensures k.st ps k.holds k.counts k.more.0.target (piece_measured K t _ _ _ _ x.value x.pos x.param c.use_count.ensures) in
+    let w = planned_way (not c.map_new-free.result) _ _ _ k.st _ d (sym c.placed.ensures ∙ c.in_ok-placed.was) in (
+      c.requires.0.book,
+      omega (arith, k.long, c.make_room-at, c.write_conflict),
+      can_finish _ _ _ _ _ _ k.st _ s (asks_small k) _ n _ _ w
+          (is_filling _ _ _ _ _ _ k.st _ s (asks_small k) _ n _ _ _ _ w (c.make_room-at.ensures k.st k.holds k.counts)
+          (written_then _ _ _ _ _ _ _ _ _ _ _ _ x.value x.pos x.param e.outside k.apart (c.write_conflict.ensures _ refl))),
+    )
+
+pub returns : goal.returns
+returns c = let k = c.requires.1 in
+    let x = c.args.x in
+    let K = words_of c.args.work.now in
+    let t = c.args.fr.now.wl.turned in
+    let e = c.map_new-free.ensures x.value x.pos x.param in
+    let ps = pieces_of c.args.fr.now c.args.work.now c.args.a c.args.b x.value x.pos x.param in
+    let n = piece_rows K t _ _ _ _ x.value x.pos x.param c.use_count.ensures in
+    let wr = written_then _ _ _ _ _ _ _ _ _ _ _ _ x.value x.pos x.param e.outside k.apart (c.write_conflict.ensures _ refl) in
+    let ok = sym c.placed.ensures ∙ c.in_ok-placed.was in
     λ st sd ec sane hf.
-    ends_by _ _ _ _ _ _ _ _ _ _ _ (way_join _ _ _ h _ st _ c.in-Some.is _ c.in-Some-mapped.is c.in-None.is)
-    (c.conflict_join.ensures st (held_of h) (group_held _) sd ec sane (class_held h) refl (hf.group _ _ c.in-Some.is c.in-Some-mapped.is))
-
-pub conflict_merge-requires : goal.conflict_merge-requires
-conflict_merge-requires c = (c.requires.0, asks_more (λ st x. ((x.0.group _ _ c.in-Some.is c.in-Some-mapped.is).0, x.0.target _ _ c.in-Some.is c.in-Some-target.is, x.1)) c.requires.1)
-
-pub returns-in-Some-target : goal.returns-in-Some-target
-returns-in-Some-target c = let h = c.args.held in
-    λ st sd ec sane hf.
-    ends_by _ _ _ _ _ _ _ _ _ _ _ (way_merge _ _ _ h _ st _ c.in-Some.is _ c.in-Some-mapped.is _ c.in-Some-target.is)
-    (c.conflict_merge.ensures st (held_of h) (group_held _) sd ec (class_held h) refl ((hf.group _ _ c.in-Some.is c.in-Some-mapped.is).0, hf.target _ _ c.in-Some.is c.in-Some-target.is, sane))
+    let s = stands_setting k x.value x.param _ st sd.tables ec sane hf in
+    let d = c.decide-p.ensures st ps sd.tables ec hf.target (piece_measured K t _ _ _ _ x.value x.pos x.param c.use_count.ensures) in
+    let y = is_filling _ _ _ _ _ _ st _ s (asks_small k) _ n _ _ _ _ (planned_way (not c.map_new-free.result) _ _ _ st _ d ok) (c.make_room-at.ensures st sd.tables ec) wr in
+    ends_made _ _ _ _ _ _ _ _ _ _ _ _ _ e st s sd.mapped _ d (asks_small k) _ n _ _ _ ok (c.finish.ensures _ st ps (held_of c.args.held) (class_held _) y (c.weigh-w.ensures _ st ps y)) refl

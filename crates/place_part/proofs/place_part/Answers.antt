@@ -1,32 +1,88 @@
-use mathlib.Core.Path.{refl}
-use Rattle.constraints.specs.Held.{group_held, held_of}
-use Rattle.place_laws.specs.Held.{way_alone, way_lead, way_join, way_merge, class_held}
-use Rattle.place_end.specs.Ends.{ends_by}
-use Rattle.place_part.specs.Asked.{asks_more}
+use mathlib.Core.Path.{refl, sym, ◌∙◌}
+use native.Mathlib.Omega.{arith}
+use Rattle.std.specs.Prelude.{not}
+use Rattle.words.specs.Words.{words_of}
+use Rattle.set_part.proofs.Bounds.{first_le_end}
+use Rattle.constraints.specs.Held.{held_of}
+use Rattle.place_end.specs.Ends.{err_kept}
+use Rattle.place_laws.specs.Kept.{weighable}
+use Rattle.place_laws.specs.Held.{class_held}
+use Rattle.finish.specs.Way.{planned_way}
+use Rattle.finish.specs.Setting.{can_decide, can_open, can_write, is_filling, can_finish, ends_not, ends_made}
+use Rattle.place_part.specs.InFrame.{new_pieces}
+use Rattle.place_part.proofs.Rows.{part_measured, part_rows, asked_small, asked_setting, standing_setting, ready_then, written_then}
 use Rattle.place_part.proofs.place_part.Goals as goal
 
-pub returns-in_default : goal.returns-in_default
-returns-in_default c = let h = c.args.held in
-    λ st q hf f. ends_by _ _ _ _ _ _ _ _ _ _ _ (way_alone _ _ _ h _ st c.in_default.is) (c.place_alone.ensures st (held_of h) q (class_held h))
+pub overflow_sub-new-2 : goal.overflow_sub-new-2
+overflow_sub-new-2 c = first_le_end _ _ _ c.requires.part
 
-pub returns-in_default-mapped : goal.returns-in_default-mapped
-returns-in_default-mapped c = let h = c.args.held in
-    λ st q hf f. ends_by _ _ _ _ _ _ _ _ _ _ _ (way_lead _ _ _ h _ st _ c.in-Some.is c.in_default-mapped.is) (c.place_lead.ensures st (held_of h) (group_held _) q (class_held h) refl)
+pub decide-p-requires : goal.decide-p-requires
+decide-p-requires c = let a = c.requires in
+    can_decide _ _ _ _ _ a.st _ (asked_setting a) _ a.long
 
-pub place_join-requires : goal.place_join-requires
-place_join-requires c = asks_more (λ st x s. x.group _ _ c.in-Some.is c.in-Some-mapped.is) c.requires
-
-pub returns-in-None : goal.returns-in-None
-returns-in-None c = let h = c.args.held in
+pub returns-in_err-placed : goal.returns-in_err-placed
+returns-in_err-placed c = let a = c.requires in
     λ st q hf f.
-    ends_by _ _ _ _ _ _ _ _ _ _ _ (way_join _ _ _ h _ st _ c.in-Some.is _ c.in-Some-mapped.is c.in-None.is)
-    (c.place_join.ensures st (held_of h) (group_held _) q (class_held h) refl (hf.group _ _ c.in-Some.is c.in-Some-mapped.is))
+    ends_not _ _ _ _ _ _ _ _ _ _ _ _ _ c.map_new-free.ensures st (standing_setting st _ q hf f) q.stands.mapped _
+    (c.decide-p.ensures st _ q.stands.tables q.counts hf.target (part_measured (words_of c.args.work.now) c.args.fr.now.wl.marks _ _ _ a.part)) _ _ _ (sym c.placed.ensures ∙ c.in_err-placed.was)
+    (err_kept _ _ c.from_residual.ensures.1)
 
-pub place_merge-requires : goal.place_merge-requires
-place_merge-requires c = asks_more (λ st x s. ((x.group _ _ c.in-Some.is c.in-Some-mapped.is).0, x.target _ _ c.in-Some.is c.in-Some-target.is, s)) c.requires
+pub make_room-at-requires : goal.make_room-at-requires
+make_room-at-requires c = let a = c.requires in
+    let K = words_of c.args.work.now in
+    let m = c.args.fr.now.wl.marks in
+    let d = c.decide-p.ensures a.st (new_pieces c.args.fr.now c.args.work.now c.args.sp) a.holds a.counts a.fits.target (part_measured K m _ _ _ a.part) in
+    can_open _ _ _ _ _ _ a.st _ (asked_setting a) (asked_small a) _ (part_rows K m _ _ _ a.part _ (c.hint_in_part.ensures K m)) _ (planned_way (not c.map_new-free.result) _ _ _ a.st _ d (sym c.placed.ensures ∙ c.in_ok-placed.was))
 
-pub returns-in-Some-target : goal.returns-in-Some-target
-returns-in-Some-target c = let h = c.args.held in
+pub write_part-requires-clause-room : goal.write_part-requires-clause-room
+write_part-requires-clause-room c = let a = c.requires in
+    let K = words_of c.args.work.now in
+    let m = c.args.fr.now.wl.marks in
+    let d = c.decide-p.ensures a.st (new_pieces c.args.fr.now c.args.work.now c.args.sp) a.holds a.counts a.fits.target (part_measured K m _ _ _ a.part) in
+    can_write _ _ _ _ _ _ a.st _ (asked_setting a) (asked_small a) _ (part_rows K m _ _ _ a.part _ (c.hint_in_part.ensures K m)) _ _ _
+    (planned_way (not c.map_new-free.result) _ _ _ a.st _ d (sym c.placed.ensures ∙ c.in_ok-placed.was)) (c.make_room-at.ensures a.st a.holds a.counts)
+
+pub weigh-w-requires : goal.weigh-w-requires
+weigh-w-requires c = let a = c.requires in
+    let K = words_of c.args.work.now in
+    let m = c.args.fr.now.wl.marks in
+    let x = c.map_new-free.ensures.outside in
+    let s = asked_setting a in
+    let n = part_rows K m _ _ _ a.part _ (c.hint_in_part.ensures K m) in
+    let d = c.decide-p.ensures a.st (new_pieces c.args.fr.now c.args.work.now c.args.sp) a.holds a.counts a.fits.target (part_measured K m _ _ _ a.part) in
+    let w = planned_way (not c.map_new-free.result) _ _ _ a.st _ d (sym c.placed.ensures ∙ c.in_ok-placed.was) in (
+      weighable _ _ _ _ (ready_then _ _ _ _ _ _ x a.apart a.ready) a.book,
+      omega (arith, a.long, c.make_room-at, c.write_part),
+      can_finish _ _ _ _ _ _ a.st _ s (asked_small a) _ n _ _ w
+          (is_filling _ _ _ _ _ _ a.st _ s (asked_small a) _ n _ _ _ _ w (c.make_room-at.ensures a.st a.holds a.counts) (written_then _ _ _ _ _ _ _ _ _ _ _ x a.apart c.write_part.ensures)),
+    )
+
+pub finish-requires : goal.finish-requires
+finish-requires c = let a = c.requires in
+    let K = words_of c.args.work.now in
+    let m = c.args.fr.now.wl.marks in
+    let x = c.map_new-free.ensures.outside in
+    let s = asked_setting a in
+    let n = part_rows K m _ _ _ a.part _ (c.hint_in_part.ensures K m) in
+    let d = c.decide-p.ensures a.st (new_pieces c.args.fr.now c.args.work.now c.args.sp) a.holds a.counts a.fits.target (part_measured K m _ _ _ a.part) in
+    let w = planned_way (not c.map_new-free.result) _ _ _ a.st _ d (sym c.placed.ensures ∙ c.in_ok-placed.was) in (
+      a.book,
+      omega (arith, a.long, c.make_room-at, c.write_part),
+      can_finish _ _ _ _ _ _ a.st _ s (asked_small a) _ n _ _ w
+          (is_filling _ _ _ _ _ _ a.st _ s (asked_small a) _ n _ _ _ _ w (c.make_room-at.ensures a.st a.holds a.counts) (written_then _ _ _ _ _ _ _ _ _ _ _ x a.apart c.write_part.ensures)),
+    )
+
+pub returns : goal.returns
+returns c = let a = c.requires in
+    let K = words_of c.args.work.now in
+    let m = c.args.fr.now.wl.marks in
+    let ps = new_pieces c.args.fr.now c.args.work.now c.args.sp in
+    let n = part_rows K m _ _ _ a.part _ (c.hint_in_part.ensures K m) in
+    let wr = written_then _ _ _ _ _ _ _ _ _ _ _ c.map_new-free.ensures.outside a.apart c.write_part.ensures in
+    let ok = sym c.placed.ensures ∙ c.in_ok-placed.was in
     λ st q hf f.
-    ends_by _ _ _ _ _ _ _ _ _ _ _ (way_merge _ _ _ h _ st _ c.in-Some.is _ c.in-Some-mapped.is _ c.in-Some-target.is)
-    (c.place_merge.ensures st (held_of h) (group_held _) q (class_held h) refl ((hf.group _ _ c.in-Some.is c.in-Some-mapped.is).0, hf.target _ _ c.in-Some.is c.in-Some-target.is, q.sane))
+    let s = standing_setting st ps q hf f in
+    let d = c.decide-p.ensures st ps q.stands.tables q.counts hf.target (part_measured K m _ _ _ a.part) in
+    let x = is_filling _ _ _ _ _ _ st _ s (asked_small a) _ n _ _ _ _ (planned_way (not c.map_new-free.result) _ _ _ st _ d ok) (c.make_room-at.ensures st q.stands.tables q.counts) wr in
+    ends_made _ _ _ _ _ _ _ _ _ _ _ _ _ c.map_new-free.ensures st s q.stands.mapped _ d (asked_small a) _ n _ _ _ ok
+    (c.finish.ensures _ st ps (held_of c.args.held) (class_held _) x (c.weigh-w.ensures _ st ps x)) refl

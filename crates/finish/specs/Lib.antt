@@ -1,0 +1,3 @@
+pub mod Way
+pub mod Filling
+pub mod Setting

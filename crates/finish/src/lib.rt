@@ -1,0 +1,135 @@
+// builder.rs, emit_vreg: a plan carried out around the pieces that a source writes.
+#![tactic(auto)]
+
+ghost use Rattle.std.specs.Prelude.{◌≡◌, List, ℕ, ◌≤◌};
+ghost use Rattle.words.specs.Words.{word_count, words_of};
+ghost use Rattle.layout.specs.JobWords.{words_in};
+ghost use Rattle.job.specs.Job.{job_in};
+ghost use Rattle.use_costs.specs.Book.{SmallBook};
+ghost use Rattle.definition.specs.Types.{Held, Piece, State};
+ghost use Rattle.definition.specs.Weights.{weight_of};
+ghost use Rattle.definition.specs.Place.{segs_of};
+ghost use Rattle.virt_regs.specs.Encoding.{tables_end, counts_of, Holds};
+ghost use Rattle.vreg_weight.specs.Weighed.{BitsOf};
+ghost use Rattle.vreg_weight.specs.InFrame.{Weighable};
+ghost use Rattle.plan.specs.Plan.{carry_out};
+ghost use Rattle.finish.specs.Filling.{Openable, Opens, RowWithin, span_by, Finishable, Filling, pieces_by, LeftBy};
+
+use definition::{RegClass, ValueSet, VirtReg, VirtRegGroup};
+use frame::Frame;
+use place::{Rows, add_register};
+use plan::Plan;
+use use_costs::class_data;
+use virt_regs::{Counts, PieceSpan, pieces_of};
+use vreg_change::{add_group, set_member, spread};
+use vreg_insert::{Gaps, open_gaps};
+use vreg_weight::{WeightBits, least_weight, weight_of_pieces};
+
+// Where the pieces are written: behind the rows in use, or in gaps that are opened for them.
+pub fn make_room(fr: &Frame, out: &mut [u8], c: &Counts, p: &Plan, new: &Rows) -> Gaps
+    requires { Openable fr.now.ol (words_of out.old) c.now new.now p.now }
+    ensures { (st : State) → Holds fr.now.ol (words_of out.old) st → c.now ≡ counts_of st → Opens fr.now.ol st (words_of out.old) c.now new.now result (words_of out.new) p.now }
+{
+    match *p {
+        Plan::Merge { reg, at, .. } => {
+            let Rows { pieces, uses, hint } = *new;
+            open_gaps(out, fr.ol, *c, reg, at, pieces, uses, hint)
+        }
+        Plan::Alone | Plan::Lead { .. } | Plan::Join { .. } | Plan::Stop(_) | Plan::Full => Gaps {
+            pieces: c.segs,
+            uses: c.uses,
+        },
+    }
+}
+
+// The pieces that are weighed: those that were written, or all of the register that they are merged into.
+fn weighed_pieces(out: &[u8], c: &Counts, p: &Plan, pieces: usize) -> PieceSpan
+    requires { RowWithin (word_count out.now) p.now }
+    ensures { result ≡ span_by (words_of out.now) c.now pieces p.now }
+{
+    match *p {
+        Plan::Merge { reg, .. } => pieces_of(out, reg),
+        Plan::Alone | Plan::Lead { .. } | Plan::Join { .. } | Plan::Stop(_) | Plan::Full => {
+            PieceSpan {
+                first: c.segs,
+                count: pieces,
+            }
+        }
+    }
+}
+
+// The weight of the pieces that the register has then, which stand in the tables.
+pub fn weigh(
+    fr: &Frame,
+    out: &[u8],
+    work: &[u8],
+    c: &Counts,
+    p: &Plan,
+    new: &Rows,
+    class: RegClass,
+) -> WeightBits
+    requires { Weighable fr.now work.now × (tables_end fr.now.ol ≤ word_count out.now) × Finishable fr.now.ol (words_of out.now) c.now new.now p.now }
+    ensures { (O : List ℕ) (st : State) (ps : List Piece) → Filling (job_in fr.now.job) fr.now.ol class O c.now new.now st ps (words_of out.now) p.now
+        → BitsOf result.value (weight_of (job_in fr.now.job) class (segs_of (pieces_by st ps p.now))) }
+{
+    let s = weighed_pieces(out, c, p, new.pieces);
+    weight_of_pieces(fr, out, work, s.first, s.count, class)
+}
+
+// The rows of the register and of its group, and the class and weight of the group's members. The pieces stand where
+// the plan says, and w is the weight of all that the register has.
+pub fn finish(
+    fr: &Frame,
+    out: &mut [u8],
+    c: &Counts,
+    set: ValueSet,
+    class: RegClass,
+    p: &Plan,
+    new: &Rows,
+    w: WeightBits,
+) -> Counts
+    requires { SmallBook (words_in fr.now.job) fr.now.job.lay × (tables_end fr.now.ol ≤ word_count out.old) × Finishable fr.now.ol (words_of out.old) c.now new.now p.now }
+    ensures { (O : List ℕ) (st : State) (ps : List Piece) (h : Held) → h.class ≡ class → Filling (job_in fr.now.job) fr.now.ol class O c.now new.now st ps (words_of out.old) p.now
+        → BitsOf w.value (weight_of (job_in fr.now.job) class (segs_of (pieces_by st ps p.now)))
+        → LeftBy fr.now.ol (words_of out.new) result (carry_out (job_in fr.now.job) set h ps st p.now) }
+{
+    match *p {
+        Plan::Alone => add_register(out, c, set, class, w.value, 0, 0, new),
+        Plan::Lead { index } => {
+            let g = c.groups as u32;
+            let v = c.regs as u32;
+            let n = add_register(out, c, set, class, w.value, g + 1, index, new);
+            let size = class_data(&fr.job, class).size;
+            add_group(
+                out,
+                fr.ol,
+                VirtRegGroup(g),
+                size,
+                index as usize,
+                VirtReg(v),
+            );
+            Counts {
+                groups: n.groups + 1,
+                ..n
+            }
+        }
+        Plan::Join { group, index } => {
+            let least = least_weight(out, fr.ol, group, index as usize, w).value;
+            let v = c.regs as u32;
+            let n = add_register(out, c, set, class, least, group.0 + 1, index, new);
+            spread(out, fr.ol, group, class, least);
+            set_member(out, fr.ol, group, index as usize, VirtReg(v));
+            n
+        }
+        Plan::Merge { group, index, .. } => {
+            let least = least_weight(out, fr.ol, group, index as usize, w).value;
+            spread(out, fr.ol, group, class, least);
+            Counts {
+                segs: c.segs + new.pieces,
+                uses: c.uses + new.uses,
+                ..*c
+            }
+        }
+        Plan::Stop(_) | Plan::Full => *c,
+    }
+}

@@ -1,0 +1,4 @@
+pub mod Plan
+pub mod Planned
+pub mod Asked
+pub mod Ends
