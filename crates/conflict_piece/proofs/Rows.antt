@@ -106,7 +106,7 @@ pub piece_uses : (v : Value) (p : Inst) (q : Option ℕ) (ts : List Turned) → 
 unfolding uses_of conflict_piece
 piece_uses v p q ts = append-nil (opening p q ++ map (λ t. t.use') ts)
 
-row_words : (v : Value) (p : Inst) (q : code.Option ℕ) (u n : ℕ) (ts : List Turned) → n ≡ length (opening p (param_by q) ++ map (λ t. t.use') ts)
+pub row_words : (v : Value) (p : Inst) (q : code.Option ℕ) (u n : ℕ) (ts : List Turned) → n ≡ length (opening p (param_by q) ++ map (λ t. t.use') ts)
     → piece_words (conflict_row v p q u n) ≡ each_piece u (conflict_piece v p (param_by q) ts)
 unfolding conflict_row conflict_piece
 row_words v p (Some i) u n ts e = ap (λ (k : ℕ). v.0 ∷ (4 * p.0) ∷ (4 * p.0 + 2) ∷ 0 ∷ 1 ∷ u ∷ k ∷ []) e

@@ -72,7 +72,7 @@ fn write_turned(fr: &Frame, work: &[u8], a: usize, b: usize, out: &mut [u8], u: 
 
 // "A conflict piece covers [4p, 4p+2)." Its flags: live-in, without a parameter.
 #[tactic(auto, unfolding(crate::specs::Conflict::conflict_row))]
-fn conflict_row(value: Value, pos: Inst, param: Option<u32>, u: usize, n: usize) -> PieceRow
+pub fn conflict_row(value: Value, pos: Inst, param: Option<u32>, u: usize, n: usize) -> PieceRow
     requires { (4 * pos.0 + 2 < 4294967296) × (u < 4294967296) × (n < 4294967296) }
     ensures { result ≡ conflict_row value pos param u n }
 {

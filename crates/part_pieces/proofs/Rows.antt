@@ -60,11 +60,11 @@ uses_all ol O O₁ u f a b i w h l p =
 -- ---- rows
 
 -- the words of an own piece's row
-row_words : (f : ℕ → Use) (s : PartSeg) (n : ℕ) → piece_words (row_of s n) ≡ each_piece n (record { origin = Own; seg = seg_by f s })
+pub row_words : (f : ℕ → Use) (s : PartSeg) (n : ℕ) → piece_words (row_of s n) ≡ each_piece n (record { origin = Own; seg = seg_by f s })
 unfolding row_of seg_by
 row_words f s n = ap (λ (k : ℕ). piece_words (record { value = s.value; «from» = s.«from»; to = s.to; flags = flags_number s.flags; origin = 0; first = n; uses = k })) (sym (length_tab f s.first (s.end - s.first)))
 
-own_snoc : (ss : List Segment) (s : Segment) → as_own (ss ++ (s ∷ [])) ≡ as_own ss ++ (record { origin = Own; seg = s } ∷ [])
+pub own_snoc : (ss : List Segment) (s : Segment) → as_own (ss ++ (s ∷ [])) ≡ as_own ss ++ (record { origin = Own; seg = s } ∷ [])
 own_snoc [] s = refl
 own_snoc (t ∷ ss) s = ap (λ (l : List Piece). record { origin = Own; seg = t } ∷ l) (own_snoc ss s)
 

@@ -33,7 +33,7 @@ pub fn flags_number(f: UseFlags) -> u32
 
 // The row of an own piece whose first use is use u.
 #[tactic(auto, unfolding(crate::specs::Rows::row_of))]
-fn piece_row(s: PartSeg, u: usize) -> PieceRow
+pub fn piece_row(s: PartSeg, u: usize) -> PieceRow
     requires { (s.first ≤ s.end) × (s.end - s.first < 4294967296) × (u < 4294967296) }
     ensures { result ≡ row_of s u }
 {

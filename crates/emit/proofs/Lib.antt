@@ -1,0 +1,5 @@
+pub mod Use
+pub mod Uses
+pub mod Pieces
+pub mod Parts
+pub mod Conflict
