@@ -1,5 +1,5 @@
 -- Each arm of a plan: the weight of its pieces, and what is left. Assumes nothing.
-use Rattle.std.specs.Prelude.{◌≡◌, refl, ℕ, ◌<◌, ◌≤◌, List, [], length}
+use Rattle.std.specs.Prelude.{◌≡◌, refl, ℕ, ◌+◌, ◌*◌, ◌<◌, ◌≤◌, List, [], length, get_or}
 use Rattle.std.proofs.Common.{sym, subst}
 use Rattle.definition.specs.declared.ValueSet.{ValueSet}
 use Rattle.definition.specs.declared.RegClass.{RegClass}
@@ -12,29 +12,23 @@ use Rattle.definition.specs.Admit.{members_at}
 use Rattle.definition.specs.Place.{segs_of, or_else, alone_state, lead_state, join_state, merge_state}
 use Rattle.virt_regs.specs.declared.OutLayout.{OutLayout}
 use Rattle.virt_regs.specs.declared.Counts.{Counts}
-use Rattle.virt_regs.specs.declared.PieceSpan.{PieceSpan}
 use Rattle.vreg_weight.specs.Weighed.{BitsOf}
 use Rattle.place.specs.declared.Rows.{Rows}
 use Rattle.place.specs.Ready.{Ready, Filled, Left, all_of}
-use Rattle.place.specs.Laws.{WeightFrom, ready_weight, merge_weight}
+use Rattle.place.specs.Laws.{WeightFrom, merge_weight}
 use Rattle.plan.specs.declared.Plan.{Plan}
 use Rattle.plan.specs.declared.Plan.TheVariants as plans
 use Rattle.plan.specs.Plan.{held_at, maps_to, carry_out}
-use Rattle.finish.specs.Filling.{span_by, Finishable, Filling, pieces_by, LeftBy}
+use Rattle.finish.specs.Filling.{Finishable, Filling, pieces_by, LeftBy}
 
 module _ (J : Job) (ol : OutLayout) (k : RegClass) (O : List ℕ) (c : Counts) (n : Rows) (st : State) (ps : List Piece) (O₁ : List ℕ) (w : ℕ) where
-  -- what is read off the rows that the plan says is the weight of the pieces
-  pub weighed : (p : Plan) (s : PieceSpan) → s ≡ span_by O₁ c n.pieces p → WeightFrom J ol O₁ s.first s.count k w → Finishable ol O₁ c n p → Filling J ol k O c n st ps O₁ p
-      → BitsOf w (weight_of J k (segs_of (pieces_by st ps p)))
-  weighed p s e f = go p (subst (λ (x : PieceSpan). WeightFrom J ol O₁ x.first x.count k w) e f)
-    where
-      go : (p : Plan) → WeightFrom J ol O₁ (span_by O₁ c n.pieces p).first (span_by O₁ c n.pieces p).count k w → Finishable ol O₁ c n p → Filling J ol k O c n st ps O₁ p → BitsOf w (weight_of J k (segs_of (pieces_by st ps p)))
-      go plans.Alone f a x = ready_weight J ol O O₁ c n.pieces n.uses n.hint st ps x a k w f
-      go (plans.Lead i) f a x = ready_weight J ol O O₁ c n.pieces n.uses n.hint st ps x.0 a.0 k w f
-      go (plans.Join g i) f a x = ready_weight J ol O O₁ c n.pieces n.uses n.hint st ps x.0 a.0 k w f
-      go (plans.Merge g v i j) f a x = merge_weight J ol O₁ c n.pieces n.uses v st ps k _ _ w x.0 refl refl f
-      go (plans.Stop z) f a x = absurd a
-      go plans.Full f a x = absurd a
+  -- what is read off the rows of the register that is merged into is the weight of all its pieces
+  pub weighed_merged : (q : Plan) (g : VirtRegGroup) (v : VirtReg) (i j : ℕ) → q ≡ plans.Merge g v i j
+      → (p m : ℕ) → p ≡ get_or O₁ (v.0 * 8 + 6) 0 → m ≡ get_or O₁ (v.0 * 8 + 7) 0 → WeightFrom J ol O₁ p m k w
+      → Filling J ol k O c n st ps O₁ q → BitsOf w (weight_of J k (segs_of (pieces_by st ps q)))
+  weighed_merged q g v i j e p m ep em f =
+      subst (λ (r : Plan). Filling J ol k O c n st ps O₁ r → BitsOf w (weight_of J k (segs_of (pieces_by st ps r)))) (sym e)
+      (λ x. merge_weight J ol O₁ c n.pieces n.uses v st ps k p m w x.0 ep em f)
 
   module _ (vs : ValueSet) (h : Held) (O₂ : List ℕ) (m : Counts) (p : Plan) where
     -- what is left by plan q

@@ -5,18 +5,22 @@ use Rattle.definition.specs.declared.RegClass.{RegClass}
 use Rattle.definition.specs.declared.VirtReg.{VirtReg}
 use Rattle.definition.specs.declared.VirtRegGroup.{VirtRegGroup}
 use Rattle.definition.specs.Types.{Job, Piece, State, Out, done, refused}
-use Rattle.definition.specs.RegInfo.{class_at}
+use Rattle.definition.specs.RegInfo.{class_at, zero_f}
+use Rattle.definition.specs.LiveRange.{live_insts}
+use Rattle.definition.specs.Weights.{sum_segs}
 use Rattle.definition.specs.Admit.{register_at, members_at}
+use Rattle.definition.specs.Place.{segs_of}
 use Rattle.virt_regs.specs.declared.OutLayout.{OutLayout}
 use Rattle.virt_regs.specs.declared.Counts.{Counts}
-use Rattle.virt_regs.specs.declared.PieceSpan.{PieceSpan}
 use Rattle.vreg_change.specs.Flat.{Spreadable}
 use Rattle.vreg_insert.specs.declared.Gaps.{Gaps}
 use Rattle.vreg_insert.specs.Ask.{Ask}
 use Rattle.vreg_insert.specs.Opened.{Opened}
+use Rattle.emit.specs.declared.tally.Tally.{Tally}
 use Rattle.place.specs.declared.Rows.{Rows}
 use Rattle.place.specs.Ready.{Space, Ready, Filled, Left, all_of}
 use Rattle.plan.specs.declared.Plan.{Plan}
+use Rattle.plan.specs.Asked.{RowIn}
 use Rattle.plan.specs.declared.Plan.TheVariants as plans
 
 -- ---- where the pieces go: behind the rows in use, or into gaps among those of a register
@@ -83,23 +87,27 @@ pieces_by st ps (plans.Merge g v i k) = all_of v ps st
 pieces_by st ps (plans.Stop s) = ps
 pieces_by st ps plans.Full = ps
 
--- where they stand
-abbrev pub span_by : List ℕ → Counts → ℕ → Plan → PieceSpan
-span_by O c n plans.Alone = record { first = c.segs; count = n }
-span_by O c n (plans.Lead i) = record { first = c.segs; count = n }
-span_by O c n (plans.Join g i) = record { first = c.segs; count = n }
-span_by O c n (plans.Merge g v i k) = record { first = get_or O (v.0 * 8 + 6) 0; count = get_or O (v.0 * 8 + 7) 0 }
-span_by O c n (plans.Stop s) = record { first = c.segs; count = n }
-span_by O c n plans.Full = record { first = c.segs; count = n }
+-- what a walk over the pieces ps told of them: the sum of their costs, and the instructions that they touch
+pub record Tells (J : Job) (ps : List Piece) (t : Tally) : Type 0 where
+  pub sum : t.costs.total.value ≡ sum_segs J zero_f (segs_of ps)
+  pub insts : t.insts ≡ live_insts (segs_of ps)
 
--- the row of a register that is merged into lies in the m words
-abbrev pub RowWithin : ℕ → Plan → Type 0
-RowWithin m plans.Alone = Unit {0}
-RowWithin m (plans.Lead i) = Unit {0}
-RowWithin m (plans.Join g i) = Unit {0}
-RowWithin m (plans.Merge g v i k) = v.0 * 8 + 8 ≤ m
-RowWithin m (plans.Stop s) = Unit {0}
-RowWithin m plans.Full = Unit {0}
+-- the row of a register that is merged into lies in the tables, and so do those of its pieces
+abbrev pub RowWithin : OutLayout → List ℕ → Plan → Type 0
+RowWithin ol O plans.Alone = Unit {0}
+RowWithin ol O (plans.Lead i) = Unit {0}
+RowWithin ol O (plans.Join g i) = Unit {0}
+RowWithin ol O (plans.Merge g v i k) = RowIn ol O v
+RowWithin ol O (plans.Stop s) = Unit {0}
+RowWithin ol O plans.Full = Unit {0}
+
+pub row_within : (ol : OutLayout) (O : List ℕ) (c : Counts) (n : Rows) (p : Plan) → Finishable ol O c n p → RowWithin ol O p
+row_within ol O c n plans.Alone f = tt
+row_within ol O c n (plans.Lead i) f = tt
+row_within ol O c n (plans.Join g i) f = tt
+row_within ol O c n (plans.Merge g v i k) f = (f.here, f.rows)
+row_within ol O c n (plans.Stop s) f = tt
+row_within ol O c n plans.Full f = tt
 
 -- ---- what is left
 

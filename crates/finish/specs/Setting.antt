@@ -29,7 +29,9 @@ use Rattle.constraints.specs.Held.{held_of}
 use Rattle.constraints.specs.Ready.{operands_in, Mapping}
 use Rattle.part_maps.specs.Maps.{Outside, MapsTo, Maps}
 use Rattle.part_maps.proofs.Kept.{outside_none}
-use Rattle.vreg_weight.specs.Fair.{Fair, fair_inserted}
+use Rattle.vreg_weight.specs.Fair.{Fair, fair_insts, fair_inserted}
+use Rattle.emit.specs.declared.tally.Tally.{Tally}
+use Rattle.emit.specs.Told.{Told}
 use Rattle.place.specs.declared.Rows.{Rows}
 use Rattle.place.specs.Ready.{Space, RowsOf, Ready, Filled, all_of}
 use Rattle.place.specs.Room.{room_counts, space}
@@ -48,7 +50,7 @@ use Rattle.plan.specs.Asked.{leads, Free}
 use Rattle.plan.specs.Ends.{placed_by}
 use Rattle.plan.specs.Planned.{place_planned}
 use Rattle.finish.specs.Way.{Grouped, LeadWay, MergeWay, Way, Planned, planned_way, plan_agrees}
-use Rattle.finish.specs.Filling.{Openable, Behind, Opens, Merging, Finishable, Filling, LeftBy}
+use Rattle.finish.specs.Filling.{Openable, Behind, Opens, Merging, Finishable, Filling, Tells, LeftBy}
 
 -- rows of the tables are counted by words
 abbrev pub Small : OutLayout → Type 0
@@ -61,6 +63,15 @@ pub record Setting (J : Job) (ol : OutLayout) (O : List ℕ) (c : Counts) (h : H
   pub fits : HeldFits J st h
   pub sane : Sane J st
   pub fair : Fair J 4096 ps
+
+-- ---- what a walk over the pieces told
+
+module _ (J : Job) (ol : OutLayout) (O : List ℕ) (p u : ℕ) (ps : List Piece) (O' : List ℕ) (t : Tally) where
+  pub tells : Told J ol O p u ps O' t → Tells J ps t
+  tells x = record { sum = x.sum; insts = x.insts }
+
+  pub touched : Fair J 4096 ps → Told J ol O p u ps O' t → (1 ≤ t.insts) × (t.insts ≤ 4096)
+  touched f x = let i = fair_insts J 4096 ps f in (omega (arith, x.insts, i.0), omega (arith, x.insts, i.1))
 
 -- ---- what follows from what is held alone
 

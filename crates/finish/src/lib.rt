@@ -13,14 +13,17 @@ ghost use Rattle.virt_regs.specs.Encoding.{tables_end, counts_of, Holds};
 ghost use Rattle.vreg_weight.specs.Weighed.{BitsOf};
 ghost use Rattle.vreg_weight.specs.InFrame.{Weighable};
 ghost use Rattle.plan.specs.Plan.{carry_out};
-ghost use Rattle.finish.specs.Filling.{Openable, Opens, RowWithin, span_by, Finishable, Filling, pieces_by, LeftBy};
+ghost use Rattle.virt_regs.specs.declared.Counts as counts;
+ghost use Rattle.place.specs.declared.Rows as rows;
+ghost use Rattle.finish.specs.Filling.{Openable, Opens, Finishable, Filling, pieces_by, RowWithin, Tells, LeftBy};
 
 use definition::{RegClass, ValueSet, VirtReg, VirtRegGroup};
+use emit::Tally;
 use frame::Frame;
 use place::{Rows, add_register};
 use plan::Plan;
 use use_costs::class_data;
-use virt_regs::{Counts, PieceSpan, pieces_of};
+use virt_regs::{Counts, pieces_of};
 use vreg_change::{add_group, set_member, spread};
 use vreg_insert::{Gaps, open_gaps};
 use vreg_weight::{WeightBits, least_weight, weight_of_pieces};
@@ -42,38 +45,30 @@ pub fn make_room(fr: &Frame, out: &mut [u8], c: &Counts, p: &Plan, new: &Rows) -
     }
 }
 
-// The pieces that are weighed: those that were written, or all of the register that they are merged into.
-fn weighed_pieces(out: &[u8], c: &Counts, p: &Plan, pieces: usize) -> PieceSpan
-    requires { RowWithin (word_count out.now) p.now }
-    ensures { result ≡ span_by (words_of out.now) c.now pieces p.now }
-{
-    match *p {
-        Plan::Merge { reg, .. } => pieces_of(out, reg),
-        Plan::Alone | Plan::Lead { .. } | Plan::Join { .. } | Plan::Stop(_) | Plan::Full => {
-            PieceSpan {
-                first: c.segs,
-                count: pieces,
-            }
-        }
-    }
-}
-
-// The weight of the pieces that the register has then, which stand in the tables.
+// The weight of all pieces that the register has then: of those that were written, by what was told of them, or, where
+// they stand among others, of all that are in the tables.
 pub fn weigh(
     fr: &Frame,
     out: &[u8],
     work: &[u8],
-    c: &Counts,
     p: &Plan,
-    new: &Rows,
+    told: &Tally,
     class: RegClass,
 ) -> WeightBits
-    requires { Weighable fr.now work.now × (tables_end fr.now.ol ≤ word_count out.now) × Finishable fr.now.ol (words_of out.now) c.now new.now p.now }
-    ensures { (O : List ℕ) (st : State) (ps : List Piece) → Filling (job_in fr.now.job) fr.now.ol class O c.now new.now st ps (words_of out.now) p.now
+    requires tables { Weighable fr.now work.now × (tables_end fr.now.ol ≤ word_count out.now) × RowWithin fr.now.ol (words_of out.now) p.now }
+    requires touched { (1 ≤ told.now.insts) × (told.now.insts ≤ 4096) }
+    ensures { (O : List ℕ) (c : counts.Counts) (n : rows.Rows) (st : State) (ps : List Piece) → Filling (job_in fr.now.job) fr.now.ol class O c n st ps (words_of out.now) p.now → Tells (job_in fr.now.job) ps told.now
         → BitsOf result.value (weight_of (job_in fr.now.job) class (segs_of (pieces_by st ps p.now))) }
 {
-    let s = weighed_pieces(out, c, p, new.pieces);
-    weight_of_pieces(fr, out, work, s.first, s.count, class)
+    match *p {
+        Plan::Merge { reg, .. } => {
+            let s = pieces_of(out, reg);
+            weight_of_pieces(fr, out, work, s.first, s.count, class)
+        }
+        Plan::Alone | Plan::Lead { .. } | Plan::Join { .. } | Plan::Stop(_) | Plan::Full => {
+            emit::weight_of(&fr.job, class, told.costs.total, told.insts)
+        }
+    }
 }
 
 // The rows of the register and of its group, and the class and weight of the group's members. The pieces stand where

@@ -22,8 +22,9 @@ use Rattle.set_part.specs.declared.SetPart.{SetPart}
 use Rattle.set_part.specs.Part.{PartOk, part_row, seg_by, marked_use, part_segs}
 use Rattle.virt_regs.specs.declared.OutLayout.{OutLayout}
 use Rattle.virt_regs.specs.declared.Counts.{Counts}
-use Rattle.vreg_put.specs.Written.{Written}
 use Rattle.vreg_weight.specs.Fair.{Fair}
+use Rattle.emit.specs.declared.tally.Tally.{Tally}
+use Rattle.emit.specs.Told.{Told}
 use Rattle.work_layout.specs.declared.WorkLayout.{WorkLayout}
 use Rattle.constraints.specs.Ready.{Ready}
 use Rattle.part_pieces.proofs.Rows.{own_segs, count_pieces_of, count_part_uses}
@@ -100,14 +101,13 @@ ready_then t W work work' lay wl x a r =
     let e : word_count work ≡ word_count work' = sym (length_words work) ∙ sym x.long ∙ length_words work' in
     subst (λ (n : ℕ). Ready t n W (words_of work') lay wl) e (ready_kept lay wl (words_of work) (words_of work') x a t (word_count work) W r)
 
--- the part's rows, written when its operands were mapped
-pub written_then : (ol : OutLayout) (O O₁ : List ℕ) (p u : ℕ) (W K K' : List ℕ) (lay : Layout) (wl : WorkLayout) (sp : SetPart) → Outside lay wl K K' → MapApart lay wl
-    → Written ol O p u (as_own (part_segs K' wl.marks W lay sp)) (uses_of (part_segs K' wl.marks W lay sp)) O₁
-    → Written ol O p u (new_pieces K wl W lay sp) (uses_of (segs_of (new_pieces K wl W lay sp))) O₁
-written_then ol O O₁ p u W K K' lay wl sp x a w =
-    let ss : List Segment = part_segs K' wl.marks W lay sp in
-    subst (λ (ps : List Piece). Written ol O p u ps (uses_of (segs_of ps)) O₁) (pieces_kept W K K' lay wl sp x a)
-    (subst (λ (l : List Segment). Written ol O p u (as_own ss) (uses_of l) O₁) (sym (own_segs ss)) w)
+pub fair_then : (J : Job) (W K K' : List ℕ) (lay : Layout) (wl : WorkLayout) (sp : SetPart) → Outside lay wl K K' → MapApart lay wl → Fair J 4096 (new_pieces K wl W lay sp) → Fair J 4096 (new_pieces K' wl W lay sp)
+fair_then J W K K' lay wl sp x a = subst (Fair J 4096) (sym (pieces_kept W K K' lay wl sp x a))
+
+-- what was told of the part's pieces when its operands were mapped
+pub told_then : (J : Job) (ol : OutLayout) (O O₁ : List ℕ) (p u : ℕ) (t : Tally) (W K K' : List ℕ) (lay : Layout) (wl : WorkLayout) (sp : SetPart) → Outside lay wl K K' → MapApart lay wl
+    → Told J ol O p u (new_pieces K' wl W lay sp) O₁ t → Told J ol O p u (new_pieces K wl W lay sp) O₁ t
+told_then J ol O O₁ p u t W K K' lay wl sp x a = subst (λ (ps : List Piece). Told J ol O p u ps O₁ t) (pieces_kept W K K' lay wl sp x a)
 
 pub maps_own : (W K K' : List ℕ) (lay : Layout) (wl : WorkLayout) (g : ℕ) (ss : List Segment) (b : Bool) → Maps W K lay wl (map_uses (vrgroup g) (uses_of ss)) b K'
     → Maps W K lay wl (map_uses (vrgroup g) (uses_of (segs_of (as_own ss)))) b K'

@@ -20,10 +20,11 @@ ghost use Rattle.place_part.specs.InFrame.{Asked, Standing, new_pieces};
 
 use constraints::Held;
 use definition::{ValueSet, VirtRegGroup};
+use emit::{emit_part, no_block};
 use finish::{finish, make_room, weigh};
 use frame::Frame;
 use part_maps::{NewGroup, map_part};
-use part_pieces::{hint_in_part, write_part};
+use part_pieces::hint_in_part;
 use place::Rows;
 use place_end::NotPlaced;
 use plan::{Measures, decide, leads, placed};
@@ -73,7 +74,7 @@ pub fn place_part(
         hint: hint_in_part(&fr.job, sp),
     };
     let at = make_room(fr, out, &c, &p, &rows);
-    write_part(fr, work, sp, out, at.pieces, at.uses);
-    let w = weigh(fr, out, work, &c, &p, &rows, held.class);
+    let told = emit_part(fr, work, sp, out, at.pieces, at.uses, no_block());
+    let w = weigh(fr, out, work, &p, &told, held.class);
     Ok(finish(fr, out, &c, set, held.class, &p, &rows, w))
 }

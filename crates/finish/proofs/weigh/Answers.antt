@@ -1,5 +1,6 @@
-use Rattle.finish.proofs.Arms.{weighed}
+use Rattle.finish.proofs.Arms.{weighed_merged}
 use Rattle.finish.proofs.weigh.Goals as goal
 
-pub returns : goal.returns
-returns c = λ O st ps x. weighed _ _ _ O _ _ st ps _ _ _ _ c.weighed_pieces-s.ensures c.weight_of_pieces.ensures c.requires.2 x
+pub returns-in-Merge : goal.returns-in-Merge
+returns-in-Merge c = let s = c.pieces_of-s.ensures in
+    λ O m n st ps x t. weighed_merged _ _ _ O m n st ps _ _ _ _ _ _ _ c.in-Merge.is _ _ s.0 s.1 c.weight_of_pieces.ensures x
