@@ -26,7 +26,8 @@ use Rattle.work_layout.specs.declared.WorkLayout.{WorkLayout}
 use Rattle.constraints.specs.Ready as constraints
 use Rattle.part_maps.specs.Maps.{MapApart, Outside}
 use Rattle.part_maps.proofs.Kept.{ready_kept}
-use Rattle.vreg_put.specs.Written.{Written}
+use Rattle.emit.specs.declared.tally.Tally.{Tally}
+use Rattle.emit.specs.Told.{Told}
 use Rattle.vreg_weight.specs.Fair.{Fair}
 use Rattle.conflict_piece.specs.Conflict.{turned_row_at, turned_rows_of, RowsOk, param_by, open_count}
 use Rattle.conflict_piece.proofs.Rows.{count_conflict, hint_conflict}
@@ -154,8 +155,10 @@ ready_then t W work work' lay wl x a r =
     let e : word_count work ≡ word_count work' = sym (length_words work) ∙ sym x.long ∙ length_words work' in
     subst (λ (m : ℕ). constraints.Ready t m W (words_of work') lay wl) e (ready_kept lay wl (words_of work) (words_of work') x a t (word_count work) W r)
 
--- the piece's rows, written when its operands were mapped
-pub written_then : (ol : OutLayout) (O O₁ : List ℕ) (i u : ℕ) (W K K' : List ℕ) (lay : Layout) (wl : WorkLayout) (a b : ℕ) (v : Value) (p : Inst) (q : code.Option ℕ) → Outside lay wl K K' → MapApart lay wl
-    → Written ol O i u (pieces_of K' wl.turned W lay a b v p q) (uses_of (segs_of (pieces_of K' wl.turned W lay a b v p q))) O₁
-    → Written ol O i u (pieces_of K wl.turned W lay a b v p q) (uses_of (segs_of (pieces_of K wl.turned W lay a b v p q))) O₁
-written_then ol O O₁ i u W K K' lay wl a b v p q x m w = subst (λ (ps : List Piece). Written ol O i u ps (uses_of (segs_of ps)) O₁) (pieces_kept lay wl K K' x m W a b v p q) w
+module _ (W K K' : List ℕ) (lay : Layout) (wl : WorkLayout) (a b : ℕ) (v : Value) (p : Inst) (q : code.Option ℕ) (x : Outside lay wl K K') (m : MapApart lay wl) where
+  pub fair_then : (J : Job) → Fair J 4096 (pieces_of K wl.turned W lay a b v p q) → Fair J 4096 (pieces_of K' wl.turned W lay a b v p q)
+  fair_then J = subst (Fair J 4096) (sym (pieces_kept lay wl K K' x m W a b v p q))
+
+  -- what was told of the piece when its operands were mapped
+  pub told_then : (J : Job) (ol : OutLayout) (O O₁ : List ℕ) (i u : ℕ) (t : Tally) → Told J ol O i u (pieces_of K' wl.turned W lay a b v p q) O₁ t → Told J ol O i u (pieces_of K wl.turned W lay a b v p q) O₁ t
+  told_then J ol O O₁ i u t = subst (λ (ps : List Piece). Told J ol O i u ps O₁ t) (pieces_kept lay wl K K' x m W a b v p q)

@@ -21,9 +21,10 @@ ghost use Rattle.finish.specs.Setting.{MapStep};
 ghost use Rattle.place_conflict.specs.Asks.{HeldIn};
 ghost use Rattle.place_conflict.specs.InFrame.{Asks, pieces_of};
 
-use conflict_piece::{First, map_conflict, write_conflict};
+use conflict_piece::{First, map_conflict};
 use constraints::Held;
 use definition::{Inst, LiveRangePoint, Value, ValueSet, VirtRegGroup};
+use emit::{emit_conflict, no_block};
 use finish::{finish, make_room, weigh};
 use frame::Frame;
 use part_maps::NewGroup;
@@ -86,7 +87,7 @@ pub fn place_conflict(
         hint: false,
     };
     let at = make_room(fr, out, &c, &p, &rows);
-    write_conflict(fr, work, a, b, x, out, at.pieces, at.uses);
-    let w = weigh(fr, out, work, &c, &p, &rows, held.class);
+    let told = emit_conflict(fr, work, a, b, x, out, at.pieces, at.uses, no_block());
+    let w = weigh(fr, out, work, &p, &told, held.class);
     Ok(finish(fr, out, &c, set, held.class, &p, &rows, w))
 }
