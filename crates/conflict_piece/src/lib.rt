@@ -1,26 +1,22 @@
 // The piece of a conflict register, from rows of turned uses in the work slice: four words each, value, use number, whether it has a parameter (0 or 1), the parameter.
 #![tactic(auto)]
 
-ghost use Rattle.std.specs.Prelude.{◌≡◌, List, [], ◌∷◌, ◌++◌, ℕ, ◌+◌, ◌-◌, ◌*◌, ◌≤◌, ◌<◌, length, get_or};
+ghost use Rattle.std.specs.Prelude.{◌≡◌, [], ◌∷◌, ℕ, ◌+◌, ◌-◌, ◌*◌, ◌≤◌, ◌<◌, get_or};
 ghost use Rattle.std.proofs.Math.Option.{Option};
-ghost use Rattle.rows.specs.Tab.{tab};
 ghost use Rattle.words.specs.Words.{word_count, words_of};
 ghost use Rattle.layout.specs.JobWords.{words_in};
-ghost use Rattle.definition.specs.Types.{Turned};
-ghost use Rattle.definition.specs.Build.{opening, conflict_piece};
+ghost use Rattle.definition.specs.Build.{conflict_piece};
 ghost use Rattle.definition.specs.Place.{map_uses, uses_of, segs_of};
-ghost use Rattle.virt_regs.specs.Encoding.{tables_end};
-ghost use Rattle.vreg_put.specs.Written.{Written};
 ghost use Rattle.part_maps.specs.Maps.{Maps};
-ghost use Rattle.conflict_piece.specs.Conflict.{param_by, open_count, conflict_row};
+ghost use Rattle.conflict_piece.specs.Conflict.{conflict_row};
 ghost use Rattle.constraints.specs.InFrame.{Ready};
 ghost use Rattle.part_maps.specs.InFrame.{MapApart};
 ghost use Rattle.conflict_piece.specs.InFrame.{row_use, turned_rows_of, RowsOk};
 
-use definition::{Inst, LiveRangePoint, Origin, Use, UseKind, Value};
+use definition::{Inst, LiveRangePoint, Origin, Use, Value};
 use frame::Frame;
 use part_maps::NewGroup;
-use virt_regs::{OutLayout, PieceRow};
+use virt_regs::PieceRow;
 
 // What the conflict pieces of one instruction take over of its first turned use.
 #[derive(Clone, Copy)]
@@ -42,34 +38,6 @@ pub fn turned_use(fr: &Frame, work: &[u8], k: usize) -> Use
     uses::use_at(job.bytes, lay.uses.at + n * 6)
 }
 
-// "If the list of the first turned use began with a BlockparamIn at p, the piece begins with it too": how many uses are written, from use row u on.
-fn write_opening(out: &mut [u8], ol: OutLayout, u: usize, pos: Inst, param: Option<u32>) -> usize
-    requires { (tables_end ol ≤ word_count out.old) × (u + open_count param ≤ ol.uses) }
-    ensures { (result ≡ open_count param) × ((p : ℕ) → Written ol (words_of out.old) p u [] (opening pos (param_by param)) (words_of out.new)) }
-{
-    let Some(blockparam_idx) = param else {
-        return 0;
-    };
-    let x = Use {
-        pos,
-        kind: UseKind::BlockparamIn { blockparam_idx },
-    };
-    vreg_put::put_use(out, ol, u, x);
-    1
-}
-
-// The uses of turned rows a to b - 1, from use row u on.
-// Not one with part_pieces::write_uses: a closure for the reader of uses would carry its contract.
-fn write_turned(fr: &Frame, work: &[u8], a: usize, b: usize, out: &mut [u8], u: usize)
-    requires { RowsOk fr.now work.now a b × (tables_end fr.now.ol ≤ word_count out.old) × (u + (b - a) ≤ fr.now.ol.uses) }
-    ensures { (O : List ℕ) (p v : ℕ) (us : List Use) → Written fr.now.ol O p v [] us (words_of out.old) → u ≡ v + length us → Written fr.now.ol O p v [] (us ++ tab (row_use fr.now work.now) a (b - a)) (words_of out.new) }
-{
-    for i in a..b {
-        let x = turned_use(fr, work, i);
-        vreg_put::put_use(out, fr.ol, u + (i - a), x);
-    }
-}
-
 // "A conflict piece covers [4p, 4p+2)." Its flags: live-in, without a parameter.
 #[tactic(auto, unfolding(crate::specs::Conflict::conflict_row))]
 pub fn conflict_row(value: Value, pos: Inst, param: Option<u32>, u: usize, n: usize) -> PieceRow
@@ -86,27 +54,6 @@ pub fn conflict_row(value: Value, pos: Inst, param: Option<u32>, u: usize, n: us
         first: u as u32,
         uses: n as u32,
     }
-}
-
-// The piece of the turned rows a to b - 1, as piece row p, with its uses from use row u on.
-pub fn write_conflict(
-    fr: &Frame,
-    work: &[u8],
-    a: usize,
-    b: usize,
-    x: First,
-    out: &mut [u8],
-    p: usize,
-    u: usize,
-)
-    requires fits { RowsOk fr.now work.now a b × (tables_end fr.now.ol ≤ word_count out.old) }
-    requires room { (p < fr.now.ol.segs) × (u + (open_count x.param + (b - a)) ≤ fr.now.ol.uses) × (u + (open_count x.param + (b - a)) < 4294967296) × (4 * x.pos.0 + 2 < 4294967296) }
-    ensures { (ts : List Turned) → ts ≡ turned_rows_of fr.now work.now a b → Written fr.now.ol (words_of out.old) p u (conflict_piece x.value x.pos (param_by x.param) ts ∷ []) (uses_of (segs_of (conflict_piece x.value x.pos (param_by x.param) ts ∷ []))) (words_of out.new) }
-{
-    let k = write_opening(out, fr.ol, u, x.pos, x.param);
-    write_turned(fr, work, a, b, out, u + k);
-    let row = conflict_row(x.value, x.pos, x.param, u, k + (b - a));
-    vreg_put::put_piece(out, fr.ol, p, row);
 }
 
 // "A new group maps every group operand of its register": of the conflict piece of rows a to b - 1. Not if one is mapped already.

@@ -1,5 +1,6 @@
 -- What a walk over pieces tells: the rows that it wrote, and the tally of the pieces. Assumes nothing.
 use Rattle.std.specs.Prelude.{◌≡◌, Bool, cond, ◌||◌, List, [], ◌∷◌, ◌++◌, ℕ, ◌+◌, ◌≤◌, ◌<◌, eqb, length, Float}
+use Rattle.std.proofs.Common.{arith}
 use Rattle.definition.specs.declared.BlockData.{BlockData}
 use Rattle.definition.specs.declared.Use.{Use}
 use Rattle.definition.specs.declared.Remat.{Remat}
@@ -21,6 +22,7 @@ use Rattle.set_part.specs.declared.PartSeg.{PartSeg}
 use Rattle.set_part.specs.Part.{seg_by}
 use Rattle.virt_regs.specs.declared.OutLayout.{OutLayout}
 use Rattle.vreg_put.specs.Written.{Written}
+use Rattle.vreg_weight.specs.Fair.{Fair, fair_insts}
 use Rattle.emit.specs.declared.near.Near.{Near}
 use Rattle.emit.specs.declared.tally.Costs.{Costs}
 use Rattle.emit.specs.declared.tally.Tally.{Tally}
@@ -96,6 +98,10 @@ pub record Told (J : Job) (ol : OutLayout) (O : List ℕ) (p u : ℕ) (ps : List
   pub hint : t.hint ≡ hint_in ps
   pub counted : t.counted.0 ≡ counted_by 0 (segs_of ps)
   pub near : NearFits J.blocks t.costs.near
+
+-- the instructions of pieces that can be weighed
+pub told_insts : {J : Job} {ol : OutLayout} {O O' : List ℕ} {p u : ℕ} {ps : List Piece} {t : Tally} → Told J ol O p u ps O' t → Fair J 4096 ps → (1 ≤ t.insts) × (t.insts ≤ 4096)
+told_insts {J} {ps = ps} h f = let n = fair_insts J 4096 ps f in (omega (arith, h.insts, n.0), omega (arith, h.insts, n.1))
 
 -- a walk that wrote any pieces before goes on with the piece q, as piece row p, its uses from use row u on
 abbrev pub PieceAdds : Job → OutLayout → ℕ → ℕ → Piece → List ℕ → Tally → List ℕ → Tally → Type 0

@@ -41,7 +41,7 @@ module _ (J : Job) (ol : OutLayout) (k : RegClass) (O : List ℕ) (c : Counts) (
 
     pub arm_lead : (i : ℕ) → p ≡ plans.Lead i
         → (Ready J ol O c n.pieces n.uses n.hint st ps O₁ → i < (class_at J k).size → (class_at J k).size ≤ 8 → BitsOf w (weight_of J k (segs_of ps))
-            → Left ol O₂ m (lead_state J vs h (held_at i) ps st (or_else (maps_to ps st) [])))
+        → Left ol O₂ m (lead_state J vs h (held_at i) ps st (or_else (maps_to ps st) [])))
         → Arm p
     unfolding carry_out
     arm_lead i e f = subst Arm (sym e) (λ x b. f x.0 x.1 x.2 b)

@@ -1,5 +1,5 @@
 -- A plan made for the pieces of any source, and what follows from it for each callee. Assumes nothing.
-use Rattle.std.specs.Prelude.{◌≡◌, refl, ℕ, ◌+◌, ◌*◌, ◌^◌, ◌≤◌, ◌<◌, Bool, true, false, not, Option, None, Some, is_none, List, [], length, get_or, Result, Ok, Err}
+use Rattle.std.specs.Prelude.{◌≡◌, refl, ℕ, ◌+◌, ◌^◌, ◌≤◌, ◌<◌, Bool, true, false, not, Option, None, Some, is_none, List, [], length, Ok, Err}
 use Rattle.std.proofs.Common.{sym, ap, ◌∙◌, subst, arith}
 use Rattle.std.proofs.Math.Option as math
 use Rattle.definition.specs.declared.ValueSet.{ValueSet}
@@ -7,8 +7,6 @@ use Rattle.definition.specs.declared.Use.{Use}
 use Rattle.definition.specs.declared.VirtReg.{VirtReg}
 use Rattle.definition.specs.declared.VirtRegGroup.{VirtRegGroup}
 use Rattle.definition.specs.Types.{Job, Piece, Mapped, State, vrgroup}
-use Rattle.definition.specs.Types as types
-use Rattle.definition.specs.Lines.{hint_in}
 use Rattle.definition.specs.Admit.{register_at, members_at}
 use Rattle.definition.specs.Place.{pieces_in, uses_in, uses_of_pieces, uses_of, segs_of, map_uses, or_else, with_pieces, first_from, group_weight, alone_state, lead_state, join_state, merge_state, place}
 use Rattle.definition.specs.Place as placing
@@ -24,7 +22,6 @@ use Rattle.vreg_insert.specs.Ask.{Ask, first_use_le}
 use Rattle.vreg_insert.specs.Opened.{Opened}
 use Rattle.work_layout.specs.declared.WorkLayout.{WorkLayout}
 use Rattle.constraints.specs.declared.Held.{Held}
-use Rattle.constraints.specs.declared.HeldGroup.{HeldGroup}
 use Rattle.constraints.specs.Held.{held_of}
 use Rattle.constraints.specs.Ready.{operands_in, Mapping}
 use Rattle.part_maps.specs.Maps.{Outside, MapsTo, Maps}
@@ -43,13 +40,12 @@ use Rattle.place_laws.specs.Held.{HeldFits}
 use Rattle.place_laws.specs.Weighed.{fair_stored, fair_weighed, ready_fair}
 use Rattle.plan.specs.declared.Plan.{Plan}
 use Rattle.plan.specs.declared.Plan.TheVariants as plans
-use Rattle.plan.specs.declared.Measures.{Measures}
 use Rattle.plan.specs.Plan.{held_at, maps_to, plan_from, plan_of, carry_out}
 use Rattle.plan.specs.Asked as plan
 use Rattle.plan.specs.Asked.{leads, Free}
 use Rattle.plan.specs.Ends.{placed_by}
 use Rattle.plan.specs.Planned.{place_planned}
-use Rattle.finish.specs.Way.{Grouped, LeadWay, MergeWay, Way, Planned, planned_way, plan_agrees}
+use Rattle.finish.specs.Way.{Grouped, MergeWay, Way, Planned, planned_way, plan_agrees}
 use Rattle.finish.specs.Filling.{Openable, Behind, Opens, Merging, Finishable, Filling, Tells, LeftBy}
 
 -- rows of the tables are counted by words

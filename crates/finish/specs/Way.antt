@@ -4,7 +4,6 @@ use Rattle.std.proofs.Common.{sym, ap, ◌∙◌, subst, arith}
 use Rattle.std.proofs.Math.Option as math
 use Rattle.definition.specs.declared.VirtReg.{VirtReg}
 use Rattle.definition.specs.declared.VirtRegGroup.{VirtRegGroup}
-use Rattle.definition.specs.declared.Stop.{Stop}
 use Rattle.definition.specs.declared.Stop.TheVariants.{MappedTwice, Overlap}
 use Rattle.definition.specs.Types.{Room, Piece, State}
 use Rattle.definition.specs.Admit.{register_at}

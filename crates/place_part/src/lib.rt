@@ -1,7 +1,7 @@
 // builder.rs: a working part placed as a register: decided, written, finished.
 #![tactic(auto)]
 
-ghost use Rattle.std.specs.Prelude.{◌≡◌, ◌+◌, ◌^◌, ◌<◌};
+ghost use Rattle.std.specs.Prelude.{◌+◌, ◌^◌, ◌<◌};
 ghost use Rattle.words.specs.Words.{words_of};
 ghost use Rattle.layout.specs.JobWords.{words_in};
 ghost use Rattle.definition.specs.Types.{State};

@@ -4,7 +4,6 @@ use Rattle.std.proofs.Math.Option.{Option, none, some}
 use Rattle.definition.specs.declared.VirtReg.{VirtReg}
 use Rattle.definition.specs.declared.VirtRegGroup.{VirtRegGroup}
 use Rattle.definition.specs.declared.ValueSet.{ValueSet}
-use Rattle.definition.specs.declared.Stop.{Stop}
 use Rattle.definition.specs.declared.Stop.TheVariants.{MappedTwice, Overlap}
 use Rattle.definition.specs.declared.Refusal.TheVariants.{Stopped, Full}
 use Rattle.definition.specs.Types.{Job, Room, HeldGroup, Held, Piece, Mapped, State, Out, done, refused, vrgroup}

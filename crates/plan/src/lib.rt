@@ -156,14 +156,7 @@ fn new_group(index: u32, free: bool) -> Plan
 }
 
 // The plan for what a source will write, by what is held.
-pub fn decide(
-    fr: &Frame,
-    out: &[u8],
-    c: &Counts,
-    held: &Held,
-    new: &Measures,
-    free: bool,
-) -> Plan
+pub fn decide(fr: &Frame, out: &[u8], c: &Counts, held: &Held, new: &Measures, free: bool) -> Plan
     requires { Asked (word_count out.now) (words_of out.now) fr.now.ol held.now }
     ensures { (st : State) (ps : List Piece) → Holds fr.now.ol (words_of out.now) st → c.now ≡ counts_of st → TargetIn held.now st → Measured ps new.now → result ≡ plan_from (not free) (room_of fr.now.ol) (held_of held.now) ps st }
 {
