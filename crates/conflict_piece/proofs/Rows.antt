@@ -5,7 +5,8 @@ use Rattle.std.specs.Prelude as code
 use Rattle.std.specs.Prelude.{None, Some, is_some, unwrap_or}
 use mathlib.Core.Option.{Option, none, some}
 use mathlib.Core.List.{List, [], ◌∷◌, ◌++◌, map, append-nil}
-use Prim.Native.Nat.{ℕ, zero, suc, ◌+◌, ◌-◌, ◌*◌}
+use Prim.Native.Nat.{ℕ, zero, suc, ◌+◌, ◌-◌, ◌*◌, ◌≤◌, ◌<◌}
+use native.Mathlib.Omega.{arith}
 use lib.Dec.{eqb}
 use lib.ListN.{length, get_or, length-append}
 use Rattle.rows.specs.Tab.{tab, length_tab}
@@ -29,6 +30,9 @@ use Rattle.conflict_piece.specs.Conflict.{row_use, turned_row_at, turned_rows_of
 pub use_read : (K : List ℕ) (turned : ℕ) (W : List ℕ) (lay : Layout) (k n : ℕ) (u : Use) → n ≡ get_or K (turned + k * 4 + 1) 0 → u ≡ use_row W (lay.uses.at + n * 6) → u ≡ row_use K turned W lay k
 unfolding row_use
 use_read K turned W lay k n u en eu = eu ∙ ap (λ (j : ℕ). use_row W (lay.uses.at + j * 6)) en
+
+pub open_room : (q : code.Option ℕ) (i u n : ℕ) → q ≡ Some i → u + open_count q ≤ n → u < n
+open_room q i u n e = rw e (λ h. omega arith)
 
 pub open_count_lem : (pos : Inst) (q : code.Option ℕ) → length (opening pos (param_by q)) ≡ open_count q
 open_count_lem pos None = refl

@@ -40,21 +40,27 @@ use Rattle.emit.proofs.Parts.{inside_tab}
 -- ---- the opening
 
 module _ (J : Job) (ol : OutLayout) (u : ℕ) (r : Remat) (pos : Inst) (q : code.Option ℕ) where
-  pub open_none : (O : List ℕ) (s : Costs) → q ≡ None → NearFits J.blocks s.near → UsesAdd J ol u r (opening pos (param_by q)) O s O s
+  pub open_none : (O : List ℕ) (s : Costs) → q ≡ None → NearFits J.blocks s.near
+      → UsesAdd J ol u r (opening pos (param_by q)) O s O s
   open_none O s e n = rw e (uses_nil J ol u r O s n)
 
-  pub open_some : (i : ℕ) (O O₁ : List ℕ) (s t : Costs) → q ≡ Some i → tables_end ol ≤ length O → u + open_count q ≤ ol.uses
-      → O₁ ≡ splice O (use_base ol + u * 6) (use_words (record { pos = pos; kind = BlockparamIn i })) → NearFits J.blocks t.near
-      → t.total.value ≡ use_adds J r s.total.value (record { pos = pos; kind = BlockparamIn i }) → UsesAdd J ol u r (opening pos (param_by q)) O s O₁ t
+  pub open_some : (i : ℕ) (O O₁ : List ℕ) (s t : Costs) → q ≡ Some i → tables_end ol ≤ length O
+      → u + open_count q ≤ ol.uses
+      → O₁ ≡ splice O (use_base ol + u * 6) (use_words (record { pos = pos; kind = BlockparamIn i }))
+      → NearFits J.blocks t.near
+      → t.total.value ≡ use_adds J r s.total.value (record { pos = pos; kind = BlockparamIn i })
+      → UsesAdd J ol u r (opening pos (param_by q)) O s O₁ t
   open_some i O O₁ s t e l = rw e (λ h w n es. uses_one J ol u r (record { pos = pos; kind = BlockparamIn i }) O O₁ s t l (omega arith) w n es)
 
-pub open_inside : (J : Job) (pos : Inst) (q : code.Option ℕ) (i : ℕ) → q ≡ Some i → Inside J (opening pos (param_by q)) → pos.0 < insts_of J.blocks
+pub open_inside : (J : Job) (pos : Inst) (q : code.Option ℕ) (i : ℕ) → q ≡ Some i → Inside J (opening pos (param_by q))
+    → pos.0 < insts_of J.blocks
 unfolding Inside Each
 open_inside J pos q i e = rw e (λ h. h.0)
 
 -- ---- the turned uses
 
-pub turned_read : (K : List ℕ) (turned : ℕ) (W : List ℕ) (lay : Layout) (k n : ℕ) (x : List ℕ) → n ≡ get_or K (turned + k * 4 + 1) 0 → x ≡ use_words (use_row W (lay.uses.at + n * 6))
+pub turned_read : (K : List ℕ) (turned : ℕ) (W : List ℕ) (lay : Layout) (k n : ℕ) (x : List ℕ)
+    → n ≡ get_or K (turned + k * 4 + 1) 0 → x ≡ use_words (use_row W (lay.uses.at + n * 6))
     → x ≡ use_words (row_use K turned W lay k)
 unfolding row_use
 turned_read K turned W lay k n x en ex = ex ∙ ap (λ (j : ℕ). use_words (use_row W (lay.uses.at + j * 6))) en
@@ -67,7 +73,8 @@ module _ (J : Job) (v : Value) (pos : Inst) (q : code.Option ℕ) (K : List ℕ)
   all_inside =
       let ts : List Turned = turned_rows_of K turned W lay a b in
       let e : uses_of (segs_of (conflict_piece v pos (param_by q) ts ∷ [])) ≡ opening pos (param_by q) ++ tab (row_use K turned W lay) a (b - a) =
-      piece_uses v pos (param_by q) ts ∙ ap (λ (l : List Use). opening pos (param_by q) ++ l) (rows_uses K turned W lay a b) in
+      piece_uses v pos (param_by q) ts
+      ∙ ap (λ (l : List Use). opening pos (param_by q) ++ l) (rows_uses K turned W lay a b) in
       subst (λ (l : List Use). Inside J l) e (fair_inside J 4096 (conflict_piece v pos (param_by q) ts ∷ []) fair)
 
   pub opening_inside : Inside J (opening pos (param_by q))
@@ -88,14 +95,16 @@ module _ (J : Job) (v : Value) (pos : Inst) (q : code.Option ℕ) (K : List ℕ)
   conflict_low = omega (arith, fair.sorted.2)
 
 -- it touches one instruction
-pub conflict_few : (v : Value) (pos : Inst) (q : code.Option ℕ) (u n k : ℕ) (row : PieceRow) (t : Tally) → row ≡ conflict_row v pos q u n → t.insts ≡ 0 → 4 * pos.0 + 2 ≤ 16384
+pub conflict_few : (v : Value) (pos : Inst) (q : code.Option ℕ) (u n k : ℕ) (row : PieceRow) (t : Tally)
+    → row ≡ conflict_row v pos q u n → t.insts ≡ 0 → 4 * pos.0 + 2 ≤ 16384
     → t.insts + new_insts k (record { «from» = row.«from»; to = row.to }) ≤ 4096
 unfolding conflict_row
 conflict_few v pos q u n k row t e z h = rw e (omega arith)
 
 -- ---- all of it
 
-conflict_counted : (v : Value) (pos : Inst) (q : code.Option ℕ) (u n : ℕ) (ts : List Turned) (row : PieceRow) (t t' : Tally) (c : Costs) → row ≡ conflict_row v pos q u n
+conflict_counted : (v : Value) (pos : Inst) (q : code.Option ℕ) (u n : ℕ) (ts : List Turned) (row : PieceRow) (t t' : Tally) (c : Costs)
+    → row ≡ conflict_row v pos q u n
     → Counted t (record { «from» = row.«from»; to = row.to }) false c t'
     → Counted t (range_of (conflict_piece v pos (param_by q) ts).seg) (conflict_piece v pos (param_by q) ts).seg.flags.fixedhint c t'
 unfolding conflict_row conflict_piece
@@ -110,10 +119,13 @@ conflict_uses J ol u rm v pos q K turned W lay a b O₁ O₂ s t w =
 
 pub conflict_told : (J : Job) (ol : OutLayout) (p u k : ℕ) (rm : Remat) (v : Value) (pos : Inst) (q : code.Option ℕ) (K : List ℕ) (turned : ℕ) (W : List ℕ) (lay : Layout) (a b : ℕ)
     (O O₁ O₂ O₃ : List ℕ) (row : PieceRow) (t t' : Tally) (begun costs : Costs)
-    → Told J ol O p u [] O t → tables_end ol ≤ length O → p < ol.segs → k ≡ open_count q → row ≡ conflict_row v pos q u (k + (b - a))
+    → Told J ol O p u [] O t → tables_end ol ≤ length O → p < ol.segs → k ≡ open_count q
+    → row ≡ conflict_row v pos q u (k + (b - a))
     → O₁ ≡ splice O (seg_base ol + p * 7) (piece_words row) → rm ≡ (value_at J v).remat
-    → UsesAdd J ol u rm (opening pos (param_by q)) O₁ t.costs O₂ begun → UsesAdd J ol (u + k) rm (tab (row_use K turned W lay) a (b - a)) O₂ begun O₃ costs
-    → Counted t (record { «from» = row.«from»; to = row.to }) false costs t' → Told J ol O p u (conflict_piece v pos (param_by q) (turned_rows_of K turned W lay a b) ∷ []) O₃ t'
+    → UsesAdd J ol u rm (opening pos (param_by q)) O₁ t.costs O₂ begun
+    → UsesAdd J ol (u + k) rm (tab (row_use K turned W lay) a (b - a)) O₂ begun O₃ costs
+    → Counted t (record { «from» = row.«from»; to = row.to }) false costs t'
+    → Told J ol O p u (conflict_piece v pos (param_by q) (turned_rows_of K turned W lay a b) ∷ []) O₃ t'
 unfolding uses_of_pieces total conflict_piece
 conflict_told J ol p u k rm v pos q K turned W lay a b O O₁ O₂ O₃ row t t' begun costs told l h ek er e em w₁ w₂ ct =
     let us : List Use = opening pos (param_by q) in

@@ -67,24 +67,30 @@ module _ (f : ℕ → Use) (W : List ℕ) (lay : Layout) (sp : SetPart) (i : ℕ
       let g : ℕ → Segment = λ j. seg_by f (part_row W lay sp j) in
       let q : sp.seg + (i - sp.seg) ≡ i = omega arith in
       let m : i + 1 - sp.seg ≡ (i - sp.seg) + 1 = omega arith in
-      ap (λ (k : ℕ). tab g sp.seg k) m ∙ tab_snoc g sp.seg (i - sp.seg) ∙ ap (λ (k : ℕ). tab g sp.seg (i - sp.seg) ++ (g k ∷ [])) q
+      ap (λ (k : ℕ). tab g sp.seg k) m ∙ tab_snoc g sp.seg (i - sp.seg)
+      ∙ ap (λ (k : ℕ). tab g sp.seg (i - sp.seg) ++ (g k ∷ [])) q
 
   own_more : as_own (segs_to f W lay sp i) ++ (own_piece f (part_row W lay sp i) ∷ []) ≡ as_own (segs_to f W lay sp (i + 1))
   own_more = sym (ap (λ (l : List Segment). as_own l) segs_more ∙ own_snoc (segs_to f W lay sp i) (seg_by f (part_row W lay sp i)))
 
   -- one segment more
-  pub told_next : (J : Job) (ol : OutLayout) (O O₁ O₂ : List ℕ) (p u k : ℕ) (s : PartSeg) (t t' : Tally) → Told J ol O p u (as_own (segs_to f W lay sp i)) O₁ t → s ≡ part_row W lay sp i
-      → k ≡ u + (s.first - sp.first) → PieceAdds J ol (p + (i - sp.seg)) k (own_piece f s) O₁ t O₂ t' → Told J ol O p u (as_own (segs_to f W lay sp (i + 1))) O₂ t'
+  pub told_next : (J : Job) (ol : OutLayout) (O O₁ O₂ : List ℕ) (p u k : ℕ) (s : PartSeg) (t t' : Tally)
+      → Told J ol O p u (as_own (segs_to f W lay sp i)) O₁ t → s ≡ part_row W lay sp i
+      → k ≡ u + (s.first - sp.first) → PieceAdds J ol (p + (i - sp.seg)) k (own_piece f s) O₁ t O₂ t'
+      → Told J ol O p u (as_own (segs_to f W lay sp (i + 1))) O₂ t'
   told_next J ol O O₁ O₂ p u k s t t' told es ek add =
       let ef : k ≡ u + uses_of_pieces (as_own (segs_to f W lay sp i)) =
-      ek ∙ ap (λ (x : PartSeg). u + (x.first - sp.first)) es ∙ ap (λ (j : ℕ). u + (j - sp.first)) (row_first W lay sp i) ∙ ap (λ (j : ℕ). u + j) (sym first_at) in
+      ek ∙ ap (λ (x : PartSeg). u + (x.first - sp.first)) es ∙ ap (λ (j : ℕ). u + (j - sp.first)) (row_first W lay sp i)
+      ∙ ap (λ (j : ℕ). u + j) (sym first_at) in
       subst (λ (ps : List Piece). Told J ol O p u ps O₂ t') own_more
       (subst (λ (x : PartSeg). Told J ol O p u (as_own (segs_to f W lay sp i) ++ (own_piece f x ∷ [])) O₂ t') es
       (add O p u (as_own (segs_to f W lay sp i)) told (ap (λ (j : ℕ). p + j) (sym count_to)) ef))
 
   -- its instructions are among those of the part
-  room : (J : Job) (ol : OutLayout) (O O₁ : List ℕ) (p u : ℕ) (t : Tally) → Told J ol O p u (as_own (segs_to f W lay sp i)) O₁ t
-      → touched 0 (tab (λ j. seg_by f (part_row W lay sp j)) sp.seg (sp.last + 1 - sp.seg)) ≤ 4096 → t.insts + new_insts t.counted.0 (range_in (part_row W lay sp i)) ≤ 4096
+  room : (J : Job) (ol : OutLayout) (O O₁ : List ℕ) (p u : ℕ) (t : Tally)
+      → Told J ol O p u (as_own (segs_to f W lay sp i)) O₁ t
+      → touched 0 (tab (λ j. seg_by f (part_row W lay sp j)) sp.seg (sp.last + 1 - sp.seg)) ≤ 4096
+      → t.insts + new_insts t.counted.0 (range_in (part_row W lay sp i)) ≤ 4096
   unfolding segs_to seg_by live_insts
   room J ol O O₁ p u t told most =
       let g : ℕ → Segment = λ j. seg_by f (part_row W lay sp j) in
@@ -100,7 +106,8 @@ module _ (f : ℕ → Use) (W : List ℕ) (lay : Layout) (sp : SetPart) (i : ℕ
       let insts : t.insts ≡ touched 0 (segs_of ps) = told.insts in
       omega arith
 
-pub told_start : (J : Job) (ol : OutLayout) (O : List ℕ) (p u : ℕ) (f : ℕ → Use) (W : List ℕ) (lay : Layout) (sp : SetPart) (t : Tally) → Told J ol O p u [] O t
+pub told_start : (J : Job) (ol : OutLayout) (O : List ℕ) (p u : ℕ) (f : ℕ → Use) (W : List ℕ) (lay : Layout) (sp : SetPart) (t : Tally)
+    → Told J ol O p u [] O t
     → Told J ol O p u (as_own (segs_to f W lay sp sp.seg)) O t
 unfolding segs_to
 told_start J ol O p u f W lay sp t h =
@@ -137,7 +144,8 @@ module _ (J : Job) (K W : List ℕ) (lay : Layout) (m : ℕ) (sp : SetPart) (ok 
       let n : touched 0 (segs_of (as_own (part_segs K m W lay sp))) ≡ touched 0 (part_segs K m W lay sp) = ap (λ (ss : List Segment). touched 0 ss) (own_segs (part_segs K m W lay sp)) in
       omega (arith, (fair_insts J 4096 (as_own (part_segs K m W lay sp)) fair).1)
 
-  pub told_room : (ol : OutLayout) (O O₁ : List ℕ) (p u i : ℕ) (s : PartSeg) (t : Tally) → sp.seg ≤ i → i ≤ sp.last → Told J ol O p u (as_own (segs_to (marked_use K m W lay) W lay sp i)) O₁ t
+  pub told_room : (ol : OutLayout) (O O₁ : List ℕ) (p u i : ℕ) (s : PartSeg) (t : Tally) → sp.seg ≤ i → i ≤ sp.last
+      → Told J ol O p u (as_own (segs_to (marked_use K m W lay) W lay sp i)) O₁ t
       → s ≡ part_row W lay sp i → t.insts + new_insts t.counted.0 (range_in s) ≤ 4096
   unfolding part_segs
   told_room ol O O₁ p u i s t lo hi told es =
@@ -145,7 +153,8 @@ module _ (J : Job) (K W : List ℕ) (lay : Layout) (m : ℕ) (sp : SetPart) (ok 
 
 -- at the end
 pub told_all : (J : Job) (ol : OutLayout) (O O₁ : List ℕ) (p u : ℕ) (K : List ℕ) (m : ℕ) (W : List ℕ) (lay : Layout) (sp : SetPart) (i : ℕ) (t : Tally)
-    → Told J ol O p u (as_own (segs_to (marked_use K m W lay) W lay sp i)) O₁ t → sp.last < i → i ≤ sp.last + 1 → Told J ol O p u (as_own (part_segs K m W lay sp)) O₁ t
+    → Told J ol O p u (as_own (segs_to (marked_use K m W lay) W lay sp i)) O₁ t → sp.last < i → i ≤ sp.last + 1
+    → Told J ol O p u (as_own (part_segs K m W lay sp)) O₁ t
 unfolding segs_to part_segs
 told_all J ol O O₁ p u K m W lay sp i t told h l =
     let e : i ≡ sp.last + 1 = omega arith in
@@ -157,8 +166,10 @@ pub adjust_is : (W : List ℕ) (lay : Layout) → get_or W lay.opts 0 ≡ (job_o
 unfolding job_of job_by options_row
 adjust_is W lay = refl
 
-pub weight_bits : (J : Job) (c : RegClass) (total w : Float) (insts r k : ℕ) (d : ClassData) → k ≡ J.options.adjust → d ≡ class_at J c → w ≡ weight_from total insts k d.spillslots
-    → r ≡ to_bits binary32 w → of_bits binary32 r ≡ w → (ss : List Segment) → total ≡ sum_segs J zero_f ss → insts ≡ live_insts ss → BitsOf r (weight_of J c ss)
+pub weight_bits : (J : Job) (c : RegClass) (total w : Float) (insts r k : ℕ) (d : ClassData) → k ≡ J.options.adjust
+    → d ≡ class_at J c → w ≡ weight_from total insts k d.spillslots
+    → r ≡ to_bits binary32 w → of_bits binary32 r ≡ w → (ss : List Segment) → total ≡ sum_segs J zero_f ss
+    → insts ≡ live_insts ss → BitsOf r (weight_of J c ss)
 weight_bits J c total w insts r k d ek ed ew er eb ss es ei =
     let e : w ≡ weight_of J c ss =
     ew

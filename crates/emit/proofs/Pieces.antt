@@ -29,7 +29,8 @@ use Rattle.emit.specs.Told.{NearFits, own_piece, range_in, Counted, counted_by, 
 -- ---- nothing yet
 
 pub told_none : (J : Job) (ol : OutLayout) (O : List ℕ) (p u : ℕ) (t : Tally) (nr : Near)
-    → (t.costs.near ≡ nr) × (t.costs.total.value ≡ zero_f) × (t.insts ≡ 0) × (t.counted.0 ≡ 0) × (t.hint ≡ false) → NearFits J.blocks nr → Told J ol O p u [] O t
+    → (t.costs.near ≡ nr) × (t.costs.total.value ≡ zero_f) × (t.insts ≡ 0) × (t.counted.0 ≡ 0) × (t.hint ≡ false)
+    → NearFits J.blocks nr → Told J ol O p u [] O t
 unfolding sum_segs live_insts touched counted_by hint_in uses_of
 told_none J ol O p u t nr e n = record {
   written = written_none ol O p u;
@@ -42,12 +43,14 @@ told_none J ol O p u t nr e n = record {
 
 -- ---- what a piece behind others adds
 
-sum_more : (J : Job) (sum : Float) (ps : List Piece) (q : Piece) → sum_segs J sum (segs_of (ps ++ (q ∷ []))) ≡ sum_uses J (value_at J q.seg.value).remat (sum_segs J sum (segs_of ps)) q.seg.uses
+sum_more : (J : Job) (sum : Float) (ps : List Piece) (q : Piece)
+    → sum_segs J sum (segs_of (ps ++ (q ∷ []))) ≡ sum_uses J (value_at J q.seg.value).remat (sum_segs J sum (segs_of ps)) q.seg.uses
 unfolding sum_segs
 sum_more J sum [] q = refl
 sum_more J sum (p ∷ ps) q = sum_more J (sum_uses J (value_at J p.seg.value).remat sum p.seg.uses) ps q
 
-pub touched_more : (n : ℕ) (ps : List Piece) (q : Piece) → touched n (segs_of (ps ++ (q ∷ []))) ≡ touched n (segs_of ps) + new_insts (counted_by n (segs_of ps)) (range_of q.seg)
+pub touched_more : (n : ℕ) (ps : List Piece) (q : Piece)
+    → touched n (segs_of (ps ++ (q ∷ []))) ≡ touched n (segs_of ps) + new_insts (counted_by n (segs_of ps)) (range_of q.seg)
 unfolding touched counted_by
 touched_more n [] q = omega arith
 touched_more n (p ∷ ps) q =
@@ -79,8 +82,10 @@ uses_more ps q = uses_append ps (q ∷ []) ∙ ap (λ (l : List Use). uses_of (s
 
 -- ---- for every source: the row of a piece and its uses were written, and its costs, instructions and hint counted
 
-pub told_more : (J : Job) (ol : OutLayout) (p u : ℕ) (q : Piece) (rm : Remat) (O₁ O₂ O₃ : List ℕ) (t t' : Tally) (costs : Costs) → tables_end ol ≤ length O₁ → p < ol.segs
-    → O₂ ≡ splice O₁ (seg_base ol + p * 7) (each_piece u q) → rm ≡ (value_at J q.seg.value).remat → UsesAdd J ol u rm q.seg.uses O₂ t.costs O₃ costs
+pub told_more : (J : Job) (ol : OutLayout) (p u : ℕ) (q : Piece) (rm : Remat) (O₁ O₂ O₃ : List ℕ) (t t' : Tally) (costs : Costs)
+    → tables_end ol ≤ length O₁ → p < ol.segs
+    → O₂ ≡ splice O₁ (seg_base ol + p * 7) (each_piece u q) → rm ≡ (value_at J q.seg.value).remat
+    → UsesAdd J ol u rm q.seg.uses O₂ t.costs O₃ costs
     → Counted t (range_of q.seg) q.seg.flags.fixedhint costs t' → PieceAdds J ol p u q O₁ t O₃ t'
 unfolding live_insts
 told_more J ol p u q rm O₁ O₂ O₃ t t' costs l h e er w et O p₀ u₀ ps told ep eu =
@@ -107,9 +112,11 @@ told_more J ol p u q rm O₁ O₂ O₃ t t' costs l h e er w et O p₀ u₀ ps t
     }
 
 -- a piece of the job's uses
-pub own_more : (J : Job) (ol : OutLayout) (p u : ℕ) (f : ℕ → Use) (s : PartSeg) (row : PieceRow) (rm : Remat) (O₁ O₂ O₃ : List ℕ) (t t' : Tally) (costs : Costs) → tables_end ol ≤ length O₁ → p < ol.segs
+pub own_more : (J : Job) (ol : OutLayout) (p u : ℕ) (f : ℕ → Use) (s : PartSeg) (row : PieceRow) (rm : Remat) (O₁ O₂ O₃ : List ℕ) (t t' : Tally) (costs : Costs)
+    → tables_end ol ≤ length O₁ → p < ol.segs
     → row ≡ row_of s u → O₂ ≡ splice O₁ (seg_base ol + p * 7) (piece_words row) → rm ≡ (value_at J s.value).remat
-    → UsesAdd J ol u rm (tab f s.first (s.end - s.first)) O₂ t.costs O₃ costs → Counted t (range_in s) s.flags.fixedhint costs t' → PieceAdds J ol p u (own_piece f s) O₁ t O₃ t'
+    → UsesAdd J ol u rm (tab f s.first (s.end - s.first)) O₂ t.costs O₃ costs
+    → Counted t (range_in s) s.flags.fixedhint costs t' → PieceAdds J ol p u (own_piece f s) O₁ t O₃ t'
 unfolding seg_by
 own_more J ol p u f s row rm O₁ O₂ O₃ t t' costs l h e₀ e er w et =
     told_more J ol p u (own_piece f s) rm O₁ O₂ O₃ t t' costs l h

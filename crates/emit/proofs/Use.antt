@@ -41,12 +41,14 @@ module _ (K : List ℕ) (marks : ℕ) (W : List ℕ) (lay : Layout) (n i m w : �
   unfolding marked_use
   plain_words z e = rw (here ∙ z) (e ∙ ap (λ (k : ℕ). use_words (use_row W k)) ei)
 
-turned_words : (W : List ℕ) (i p : ℕ) → p ≡ get_or W (i + 1) 0 → ◌≡◌ {A = List ℕ} (3 ∷ p ∷ 0 ∷ 0 ∷ 0 ∷ 0 ∷ []) (use_words (turned_use (use_row W i)))
+turned_words : (W : List ℕ) (i p : ℕ) → p ≡ get_or W (i + 1) 0
+    → ◌≡◌ {A = List ℕ} (3 ∷ p ∷ 0 ∷ 0 ∷ 0 ∷ 0 ∷ []) (use_words (turned_use (use_row W i)))
 unfolding use_row
 turned_words W i p ep = ap (λ (q : ℕ). 3 ∷ q ∷ 0 ∷ 0 ∷ 0 ∷ 0 ∷ []) ep
 
 -- one with a mark
-pub marked_turned : (K : List ℕ) (marks : ℕ) (W : List ℕ) (lay : Layout) (n i m w p : ℕ) → w ≡ get_or K m 0 → i ≡ lay.uses.at + n * 6 → m ≡ marks + n → (w ≡ 0 → ⊥) → p ≡ get_or W (i + 1) 0
+pub marked_turned : (K : List ℕ) (marks : ℕ) (W : List ℕ) (lay : Layout) (n i m w p : ℕ) → w ≡ get_or K m 0
+    → i ≡ lay.uses.at + n * 6 → m ≡ marks + n → (w ≡ 0 → ⊥) → p ≡ get_or W (i + 1) 0
     → ◌≡◌ {A = List ℕ} (3 ∷ p ∷ 0 ∷ 0 ∷ 0 ∷ 0 ∷ []) (use_words (marked_use K marks W lay n))
 unfolding marked_use
 marked_turned K marks W lay n i m w p ew ei em z ep =
@@ -55,7 +57,8 @@ marked_turned K marks W lay n i m w p ew ei em z ep =
 
 -- ---- the cost
 
-pub cost_reg : (J : Job) (r : ℕ) (m : Bool) (x : Float) → m ≡ get_or J.memory r false → x ≡ fixed_cost m → x ≡ cost_by J 0 r 0
+pub cost_reg : (J : Job) (r : ℕ) (m : Bool) (x : Float) → m ≡ get_or J.memory r false → x ≡ fixed_cost m
+    → x ≡ cost_by J 0 r 0
 unfolding cost_by cost_of
 cost_reg J r m x em e = e ∙ ap fixed_cost em
 
@@ -88,26 +91,31 @@ kind_pos (BlockparamIn q) p = refl
 kind_pos BlockparamOut p = refl
 
 -- the law that joins rows and costs: the words of a use's row tell its cost and its instruction
-words_cost : (J : Job) (u : Use) (x : List ℕ) → x ≡ use_words u → cost_by J (get_or x 0 0) (get_or x 2 0) (get_or x 3 0) ≡ cost_of J u.kind
+words_cost : (J : Job) (u : Use) (x : List ℕ) → x ≡ use_words u
+    → cost_by J (get_or x 0 0) (get_or x 2 0) (get_or x 3 0) ≡ cost_of J u.kind
 words_cost J u x e = ap (λ (l : List ℕ). cost_by J (get_or l 0 0) (get_or l 2 0) (get_or l 3 0)) e ∙ kind_cost J u.kind u.pos.0
 
 words_pos : (u : Use) (x : List ℕ) → x ≡ use_words u → get_or x 1 0 ≡ u.pos.0
 words_pos u x e = ap (λ (l : List ℕ). get_or l 1 0) e ∙ kind_pos u.kind u.pos.0
 
 -- the words of a block parameter
-pub param_words : (p : Inst) (q : ℕ) → ◌≡◌ {A = List ℕ} (8 ∷ p.0 ∷ q ∷ 0 ∷ 0 ∷ 0 ∷ []) (use_words (record { pos = p; kind = BlockparamIn q }))
+pub param_words : (p : Inst) (q : ℕ)
+    → ◌≡◌ {A = List ℕ} (8 ∷ p.0 ∷ q ∷ 0 ∷ 0 ∷ 0 ∷ []) (use_words (record { pos = p; kind = BlockparamIn q }))
 param_words p q = refl
 
 -- ---- the block
 
 found_frequency : (K : List ℕ) (at n b i : ℕ) (bs : List BlockData) → Starts K at bs → length bs ≡ n → i < insts_of bs
-    → ((cs : List BlockData) → Starts K at cs → length cs ≡ n → i < insts_of cs → b ≡ block_of cs i) → freq_at bs i ≡ of_bits binary32 (get_or K (at + b * 2 + 1) 0)
+    → ((cs : List BlockData) → Starts K at cs → length cs ≡ n → i < insts_of cs → b ≡ block_of cs i)
+    → freq_at bs i ≡ of_bits binary32 (get_or K (at + b * 2 + 1) 0)
 found_frequency K at n b i bs s e h f = starts_frequency s (block_holds bs i h) ∙ ap (λ (k : ℕ). of_bits binary32 (get_or K (at + k * 2 + 1) 0)) (sym (f bs s e h))
 
 -- a block that was found
-pub near_found : (bs : List BlockData) (K : List ℕ) (at n b pos : ℕ) (low high : Inst) (freq : Plain) → Starts K at bs → length bs ≡ n
+pub near_found : (bs : List BlockData) (K : List ℕ) (at n b pos : ℕ) (low high : Inst) (freq : Plain) → Starts K at bs
+    → length bs ≡ n
     → (b < n) × ((cs : List BlockData) → Starts K at cs → length cs ≡ n → pos < insts_of cs → b ≡ block_of cs pos)
-    → low.0 ≡ get_or K (at + b * 2) 0 → high.0 ≡ get_or K (at + (b + 1) * 2) 0 → freq.value ≡ of_bits binary32 (get_or K (at + b * 2 + 1) 0)
+    → low.0 ≡ get_or K (at + b * 2) 0 → high.0 ≡ get_or K (at + (b + 1) * 2) 0
+    → freq.value ≡ of_bits binary32 (get_or K (at + b * 2 + 1) 0)
     → NearAt bs pos (record { low = low; high = high; freq = freq })
 near_found bs K at n b pos low high freq s e f el eh ef = (
   λ i lo hi h. found_frequency K at n b i bs s e h (near_here K at n b low.0 high.0 i el eh f.0 lo hi).1 ∙ sym ef,
@@ -115,12 +123,14 @@ near_found bs K at n b pos low high freq s e f el eh ef = (
 )
 
 -- the block at hand
-pub near_kept : (bs : List BlockData) (nr : Near) (pos : ℕ) → nr.low.0 ≤ pos → pos < nr.high.0 → NearFits bs nr → NearAt bs pos nr
+pub near_kept : (bs : List BlockData) (nr : Near) (pos : ℕ) → nr.low.0 ≤ pos → pos < nr.high.0 → NearFits bs nr
+    → NearAt bs pos nr
 near_kept bs nr pos lo hi f = (f, λ h. f pos lo hi h)
 
 -- ---- the sum with it
 
-pub use_sum : (J : Job) (x : List ℕ) (o : Options) (r : Remat) (sum cost total : Float) (nr : Near) → o ≡ J.options → cost ≡ cost_by J (get_or x 0 0) (get_or x 2 0) (get_or x 3 0)
+pub use_sum : (J : Job) (x : List ℕ) (o : Options) (r : Remat) (sum cost total : Float) (nr : Near) → o ≡ J.options
+    → cost ≡ cost_by J (get_or x 0 0) (get_or x 2 0) (get_or x 3 0)
     → NearAt J.blocks (get_or x 1 0) nr → total ≡ add_cost sum (scaled o r cost) nr.freq.value
     → (u : Use) → x ≡ use_words u → u.pos.0 < insts_of J.blocks → total ≡ use_adds J r sum u
 use_sum J x o r sum cost total nr eo ec near et u e h =

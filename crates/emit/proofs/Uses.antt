@@ -26,7 +26,8 @@ module _ (J : Job) (ol : OutLayout) (u : ℕ) (r : Remat) where
   }
 
   -- those of xs, then those of ys
-  pub uses_both : (xs ys : List Use) (n : ℕ) (O₁ O₂ O₃ : List ℕ) (s₁ s₂ s₃ : Costs) → UsesAdd J ol u r xs O₁ s₁ O₂ s₂ → n ≡ u + length xs → UsesAdd J ol n r ys O₂ s₂ O₃ s₃
+  pub uses_both : (xs ys : List Use) (n : ℕ) (O₁ O₂ O₃ : List ℕ) (s₁ s₂ s₃ : Costs) → UsesAdd J ol u r xs O₁ s₁ O₂ s₂
+      → n ≡ u + length xs → UsesAdd J ol n r ys O₂ s₂ O₃ s₃
       → UsesAdd J ol u r (xs ++ ys) O₁ s₁ O₃ s₃
   uses_both xs ys n O₁ O₂ O₃ s₁ s₂ s₃ a e b = record {
     near = b.near;
@@ -38,7 +39,8 @@ module _ (J : Job) (ol : OutLayout) (u : ℕ) (r : Remat) where
   }
 
   -- one use
-  pub uses_one : (x : Use) (O₁ O₂ : List ℕ) (s t : Costs) → tables_end ol ≤ length O₁ → u < ol.uses → O₂ ≡ splice O₁ (use_base ol + u * 6) (use_words x) → NearFits J.blocks t.near
+  pub uses_one : (x : Use) (O₁ O₂ : List ℕ) (s t : Costs) → tables_end ol ≤ length O₁ → u < ol.uses
+      → O₂ ≡ splice O₁ (use_base ol + u * 6) (use_words x) → NearFits J.blocks t.near
       → t.total.value ≡ use_adds J r s.total.value x → UsesAdd J ol u r (x ∷ []) O₁ s O₂ t
   unfolding sum_uses
   uses_one x O₁ O₂ s t l h e n es = record {
@@ -56,14 +58,17 @@ module _ (J : Job) (ol : OutLayout) (u : ℕ) (r : Remat) (f : ℕ → Use) (a :
       subst (λ (k : ℕ). UsesAdd J ol u r (tab f a k) O s O s) (sym z) (uses_nil J ol u r O s n)
 
   -- use i more, whose words are put from word `to` on
-  pub uses_next : (i to : ℕ) (x : List ℕ) (O₁ O₂ O₃ : List ℕ) (s₁ s₂ s₃ : Costs) → UsesAdd J ol u r (tab f a (i - a)) O₁ s₁ O₂ s₂ → a ≤ i → tables_end ol ≤ length O₂ → u + (i - a) < ol.uses
-      → to ≡ use_base ol + (u + (i - a)) * 6 → x ≡ use_words (f i) → O₃ ≡ splice O₂ to x → NearFits J.blocks s₃.near → s₃.total.value ≡ use_adds J r s₂.total.value (f i)
+  pub uses_next : (i to : ℕ) (x : List ℕ) (O₁ O₂ O₃ : List ℕ) (s₁ s₂ s₃ : Costs)
+      → UsesAdd J ol u r (tab f a (i - a)) O₁ s₁ O₂ s₂ → a ≤ i → tables_end ol ≤ length O₂ → u + (i - a) < ol.uses
+      → to ≡ use_base ol + (u + (i - a)) * 6 → x ≡ use_words (f i) → O₃ ≡ splice O₂ to x → NearFits J.blocks s₃.near
+      → s₃.total.value ≡ use_adds J r s₂.total.value (f i)
       → UsesAdd J ol u r (tab f a (i + 1 - a)) O₁ s₁ O₃ s₃
   uses_next i to x O₁ O₂ O₃ s₁ s₂ s₃ w h l k et ex e n es =
       let m : i + 1 - a ≡ (i - a) + 1 = omega arith in
       let q : a + (i - a) ≡ i = omega arith in
       let more : tab f a (i - a) ++ (f i ∷ []) ≡ tab f a (i + 1 - a) =
-      ap (λ (j : ℕ). tab f a (i - a) ++ (f j ∷ [])) (sym q) ∙ sym (tab_snoc f a (i - a)) ∙ ap (λ (j : ℕ). tab f a j) (sym m) in
+      ap (λ (j : ℕ). tab f a (i - a) ++ (f j ∷ [])) (sym q) ∙ sym (tab_snoc f a (i - a))
+      ∙ ap (λ (j : ℕ). tab f a j) (sym m) in
       let put : O₃ ≡ splice O₂ (use_base ol + (u + (i - a)) * 6) (use_words (f i)) =
       e ∙ ap (λ (j : ℕ). splice O₂ j x) et ∙ ap (λ (ws : List ℕ). splice O₂ (use_base ol + (u + (i - a)) * 6) ws) ex in
       let one : UsesAdd J ol (u + (i - a)) r (f i ∷ []) O₂ s₂ O₃ s₃ = uses_one J ol (u + (i - a)) r (f i) O₂ O₃ s₂ s₃ l k put n es in
@@ -71,7 +76,8 @@ module _ (J : Job) (ol : OutLayout) (u : ℕ) (r : Remat) (f : ℕ → Use) (a :
       (uses_both J ol u r (tab f a (i - a)) (f i ∷ []) (u + (i - a)) O₁ O₂ O₃ s₁ s₂ s₃ w (omega (arith, length_tab f a (i - a))) one)
 
   -- at the end
-  pub uses_all : (b i : ℕ) (O₁ O₂ : List ℕ) (s₁ s₂ : Costs) → UsesAdd J ol u r (tab f a (i - a)) O₁ s₁ O₂ s₂ → i ≤ b → b ≤ i → UsesAdd J ol u r (tab f a (b - a)) O₁ s₁ O₂ s₂
+  pub uses_all : (b i : ℕ) (O₁ O₂ : List ℕ) (s₁ s₂ : Costs) → UsesAdd J ol u r (tab f a (i - a)) O₁ s₁ O₂ s₂ → i ≤ b
+      → b ≤ i → UsesAdd J ol u r (tab f a (b - a)) O₁ s₁ O₂ s₂
   uses_all b i O₁ O₂ s₁ s₂ w h l =
       let e : i - a ≡ b - a = omega arith in
       subst (λ (n : ℕ). UsesAdd J ol u r (tab f a n) O₁ s₁ O₂ s₂) e w

@@ -63,12 +63,13 @@ use_adds J r sum x = add_cost sum (scaled J.options r (cost_of J x.kind)) (freq_
 abbrev pub InsideRun : Job → (ℕ → Use) → ℕ → ℕ → Type 0
 InsideRun J f a b = (n : ℕ) → a ≤ n → n < b → (f n).pos.0 < insts_of J.blocks
 
--- A walk goes on with the uses xs of a piece, from use row u on, behind any pieces and uses that stand there: from the words O₁ and the
--- costs s to O₂ and t.
+-- A walk goes on with the uses xs of a piece, from use row u on, behind any pieces and uses that stand there: from the
+-- words O₁ and the costs s to O₂ and t.
 pub record UsesAdd (J : Job) (ol : OutLayout) (u : ℕ) (r : Remat) (xs : List Use) (O₁ : List ℕ) (s : Costs) (O₂ : List ℕ) (t : Costs) : Type 0 where
   pub near : NearFits J.blocks t.near
   pub sum : t.total.value ≡ sum_uses J r s.total.value xs
-  pub written : (O : List ℕ) (p₀ u₀ : ℕ) (ps : List Piece) (us : List Use) → Written ol O p₀ u₀ ps us O₁ → u ≡ u₀ + length us → Written ol O p₀ u₀ ps (us ++ xs) O₂
+  pub written : (O : List ℕ) (p₀ u₀ : ℕ) (ps : List Piece) (us : List Use) → Written ol O p₀ u₀ ps us O₁
+      → u ≡ u₀ + length us → Written ol O p₀ u₀ ps (us ++ xs) O₂
 
 -- ---- pieces
 
@@ -100,10 +101,14 @@ pub record Told (J : Job) (ol : OutLayout) (O : List ℕ) (p u : ℕ) (ps : List
   pub near : NearFits J.blocks t.costs.near
 
 -- the instructions of pieces that can be weighed
-pub told_insts : {J : Job} {ol : OutLayout} {O O' : List ℕ} {p u : ℕ} {ps : List Piece} {t : Tally} → Told J ol O p u ps O' t → Fair J 4096 ps → (1 ≤ t.insts) × (t.insts ≤ 4096)
-told_insts {J} {ps = ps} h f = let n = fair_insts J 4096 ps f in (omega (arith, h.insts, n.0), omega (arith, h.insts, n.1))
+pub told_insts : {J : Job} {ol : OutLayout} {O O' : List ℕ} {p u : ℕ} {ps : List Piece} {t : Tally}
+    → Told J ol O p u ps O' t → Fair J 4096 ps → (1 ≤ t.insts) × (t.insts ≤ 4096)
+told_insts {J} {ps = ps} h f =
+    let n = fair_insts J 4096 ps f in
+    (omega (arith, h.insts, n.0), omega (arith, h.insts, n.1))
 
 -- a walk that wrote any pieces before goes on with the piece q, as piece row p, its uses from use row u on
 abbrev pub PieceAdds : Job → OutLayout → ℕ → ℕ → Piece → List ℕ → Tally → List ℕ → Tally → Type 0
 PieceAdds J ol p u q O₁ t O₂ t' =
-    (O : List ℕ) (p₀ u₀ : ℕ) (ps : List Piece) → Told J ol O p₀ u₀ ps O₁ t → p ≡ p₀ + length ps → u ≡ u₀ + uses_of_pieces ps → Told J ol O p₀ u₀ (ps ++ (q ∷ [])) O₂ t'
+    (O : List ℕ) (p₀ u₀ : ℕ) (ps : List Piece) → Told J ol O p₀ u₀ ps O₁ t → p ≡ p₀ + length ps
+    → u ≡ u₀ + uses_of_pieces ps → Told J ol O p₀ u₀ (ps ++ (q ∷ [])) O₂ t'

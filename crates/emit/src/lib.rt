@@ -28,10 +28,12 @@ ghost use Rattle.vreg_weight.specs.Weighed.{Inside, BitsOf};
 ghost use Rattle.vreg_weight.specs.Fair.{Fair};
 ghost use Rattle.vreg_weight.specs.InFrame.{Weighable};
 ghost use Rattle.vreg_weight.specs.InWeighing.{weighed_job};
-ghost use Rattle.frame.specs.InFrame.{marked_use, part_segs, PartOk};
+ghost use Rattle.frame.specs.InFrame.{part_segs, PartOk};
 ghost use Rattle.conflict_piece.specs.Conflict.{param_by, open_count};
-ghost use Rattle.conflict_piece.specs.InFrame.{row_use, turned_rows_of, RowsOk};
-ghost use Rattle.emit.specs.Told.{NearFits, NearAt, kind_use, cost_by, use_adds, InsideRun, own_piece, range_in, Counted, UsesAdd, Told, PieceAdds};
+ghost use Rattle.conflict_piece.specs.InFrame.{turned_rows_of, RowsOk};
+ghost use Rattle.emit.specs.Told.{NearFits, NearAt, kind_use, cost_by, use_adds, InsideRun, own_piece, range_in};
+ghost use Rattle.emit.specs.Told.{Counted, Told};
+ghost use Rattle.emit.specs.InWalk.{tables_in, blocks_in, use_in, turned_in, UsesOk, UsesAdd, PieceAdds};
 
 mod near;
 mod tally;
@@ -92,7 +94,8 @@ fn words_at(t: &[u8], i: usize) -> [u32; 6]
 // The words of a use of the job whose row begins at word i: of a conflict if its mark, word `mark`, is set.
 fn marked_words(job: &[u8], i: usize, work: &[u8], mark: usize) -> [u32; 6]
     requires { (i + 6 ≤ word_count job.now) × (mark < word_count work.now) }
-    ensures { (marks n : ℕ) (lay : spec_layout.Layout) → i ≡ lay.uses.at + n * 6 → mark ≡ marks + n → result ≡ use_words (part.marked_use (words_of work.now) marks (words_of job.now) lay n) }
+    ensures { (marks n : ℕ) (lay : spec_layout.Layout) → i ≡ lay.uses.at + n * 6 → mark ≡ marks + n
+        → result ≡ use_words (part.marked_use (words_of work.now) marks (words_of job.now) lay n) }
 {
     if word_at(work, mark) == 0 {
         return words_at(job, i);
@@ -150,7 +153,7 @@ pub fn no_block() -> Near
 
 // The block of an instruction, by search.
 fn near_at(by: &Weighing, pos: Inst) -> Near
-    ensures { NearAt (weighed_job by.now).blocks pos.0 result }
+    ensures { NearAt (blocks_in by.now) pos.0 result }
 {
     let t = BlockStarts {
         words: by.work,
@@ -168,8 +171,8 @@ fn near_at(by: &Weighing, pos: Inst) -> Near
 // The block of an instruction: the one at hand if it holds it.
 #[inline(always)]
 fn nearer(by: &Weighing, near: Near, pos: Inst) -> Near
-    requires { NearFits (weighed_job by.now).blocks near }
-    ensures { NearAt (weighed_job by.now).blocks pos.0 result }
+    requires { NearFits (blocks_in by.now) near }
+    ensures { NearAt (blocks_in by.now) pos.0 result }
 {
     if pos.0 < near.low.0 {
         return near_at(by, pos);
@@ -183,9 +186,10 @@ fn nearer(by: &Weighing, near: Near, pos: Inst) -> Near
 // A use with the words x, put from word `to` on, and the costs with it.
 #[inline(always)]
 fn emit_use(by: &Weighing, remat: Remat, x: [u32; 6], out: &mut [u8], to: usize, s: Costs) -> Costs
-    requires { (to + 6 ≤ word_count out.old) × NearFits (weighed_job by.now).blocks s.near }
-    ensures { (words_of out.new ≡ splice (words_of out.old) to x) × NearFits (weighed_job by.now).blocks result.near
-        × ((u : spec_use.Use) → x ≡ use_words u → u.pos.0 < insts_of (weighed_job by.now).blocks → result.total.value ≡ use_adds (weighed_job by.now) remat s.total.value u) }
+    requires { (to + 6 ≤ word_count out.old) × NearFits (blocks_in by.now) s.near }
+    ensures { (words_of out.new ≡ splice (words_of out.old) to x) × NearFits (blocks_in by.now) result.near
+        × ((u : spec_use.Use) → x ≡ use_words u → u.pos.0 < insts_of (blocks_in by.now)
+        → result.total.value ≡ use_adds (weighed_job by.now) remat s.total.value u) }
 {
     let cost = row_cost(&by.fr.job, x[0], x[2], x[3]);
     let near = nearer(by, s.near, Inst(x[1]));
@@ -204,9 +208,11 @@ fn emit_uses(
     u: usize,
     costs: Costs,
 ) -> Costs
-    requires room { (tables_end by.now.fr.now.ol ≤ word_count out.old) × (u + (b - a) ≤ by.now.fr.now.ol.uses) × NearFits (weighed_job by.now).blocks costs.near }
-    requires uses { (a ≤ b) × (b ≤ by.now.fr.now.job.lay.uses.n) × (by.now.fr.now.wl.marks + by.now.fr.now.job.lay.uses.n ≤ word_count by.now.work.now) × InsideRun (weighed_job by.now) (marked_use by.now.fr.now by.now.work.now) a b }
-    ensures { UsesAdd (weighed_job by.now) by.now.fr.now.ol u remat (tab (marked_use by.now.fr.now by.now.work.now) a (b - a)) (words_of out.old) costs (words_of out.new) result }
+    requires uses { UsesOk by.now a b }
+    requires room { (tables_end (tables_in by.now) ≤ word_count out.old) × (u + (b - a) ≤ (tables_in by.now).uses) }
+    requires near { NearFits (blocks_in by.now) costs.near }
+    ensures { UsesAdd by.now u remat (tab (use_in by.now) a (b - a)) (words_of out.old) costs
+        (words_of out.new) result }
 {
     let job = &by.fr.job;
     let lay = &job.lay;
@@ -234,8 +240,11 @@ fn emit_opening(
     u: usize,
     costs: Costs,
 ) -> Costs
-    requires { (tables_end by.now.fr.now.ol ≤ word_count out.old) × (u + open_count param ≤ by.now.fr.now.ol.uses) × NearFits (weighed_job by.now).blocks costs.near × Inside (weighed_job by.now) (opening pos (param_by param)) }
-    ensures { UsesAdd (weighed_job by.now) by.now.fr.now.ol u remat (opening pos (param_by param)) (words_of out.old) costs (words_of out.new) result }
+    requires uses { Inside (weighed_job by.now) (opening pos (param_by param)) }
+    requires room { (tables_end (tables_in by.now) ≤ word_count out.old)
+        × (u + open_count param ≤ (tables_in by.now).uses) }
+    requires near { NearFits (blocks_in by.now) costs.near }
+    ensures { UsesAdd by.now u remat (opening pos (param_by param)) (words_of out.old) costs (words_of out.new) result }
 {
     let ol = &by.fr.ol;
     let Some(q) = param else {
@@ -255,9 +264,11 @@ fn emit_turned(
     u: usize,
     costs: Costs,
 ) -> Costs
-    requires room { (tables_end by.now.fr.now.ol ≤ word_count out.old) × (u + (b - a) ≤ by.now.fr.now.ol.uses) × NearFits (weighed_job by.now).blocks costs.near }
-    requires uses { RowsOk by.now.fr.now by.now.work.now a b × InsideRun (weighed_job by.now) (row_use by.now.fr.now by.now.work.now) a b }
-    ensures { UsesAdd (weighed_job by.now) by.now.fr.now.ol u remat (tab (row_use by.now.fr.now by.now.work.now) a (b - a)) (words_of out.old) costs (words_of out.new) result }
+    requires uses { RowsOk by.now.fr.now by.now.work.now a b × InsideRun (weighed_job by.now) (turned_in by.now) a b }
+    requires room { (tables_end (tables_in by.now) ≤ word_count out.old) × (u + (b - a) ≤ (tables_in by.now).uses) }
+    requires near { NearFits (blocks_in by.now) costs.near }
+    ensures { UsesAdd by.now u remat (tab (turned_in by.now) a (b - a)) (words_of out.old) costs
+        (words_of out.new) result }
 {
     let job = &by.fr.job;
     let lay = &job.lay;
@@ -287,10 +298,11 @@ fn count_piece(t: Tally, s: LiveRangeSegment, hint: bool, costs: Costs) -> Tally
 
 // A piece of the job's uses, put as piece row p, its uses from use row u on.
 fn emit_piece(by: &Weighing, s: PartSeg, out: &mut [u8], p: usize, u: usize, t: Tally) -> Tally
-    requires room { (tables_end by.now.fr.now.ol ≤ word_count out.old) × (p < by.now.fr.now.ol.segs) × (u + (s.end - s.first) ≤ by.now.fr.now.ol.uses) × (u + (s.end - s.first) < 4294967296) }
-    requires uses { (s.first ≤ s.end) × (s.end ≤ by.now.fr.now.job.lay.uses.n) × (by.now.fr.now.wl.marks + by.now.fr.now.job.lay.uses.n ≤ word_count by.now.work.now) × InsideRun (weighed_job by.now) (marked_use by.now.fr.now by.now.work.now) s.first s.end }
-    requires before { NearFits (weighed_job by.now).blocks t.costs.near × (t.insts + new_insts t.counted.0 (range_in s) ≤ 4096) }
-    ensures { PieceAdds (weighed_job by.now) by.now.fr.now.ol p u (own_piece (marked_use by.now.fr.now by.now.work.now) s) (words_of out.old) t (words_of out.new) result }
+    requires uses { UsesOk by.now s.first s.end }
+    requires room { (tables_end (tables_in by.now) ≤ word_count out.old) × (p < (tables_in by.now).segs)
+        × (u + (s.end - s.first) ≤ (tables_in by.now).uses) × (u + (s.end - s.first) < 4294967296) }
+    requires before { NearFits (blocks_in by.now) t.costs.near × (t.insts + new_insts t.counted.0 (range_in s) ≤ 4096) }
+    ensures { PieceAdds by.now p u (own_piece (use_in by.now) s) (words_of out.old) t (words_of out.new) result }
 {
     let row = piece_row(s, u);
     vreg_put::put_piece(out, by.fr.ol, p, row);
@@ -305,7 +317,8 @@ fn emit_piece(by: &Weighing, s: PartSeg, out: &mut [u8], p: usize, u: usize, t: 
 
 // Nothing told yet.
 fn no_pieces(near: Near) -> Tally
-    ensures { (result.costs.near ≡ near) × (result.costs.total.value ≡ zero_f) × (result.insts ≡ 0) × (result.counted.0 ≡ 0) × (result.hint ≡ false) }
+    ensures { (result.costs.near ≡ near) × (result.costs.total.value ≡ zero_f)
+        × (result.insts ≡ 0) × (result.counted.0 ≡ 0) × (result.hint ≡ false) }
 {
     let total = Sum::zero();
     Tally {
@@ -316,7 +329,8 @@ fn no_pieces(near: Near) -> Tally
     }
 }
 
-// The pieces of a working part from piece row p on, their uses from use row u on. `near` is the block of the use before.
+// The pieces of a working part from piece row p on, their uses from use row u on. `near` is the block of the use
+// before.
 pub fn emit_part(
     fr: &Frame,
     work: &[u8],
@@ -326,10 +340,15 @@ pub fn emit_part(
     u: usize,
     near: Near,
 ) -> Tally
-    requires fits { Weighable fr.now work.now × PartOk fr.now sp × (fr.now.wl.marks + fr.now.job.lay.uses.n ≤ word_count work.now) × (tables_end fr.now.ol ≤ word_count out.old) × NearFits (job_in fr.now.job).blocks near }
-    requires room { (p + (sp.last + 1 - sp.seg) ≤ fr.now.ol.segs) × (u + (sp.end - sp.first) ≤ fr.now.ol.uses) × (u + (sp.end - sp.first) < 4294967296) }
+    requires fits { Weighable fr.now work.now × PartOk fr.now sp
+        × (fr.now.wl.marks + fr.now.job.lay.uses.n ≤ word_count work.now)
+        × (tables_end fr.now.ol ≤ word_count out.old) }
+    requires room { (p + (sp.last + 1 - sp.seg) ≤ fr.now.ol.segs) × (u + (sp.end - sp.first) ≤ fr.now.ol.uses)
+        × (u + (sp.end - sp.first) < 4294967296) }
     requires fair { Fair (job_in fr.now.job) 4096 (as_own (part_segs fr.now work.now sp)) }
-    ensures { Told (job_in fr.now.job) fr.now.ol (words_of out.old) p u (as_own (part_segs fr.now work.now sp)) (words_of out.new) result }
+    requires near { NearFits (job_in fr.now.job).blocks near }
+    ensures { Told (job_in fr.now.job) fr.now.ol (words_of out.old) p u (as_own (part_segs fr.now work.now sp))
+        (words_of out.new) result }
 {
     let job = &fr.job;
     let lay = &job.lay;
@@ -344,7 +363,8 @@ pub fn emit_part(
     t
 }
 
-// The piece of the turned rows a to b - 1, as piece row p, its uses from use row u on. `near` is the block of the use before.
+// The piece of the turned rows a to b - 1, as piece row p, its uses from use row u on. `near` is the block of the use
+// before.
 pub fn emit_conflict(
     fr: &Frame,
     work: &[u8],
@@ -356,10 +376,16 @@ pub fn emit_conflict(
     u: usize,
     near: Near,
 ) -> Tally
-    requires fits { Weighable fr.now work.now × RowsOk fr.now work.now a b × (tables_end fr.now.ol ≤ word_count out.old) × NearFits (job_in fr.now.job).blocks near }
-    requires room { (p < fr.now.ol.segs) × (u + (open_count x.param + (b - a)) ≤ fr.now.ol.uses) × (u + (open_count x.param + (b - a)) < 4294967296) }
-    requires fair { Fair (job_in fr.now.job) 4096 (conflict_piece x.value x.pos (param_by x.param) (turned_rows_of fr.now work.now a b) ∷ []) }
-    ensures { Told (job_in fr.now.job) fr.now.ol (words_of out.old) p u (conflict_piece x.value x.pos (param_by x.param) (turned_rows_of fr.now work.now a b) ∷ []) (words_of out.new) result }
+    requires fits { Weighable fr.now work.now × RowsOk fr.now work.now a b
+        × (tables_end fr.now.ol ≤ word_count out.old) }
+    requires room { (p < fr.now.ol.segs) × (u + (open_count x.param + (b - a)) ≤ fr.now.ol.uses)
+        × (u + (open_count x.param + (b - a)) < 4294967296) }
+    requires fair { Fair (job_in fr.now.job) 4096
+        (conflict_piece x.value x.pos (param_by x.param) (turned_rows_of fr.now work.now a b) ∷ []) }
+    requires near { NearFits (job_in fr.now.job).blocks near }
+    ensures { Told (job_in fr.now.job) fr.now.ol (words_of out.old) p u
+        (conflict_piece x.value x.pos (param_by x.param) (turned_rows_of fr.now work.now a b) ∷ [])
+        (words_of out.new) result }
 {
     let job = &fr.job;
     let lay = &job.lay;
@@ -382,7 +408,8 @@ pub fn emit_conflict(
 // The bits of the weight, in class c, of pieces with this sum of costs that touch so many instructions.
 pub fn weight_of(job: &Job, c: RegClass, total: Sum, insts: u32) -> WeightBits
     requires { SmallBook (words_in job.now) job.now.lay × (1 ≤ insts) × (insts ≤ 4096) }
-    ensures { (ss : List Segment) → total.value ≡ sum_segs (job_in job.now) zero_f ss → insts ≡ live_insts ss → BitsOf result.value (weight_of (job_in job.now) c ss) }
+    ensures { (ss : List Segment) → total.value ≡ sum_segs (job_in job.now) zero_f ss → insts ≡ live_insts ss
+        → BitsOf result.value (weight_of (job_in job.now) c ss) }
 {
     let lay = &job.lay;
     let k = word_at(job.bytes, lay.opts);

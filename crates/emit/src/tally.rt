@@ -10,7 +10,8 @@ pub struct Costs {
     pub near: Near,
 }
 
-// The costs, the instructions touched, those counted already (all below `counted`), and whether a piece has a fixed hint.
+// The costs, the instructions touched, those counted already (all below `counted`), and whether a piece has a fixed
+// hint.
 #[derive(Clone, Copy)]
 pub struct Tally {
     pub costs: Costs,

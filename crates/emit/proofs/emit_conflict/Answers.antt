@@ -18,12 +18,12 @@ conflict_row-row-requires c = let x = c.args.x in
     (omega (arith, low), omega (arith, c.requires.room.2), omega (arith, k, c.requires.room.2))
 
 pub emit_opening-begun-requires : goal.emit_opening-begun-requires
-emit_opening-begun-requires c = let x = c.args.x in (
-  omega (arith, c.put_piece, c.requires.fits.2),
-  omega (arith, c.requires.room.1),
-  near_same _ _ _ c.no_pieces-t.ensures.0 c.requires.fits.3,
-  opening_inside _ x.value x.pos x.param _ _ _ _ _ _ c.requires.fair,
-)
+emit_opening-begun-requires c = let x = c.args.x in
+    record {
+      uses = opening_inside _ x.value x.pos x.param _ _ _ _ _ _ c.requires.fair;
+      room = (omega (arith, c.put_piece, c.requires.fits.2), omega (arith, c.requires.room.1));
+      near = near_same _ _ _ c.no_pieces-t.ensures.0 c.requires.near;
+    }
 
 pub emit_turned-costs-requires-clause-uses : goal.emit_turned-costs-requires-clause-uses
 emit_turned-costs-requires-clause-uses c = let x = c.args.x in
@@ -36,4 +36,4 @@ count_piece-requires c = let x = c.args.x in
 pub returns : goal.returns
 returns c = let x = c.args.x in
     let k : c.from-k.result ≡ open_count x.param = c.from-k.ensures ∙ count_open _ ∙ ap (λ b. cond b 1 0) c.is_some.ensures in
-    conflict_told _ _ _ _ _ _ x.value x.pos x.param _ _ _ _ _ _ _ _ _ _ _ _ _ _ _ (told_none _ _ _ _ _ _ _ c.no_pieces-t.ensures c.requires.fits.3) (omega (arith, length_words c.args.out.now, c.requires.fits.2)) c.requires.room.0 k c.conflict_row-row.ensures c.put_piece.ensures c.remat_at-remat.ensures c.emit_opening-begun.ensures c.emit_turned-costs.ensures c.count_piece.ensures
+    conflict_told _ _ _ _ _ _ x.value x.pos x.param _ _ _ _ _ _ _ _ _ _ _ _ _ _ _ (told_none _ _ _ _ _ _ _ c.no_pieces-t.ensures c.requires.near) (omega (arith, length_words c.args.out.now, c.requires.fits.2)) c.requires.room.0 k c.conflict_row-row.ensures c.put_piece.ensures c.remat_at-remat.ensures c.emit_opening-begun.ensures c.emit_turned-costs.ensures c.count_piece.ensures

@@ -10,7 +10,7 @@ pub invariant_of-by : goal.invariant_of-by
 invariant_of-by c = record { weighable = c.requires.fits.0; of_job = c.options_at-options.ensures ∙ options_are _ _ }
 
 pub loop-i-init : goal.loop-i-init
-loop-i-init c = (told_start _ _ _ _ _ _ _ _ _ _ (told_none _ _ _ _ _ _ _ c.no_pieces-t.ensures c.requires.fits.4), refl)
+loop-i-init c = (told_start _ _ _ _ _ _ _ _ _ _ (told_none _ _ _ _ _ _ _ c.no_pieces-t.ensures c.requires.near), refl)
 
 pub overflow_sub-k : goal.overflow_sub-k
 overflow_sub-k c = let t = row_bounds _ _ _ _ _ c.requires.fits.1 (omega arith) (omega arith) c.part_seg-s.ensures in
@@ -26,7 +26,12 @@ emit_piece-t-requires c = let q = c.requires in
     let t = row_bounds _ _ _ _ _ q.fits.1 (omega arith) (omega arith) c.part_seg-s.ensures in
     record {
       room = (omega (arith, l.1, q.fits.3), omega (arith, q.room.0), omega (arith, t.0, t.1, t.2, q.room.1), omega (arith, t.0, t.1, t.2, q.room.2));
-      uses = (t.1, omega (arith, t.2, q.fits.1.fits), q.fits.2, fair_within _ _ _ _ _ _ q.fits.1 q.fair _ _ t.0 t.2);
+      uses = record {
+        order = t.1;
+        within = omega (arith, t.2, q.fits.1.fits);
+        marks = q.fits.2;
+        inside = fair_within _ _ _ _ _ _ q.fits.1 q.fair _ _ t.0 t.2;
+      };
       before = (l.0.near, told_room _ _ _ _ _ _ q.fits.1 q.fair _ _ _ _ _ _ _ _ (omega arith) (omega arith) l.0 c.part_seg-s.ensures);
     }
 

@@ -6,7 +6,7 @@ use Rattle.emit.proofs.Conflict.{turned_read}
 use Rattle.emit.proofs.emit_turned.Goals as goal
 
 pub loop-i-init : goal.loop-i-init
-loop-i-init c = (uses_start _ _ _ _ _ _ _ _ c.requires.room.2, refl)
+loop-i-init c = (uses_start _ _ _ _ _ _ _ _ c.requires.near, refl)
 
 pub word_at-n-requires : goal.word_at-n-requires
 word_at-n-requires c = omega (arith, c.requires.uses.0.within)
@@ -23,7 +23,9 @@ loop-i-preserved c = let l = c.loop-i.invariant in
     let m = c.emit_use-s in
     let e = m.ensures in
     let x = turned_read _ _ _ _ _ _ _ c.word_at-n.ensures c.words_at-x.ensures in (
-      uses_next _ _ _ _ _ _ _ _ _ _ _ _ _ _ _ l.0 (omega arith) (omega (arith, length_words c.loop-i.out, l.1, c.requires.room.0)) (omega (arith, c.requires.room.1)) (omega (arith, c.use_base.ensures)) x e.0 e.1 (e.2 _ x (c.requires.uses.1 _ (omega arith) c.loop-i-test.true)),
+      uses_next _ _ _ _ _ _ _ _ _ _ _ _ _ _ _ l.0 (omega arith)
+          (omega (arith, length_words c.loop-i.out, l.1, c.requires.room.0)) (omega (arith, c.requires.room.1))
+          (omega (arith, c.use_base.ensures)) x e.0 e.1 (e.2 _ x (c.requires.uses.1 _ (omega arith) c.loop-i-test.true)),
       omega (arith, m.auto.out, l.1),
     )
 

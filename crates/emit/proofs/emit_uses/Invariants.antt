@@ -1,13 +1,12 @@
 use Rattle.std.specs.Prelude.{◌≡◌, ◌+◌, ◌-◌, ◌*◌, length}
 use Rattle.words.specs.Words.{words_of}
 use Rattle.rows.specs.Tab.{tab}
-use Rattle.set_part.specs.Part.{marked_use}
 use Rattle.virt_regs.specs.Encoding.{use_base}
-use Rattle.vreg_weight.specs.InWeighing.{weighed_job}
-use Rattle.emit.specs.Told.{UsesAdd}
+use Rattle.emit.specs.InWalk.{tables_in, use_in, UsesAdd}
 use Rattle.emit.proofs.emit_uses.Given as goal
 
 abbrev pub invariant-loop-i : goal.invariant-loop-i
 invariant-loop-i l =
-    UsesAdd (weighed_job l.by) l.by.fr.now.ol l.u l.remat (tab (marked_use (words_of l.by.work.now) l.by.fr.now.wl.marks (words_of l.by.fr.now.job.bytes.now) l.by.fr.now.job.lay) l.a (l.i - l.a)) (words_of l.initial.out) l.fn.costs (words_of l.out) l.s
-    × (length l.out ≡ length l.initial.out) × (l.row ≡ l.by.fr.now.job.lay.uses.at + l.i * 6) × (l.to ≡ use_base l.by.fr.now.ol + (l.u + (l.i - l.a)) * 6)
+    UsesAdd l.by l.u l.remat (tab (use_in l.by) l.a (l.i - l.a)) (words_of l.initial.out) l.fn.costs (words_of l.out) l.s
+    × (length l.out ≡ length l.initial.out) × (l.row ≡ l.by.fr.now.job.lay.uses.at + l.i * 6)
+    × (l.to ≡ use_base (tables_in l.by) + (l.u + (l.i - l.a)) * 6)

@@ -54,7 +54,6 @@ emit_conflict-told-requires-clause-fits c = let k = c.requires.1 in
       weighable_kept _ _ _ _ _ _ _ c.requires.0 (ready_then _ _ _ _ _ _ e.outside k.apart k.ready) (omega (arith, c.map_new-free)),
       rows_ok _ _ _ _ e.outside k.apart _ _ _ _ (omega (arith, c.map_new-free)) k.rows,
       omega (arith, c.make_room-at, k.long),
-      c.no_block.ensures _,
     )
 
 pub emit_conflict-told-requires-clause-room : goal.emit_conflict-told-requires-clause-room
@@ -72,6 +71,9 @@ pub emit_conflict-told-requires-clause-fair : goal.emit_conflict-told-requires-c
 emit_conflict-told-requires-clause-fair c = let k = c.requires.1 in
     let x = c.args.x in
     fair_then _ _ _ _ _ _ _ x.value x.pos x.param (c.map_new-free.ensures x.value x.pos x.param).outside k.apart _ (asks_fair k x.value x.param)
+
+pub emit_conflict-told-requires-clause-near : goal.emit_conflict-told-requires-clause-near
+emit_conflict-told-requires-clause-near c = c.no_block.ensures _
 
 pub weigh-w-requires-clause-tables : goal.weigh-w-requires-clause-tables
 weigh-w-requires-clause-tables c = let k = c.requires.1 in

@@ -38,7 +38,7 @@ make_room-at-requires c = let a = c.requires in
 pub emit_part-told-requires-clause-fits : goal.emit_part-told-requires-clause-fits
 emit_part-told-requires-clause-fits c = let a = c.requires in
     let r = ready_then _ _ _ _ _ _ c.map_new-free.ensures.outside a.apart a.ready in
-    (weighable _ _ _ _ r a.book, a.part, r.marks, omega (arith, a.long, c.make_room-at), c.no_block.ensures _)
+    (weighable _ _ _ _ r a.book, a.part, r.marks, omega (arith, a.long, c.make_room-at))
 
 pub emit_part-told-requires-clause-room : goal.emit_part-told-requires-clause-room
 emit_part-told-requires-clause-room c = let a = c.requires in
@@ -51,6 +51,9 @@ emit_part-told-requires-clause-room c = let a = c.requires in
 pub emit_part-told-requires-clause-fair : goal.emit_part-told-requires-clause-fair
 emit_part-told-requires-clause-fair c = let a = c.requires in
     fair_then _ _ _ _ _ _ _ c.map_new-free.ensures.outside a.apart a.fair
+
+pub emit_part-told-requires-clause-near : goal.emit_part-told-requires-clause-near
+emit_part-told-requires-clause-near c = c.no_block.ensures _
 
 pub weigh-w-requires-clause-tables : goal.weigh-w-requires-clause-tables
 weigh-w-requires-clause-tables c = let a = c.requires in
