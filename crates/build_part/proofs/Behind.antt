@@ -31,7 +31,7 @@ use Rattle.virt_regs.specs.Encoding.{room_of}
 use Rattle.build_state.specs.Fits.{StandsAs}
 
 -- changes within a part of the part
-changed_on : (lay : Layout) (wl : WorkLayout) (sp sp₁ : SetPart) (n n₁ : ℕ) (K K₁ K₂ : List ℕ) → sp.first ≤ sp₁.first → sp₁.end ≡ sp.end → n ≤ n₁ → Changed lay wl sp n K K₁ → Changed lay wl sp₁ n₁ K₁ K₂
+pub changed_on : (lay : Layout) (wl : WorkLayout) (sp sp₁ : SetPart) (n n₁ : ℕ) (K K₁ K₂ : List ℕ) → sp.first ≤ sp₁.first → sp₁.end ≡ sp.end → n ≤ n₁ → Changed lay wl sp n K K₁ → Changed lay wl sp₁ n₁ K₁ K₂
     → Changed lay wl sp n K K₂
 changed_on lay wl sp sp₁ n n₁ K K₁ K₂ f e m a b = record {
   long = b.long ∙ a.long;

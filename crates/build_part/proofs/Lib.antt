@@ -3,3 +3,4 @@ pub mod Turns
 pub mod Cuts
 pub mod Ways
 pub mod Behind
+pub mod Turned

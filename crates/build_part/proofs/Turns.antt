@@ -55,22 +55,22 @@ module _ {t w n : ℕ} {W K : List ℕ} {lay : Layout} {wl : WorkLayout} {sp : S
   picked : ClassAt (uses_of (part_segs K wl.marks W lay sp)) i
   picked = move_turn J st top (uses_of ss) i m
 
-  few : n < lay.uses.n
+  pub few : n < lay.uses.n
   few = turn_room t w W K lay wl sp n i l picked
 
-  room : TurnRoom (length K) lay wl
+  pub room : TurnRoom (length K) lay wl
   room = subst (λ (x : ℕ). TurnRoom x lay wl) ew l.turns
 
-  inside : sp.first + i < sp.end
+  pub inside : sp.first + i < sp.end
   inside = turn_inside K W lay wl sp n i l.mapping room l.ok few picked
 
-  number : (turned_row K wl.marks W lay sp i).number < lay.uses.n
+  pub number : (turned_row K wl.marks W lay sp i).number < lay.uses.n
   number = turn_number K W lay wl sp n i l.mapping room l.ok few picked
 
   pub turn_asked : PartOk W lay sp × TurnRoom w lay wl × (sp.first + i < sp.end) × (n < lay.uses.n)
   turn_asked = (l.ok, l.turns, inside, few)
 
-  once : (c : Counts) → Stepped t w W K (turned_once K wl n (turned_row K wl.marks W lay sp i)) lay wl sp n (Ok (On sp c (n + 1)))
+  pub once : (c : Counts) → Stepped t w W K (turned_once K wl n (turned_row K wl.marks W lay sp i)) lay wl sp n (Ok (On sp c (n + 1)))
   unfolding OnwardBy
   once c =
       let on : Laid t w W K₁ lay wl sp (n + 1) = laid_turn t w W K lay wl sp n i ew l few picked in
@@ -88,7 +88,7 @@ module _ {t w n : ℕ} {W K : List ℕ} {lay : Layout} {wl : WorkLayout} {sp : S
       subst (λ (y : Result Step NotPlaced). Stepped t w W K K' lay wl sp n y) (sym ex)
       (subst (λ (k : List ℕ). Stepped t w W K k lay wl sp n (Ok (On sp c (n + 1)))) (sym e) (once c))
 
-  same : (ol : OutLayout) (vs : ValueSet)
+  pub same : (ol : OutLayout) (vs : ValueSet)
       → run (job_of W lay) (room_of ol) vs top st (part_segs K wl.marks W lay sp) (turned_rows_of K wl.turned W lay 0 n)
       ≡ run (job_of W lay) (room_of ol) vs top st (part_segs (turned_once K wl n (turned_row K wl.marks W lay sp i)) wl.marks W lay sp) (turned_rows_of (turned_once K wl n (turned_row K wl.marks W lay sp i)) wl.turned W lay 0 (n + 1))
   same ol vs =

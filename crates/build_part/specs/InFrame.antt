@@ -15,6 +15,7 @@ use Rattle.definition.specs.Admit.{Move}
 use Rattle.build_part.specs.declared.Step.{Step}
 use Rattle.build_part.specs.declared.StepsEnd.{StepsEnd}
 use Rattle.build_part.specs.Steps as steps
+use Rattle.build_part.specs.Turning as turning
 
 -- what a step asks
 abbrev pub StepReady : Frame → List ℕ → List ℕ → SetPart → Counts → ℕ → Type 0
@@ -23,6 +24,10 @@ StepReady fr work out = steps.StepReady (word_count fr.job.bytes.now) (word_coun
 -- what the scans lead to
 abbrev pub Moves : Frame → List ℕ → List ℕ → RegClass → SetPart → Move → Type 0
 Moves fr work out = steps.Moves (words_in fr.job) (words_of work) (words_of out) fr.job.lay fr.ol fr.wl
+
+-- what turning uses of a part leaves
+abbrev pub Turning : Frame → List ℕ → List ℕ → List ℕ → RegClass → SetPart → ℕ → ℕ → Type 0
+Turning fr work work' out = turning.Turning (word_count fr.job.bytes.now) (word_count work) (words_in fr.job) (words_of work) (words_of work') (words_of out) fr.job.lay fr.ol fr.wl
 
 -- what a step does to the work slice
 abbrev pub Stepped : Frame → List ℕ → List ℕ → SetPart → ℕ → Result Step NotPlaced → Type 0

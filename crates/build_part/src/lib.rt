@@ -1,7 +1,7 @@
 // The steps over the working part of a set (builder.rs `compute_constraints`): uses are turned, cuts are made and the parts before them placed, until all is placed or there is a stop.
 #![tactic(auto)]
 
-ghost use Rattle.std.specs.Prelude.{IfOk, ◌+◌};
+ghost use Rattle.std.specs.Prelude.{◌≡◌, ℕ, ◌+◌, IfOk};
 ghost use Rattle.words.specs.Words.{words_of};
 ghost use Rattle.layout.specs.JobWords.{words_in};
 ghost use Rattle.definition.specs.Types.{State};
@@ -11,18 +11,22 @@ ghost use Rattle.job.specs.Job.{job_in};
 ghost use Rattle.virt_regs.specs.Encoding.{room_of};
 ghost use Rattle.steps.specs.Built.{Changed};
 ghost use Rattle.build_part.specs.Steps.{BuildsTo, StepTo};
+ghost use Rattle.scans.specs.Answers.{move_of};
+ghost use Rattle.build_part.specs.Turning.{settled_of, settles};
 ghost use Rattle.frame.specs.InFrame.{part_segs};
 ghost use Rattle.conflict_piece.specs.InFrame.{turned_rows_of, RowsOk};
 ghost use Rattle.build_state.specs.InFrame.{StandsAs, Builds};
 ghost use Rattle.steps.specs.InFrame.{Laid};
-ghost use Rattle.build_part.specs.InFrame.{StepReady, Moves, Stepped, BuiltFit};
+ghost use Rattle.constraints.specs.InFrame.{Stands};
+ghost use Rattle.build_part.specs.InFrame.{StepReady, Moves, Turning, Stepped, BuiltFit};
 
-use definition::{Inst, RegClass, ValueSet};
+use constraints::Held;
+use definition::{Inst, RegClass, Stop, ValueSet};
 use frame::Frame;
 use layout::Job;
 use place_end::NotPlaced;
 use place_part::place_part;
-use scans::{Move, next_move};
+use scans::Move;
 use set_part::SetPart;
 use steps::{cut_front, turn_one};
 use virt_regs::Counts;
@@ -31,6 +35,21 @@ use virt_regs::Counts;
 #[derive(Clone, Copy)]
 pub struct StepsEnd {
     pub counts: Counts,
+    pub turned: usize,
+}
+
+// The step that is to be made where no use is turned: all is placed, with what is held; a cut is made; or a stop.
+#[derive(Clone, Copy)]
+pub enum Settled {
+    Whole(Held),
+    Cut(Inst),
+    Halt(Stop),
+}
+
+// Uses of a part are turned, `turned` in all then, and this is the step behind them.
+#[derive(Clone, Copy)]
+pub struct TurnsEnd {
+    pub step: Settled,
     pub turned: usize,
 }
 
@@ -43,6 +62,54 @@ pub enum Step {
         turned: usize,
     },
     Over(StepsEnd),
+}
+
+// A step that turns no use; else the use to be turned.
+fn settle(step: Move) -> Result<Settled, usize>
+    ensures { (a : ℕ) → move_of a step ≡ settles a result }
+{
+    match step {
+        Move::Whole(held) => Ok(Settled::Whole(held)),
+        Move::Turn(k) => Err(k),
+        Move::Cut(p) => Ok(Settled::Cut(p)),
+        Move::Halt(s) => Ok(Settled::Halt(s)),
+    }
+}
+
+// Uses of a part are turned for as long as the scans lead to that. Behind a turned end the scan goes on with what is held,
+// since a turned use is admitted and changes nothing; a turned start lies before, so that all is scanned again.
+fn turn_uses(
+    fr: &Frame,
+    out: &[u8],
+    work: &mut [u8],
+    top: RegClass,
+    sp: SetPart,
+    n: usize,
+) -> TurnsEnd
+    requires { Laid fr.now work.old sp n × Builds fr.now out.now × ((st : State) × Stands fr.now out.now work.old st) }
+    ensures turning { Turning fr.now work.old work.new out.now top sp n result.turned }
+    ensures moves { Moves fr.now work.new out.now top sp (settled_of result.step) }
+{
+    let first = sp.first;
+    let mut held = scans::fresh_held(top);
+    let mut at = first;
+    let mut turned = n;
+    loop {
+        let m = scans::move_from(fr, out, work, top, first, sp.end, held, at);
+        let k = match settle(m.step) {
+            Ok(last) => return TurnsEnd { step: last, turned },
+            Err(k) => k,
+        };
+        turn_one(fr, work, sp, k.saturating_sub(first), turned);
+        turned += 1;
+        if k == m.end {
+            held = m.held;
+            at = k + 1;
+        } else {
+            held = scans::fresh_held(top);
+            at = first;
+        }
+    }
 }
 
 // A part is cut at p, and the part before the cut is placed.
@@ -76,7 +143,7 @@ fn step_cut(
     Ok(step)
 }
 
-// The step that the scans over a part lead to. Not inlined, so that a level of the recursion below takes little stack.
+// The uses to be turned, and the step behind them. Not inlined, so that a level of the recursion below takes little stack.
 #[inline(never)]
 fn one_step(
     fr: &Frame,
@@ -94,22 +161,15 @@ fn one_step(
         → StepTo (words_in fr.now.job) fr.now.job.lay fr.now.ol fr.now.wl set top (words_of out.new) (words_of work.new) result
         (run (job_in fr.now.job) (room_of fr.now.ol) set top st (part_segs fr.now work.old sp) (turned_rows_of fr.now work.old 0 n)) }
 {
-    match next_move(fr, out, work, top, sp.first, sp.end) {
-        Move::Whole(held) => {
+    let t = turn_uses(fr, out, work, top, sp, n);
+    let turned = t.turned;
+    match t.step {
+        Settled::Whole(held) => {
             let counts = place_part(fr, out, work, sp, set, held, c)?;
-            Ok(Step::Over(StepsEnd { counts, turned: n }))
+            Ok(Step::Over(StepsEnd { counts, turned }))
         }
-        Move::Turn(k) => {
-            let i = k.saturating_sub(sp.first);
-            turn_one(fr, work, sp, i, n);
-            Ok(Step::On {
-                part: sp,
-                counts: c,
-                turned: n + 1,
-            })
-        }
-        Move::Cut(p) => step_cut(fr, out, work, set, top, sp, p, c, n),
-        Move::Halt(s) => Err(NotPlaced::Stopped(s)),
+        Settled::Cut(p) => step_cut(fr, out, work, set, top, sp, p, c, turned),
+        Settled::Halt(s) => Err(NotPlaced::Stopped(s)),
     }
 }
 

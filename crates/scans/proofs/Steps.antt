@@ -127,6 +127,12 @@ pub back_is : (job : Job) (st : State) (f : ℕ → Use) (a b e : ℕ) (h : type
     → Ends job st (down (λ j. f (a + j)) (e + 1 - a)) h s g → Ends job st (back_from (e - a) (tab f a (b - a))) h s g
 back_is job st f a b e h s g l m q = subst (λ (us : List Use). Ends job st us h s g) (backs f a b e l m) q
 
+-- the same, where the scan begins with what is held before any use
+pub back_fresh : (job : Job) (st : State) (f : ℕ → Use) (a b e : ℕ) (top : RegClass) (s : Scan) (g : Held) (h : types.Held) → h ≡ fresh top → a ≤ e → e < b
+    → Ends job st (down (λ j. f (a + j)) (e + 1 - a)) h s g → Ends job st (back_from (e - a) (tab f a (b - a))) (fresh top) s g
+back_fresh job st f a b e top s g h eh l m q =
+    subst (λ (x : types.Held). Ends job st (back_from (e - a) (tab f a (b - a))) x s g) eh (back_is job st f a b e h s g l m q)
+
 module _ (job : Job) (st : State) (top : RegClass) (us : List Use) (h : types.Held) (fr : h ≡ fresh top) (a : ℕ)
     (r : ScanAnswer) (er : Ends job st us h (scan_of a r) r.held) where
   forth : move job st top us ≡ from_end job st top us (scan_of a r)

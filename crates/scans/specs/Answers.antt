@@ -3,7 +3,9 @@ use Rattle.std.specs.Prelude.{ℕ, ◌+◌, ◌-◌, ◌≡◌, List, Option, So
 use Rattle.definition.specs.declared.Use.{Use}
 use Rattle.definition.specs.Types.{Job, State}
 use Rattle.definition.specs.Types as types
-use Rattle.definition.specs.Admit.{Scan, through, fails_at, scan, held_by, Move, whole, turn, cut, halt}
+use Rattle.definition.specs.Admit.{Scan, through, fails_at, scan, held_by, fresh, Move, whole, turn, cut, halt}
+use Rattle.rows.specs.Tab.{tab}
+use Rattle.definition.specs.declared.RegClass.{RegClass}
 use Rattle.constraints.specs.declared.Held.{Held}
 use Rattle.constraints.specs.Held.{held_of}
 use Rattle.scans.specs.declared.ScanAnswer.{ScanAnswer}
@@ -26,6 +28,10 @@ back_of e r = ended r.failed (held_of r.held) (λ n. e - n)
 -- the scan over uses, from h on, ends as s, and g is then held
 abbrev pub Ends : Job → State → List Use → types.Held → Scan → Held → Type 0
 Ends job st us h s g = (s ≡ scan job st us h) × (held_of g ≡ held_by job st us h)
+
+-- the uses f from number a on, of those below `at`, were passed from the top class, and h is held
+abbrev pub Passed : Job → State → (ℕ → Use) → RegClass → (a at : ℕ) → Held → Type 0
+Passed job st f top a at h = scan job st (tab f a (at - a)) (fresh top) ≡ through (held_of h)
 
 -- the scan of what is left behind k uses
 unfoldable pub shifted : ℕ → Scan → Scan

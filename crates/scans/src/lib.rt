@@ -17,7 +17,7 @@ ghost use Rattle.function.specs.Blocks.{blocks_at};
 ghost use Rattle.job.specs.Job.{job_in};
 ghost use Rattle.virt_regs.specs.Encoding.{tables_end};
 ghost use Rattle.constraints.specs.Held.{held_of, admission_of};
-ghost use Rattle.scans.specs.Answers.{scan_of, back_of, Ends, move_of};
+ghost use Rattle.scans.specs.Answers.{scan_of, back_of, Ends, Passed, move_of};
 ghost use Rattle.frame.specs.InFrame.{marked_use};
 ghost use Rattle.constraints.specs.InFrame.{Ready, Stands};
 
@@ -42,6 +42,14 @@ pub enum Move {
     Turn(usize),
     Cut(Inst),
     Halt(Stop),
+}
+
+// The step that the scans lead to; and what the forward scan held where it ended, with that use's number.
+#[derive(Clone, Copy)]
+pub struct NextMove {
+    pub step: Move,
+    pub held: Held,
+    pub end: usize,
 }
 
 // Use n of the job; a conflict if it is marked.
@@ -75,7 +83,7 @@ fn admit_at(fr: &Frame, out: &[u8], work: &[u8], held: Held, n: usize) -> Option
     constraints::admit(fr, out, work, held, u)
 }
 
-// The scan over the uses with numbers a to b - 1.
+// The scan over the uses with numbers a to b - 1: class uses are walked over, and each group use between is admitted.
 // a and b are two numbers and no Range, here and wherever they go: `for` takes them as a..b, and a Range is not Copy.
 pub fn scan_uses(fr: &Frame, out: &[u8], work: &[u8], first: Held, a: usize, b: usize) -> ScanAnswer
     requires { Ready fr.now work.now × (tables_end fr.now.ol ≤ word_count out.now) × (a ≤ b) × (b ≤ fr.now.job.lay.uses.n) × (0 < fr.now.job.lay.segments.n) }
@@ -87,19 +95,36 @@ pub fn scan_uses(fr: &Frame, out: &[u8], work: &[u8], first: Held, a: usize, b: 
         (held_of first) (scan_of a result) result.held }
 {
     let mut held = first;
-    for n in a..b {
-        let Some(next) = admit_at(fr, out, work, held, n) else {
+    let mut n = a;
+    while n < b {
+        let w = class_walk::walk_uses(fr, work, held.class, n, b);
+        held = Held {
+            class: w.class,
+            ..held
+        };
+        if w.refused {
             return ScanAnswer {
-                failed: Some(n),
+                failed: Some(w.at),
+                held,
+            };
+        }
+        if b <= w.at {
+            return ScanAnswer { failed: None, held };
+        }
+        let behind = w.at + 1;
+        let Some(next) = admit_at(fr, out, work, held, w.at) else {
+            return ScanAnswer {
+                failed: Some(w.at),
                 held,
             };
         };
         held = next;
+        n = behind;
     }
     ScanAnswer { failed: None, held }
 }
 
-// The scan over the uses from number e back to number a.
+// The scan over the uses from number e back to number a, by the same two ways.
 pub fn scan_back(fr: &Frame, out: &[u8], work: &[u8], first: Held, a: usize, e: usize) -> ScanAnswer
     requires { Ready fr.now work.now × (tables_end fr.now.ol ≤ word_count out.now) × (a ≤ e) × (e < fr.now.job.lay.uses.n) × (0 < fr.now.job.lay.segments.n) }
     ensures within { IfSome result.failed (λ n. (a ≤ n) × (n ≤ e)) }
@@ -110,14 +135,31 @@ pub fn scan_back(fr: &Frame, out: &[u8], work: &[u8], first: Held, a: usize, e: 
         (e + 1 - a)) (held_of first) (back_of e result) result.held }
 {
     let mut held = first;
-    for n in (a..e + 1).rev() {
-        let Some(next) = admit_at(fr, out, work, held, n) else {
+    let mut n = e + 1;
+    while a < n {
+        let w = class_walk::walk_back(fr, work, held.class, a, n);
+        held = Held {
+            class: w.class,
+            ..held
+        };
+        if w.at <= a {
+            return ScanAnswer { failed: None, held };
+        }
+        let m = w.at - 1;
+        if w.refused {
             return ScanAnswer {
-                failed: Some(n),
+                failed: Some(m),
+                held,
+            };
+        }
+        let Some(next) = admit_at(fr, out, work, held, m) else {
+            return ScanAnswer {
+                failed: Some(m),
                 held,
             };
         };
         held = next;
+        n = m;
     }
     ScanAnswer { failed: None, held }
 }
@@ -206,23 +248,50 @@ fn part_at(fr: &Frame, work: &[u8], side: Side, s: usize, e: usize) -> Move
     Move::Cut(cut_at(fr, work, side, x.pos, y.pos))
 }
 
-// The step that the scans over the uses with numbers a to b - 1 lead to, from the top class. A cut is of the side of
-// the classes that the scans held when they failed.
-pub fn next_move(fr: &Frame, out: &[u8], work: &[u8], top: RegClass, a: usize, b: usize) -> Move
+// The step that the scans over the uses with numbers a to b - 1 lead to, from the top class, where `held` is what the uses
+// below number `at` hold: the forward scan goes on from there. A cut is of the side of the classes that the scans held
+// when they failed.
+pub fn move_from(
+    fr: &Frame,
+    out: &[u8],
+    work: &[u8],
+    top: RegClass,
+    a: usize,
+    b: usize,
+    held: Held,
+    at: usize,
+) -> NextMove
     requires { Ready fr.now work.now
-        × (tables_end fr.now.ol ≤ word_count out.now) × (a ≤ b) × (b ≤ fr.now.job.lay.uses.n) × (0 < fr.now.job.lay.segments.n)
-        × SmallBook (words_in fr.now.job) fr.now.job.lay }
-    ensures { (st : State) → Stands fr.now out.now work.now st → move_of a result ≡ move (job_in fr.now.job) st top (tab (marked_use fr.now work.now) a (b - a)) }
+        × (tables_end fr.now.ol ≤ word_count out.now) × (a ≤ at) × (at ≤ b) × (b ≤ fr.now.job.lay.uses.n)
+        × (0 < fr.now.job.lay.segments.n) × SmallBook (words_in fr.now.job) fr.now.job.lay }
+    ensures within { (at ≤ result.end) × (result.end ≤ b) }
+    ensures moves { (st : State) → Stands fr.now out.now work.now st
+        → Passed (job_in fr.now.job) st (marked_use fr.now work.now) top a at held
+        → (move_of a result.step ≡ move (job_in fr.now.job) st top (tab (marked_use fr.now work.now) a (b - a)))
+        × Passed (job_in fr.now.job) st (marked_use fr.now work.now) top a result.end result.held }
 {
-    let first = fresh_held(top);
-    let r = scan_uses(fr, out, work, first, a, b);
+    let r = scan_uses(fr, out, work, held, at, b);
+    let passed = r.held;
     let Some(e) = r.failed else {
-        return Move::Whole(r.held);
+        return NextMove {
+            step: Move::Whole(passed),
+            held: passed,
+            end: b,
+        };
     };
+    let first = fresh_held(top);
     let back = scan_back(fr, out, work, first, a, e);
     let Some(s) = back.failed else {
-        return Move::Halt(Stop::NoStart);
+        return NextMove {
+            step: Move::Halt(Stop::NoStart),
+            held: passed,
+            end: e,
+        };
     };
     let side = cut_side(&fr.job, r.held.class, back.held.class);
-    part_at(fr, work, side, s, e)
+    NextMove {
+        step: part_at(fr, work, side, s, e),
+        held: passed,
+        end: e,
+    }
 }

@@ -1,3 +1,4 @@
+use Prim.Native.Nat.{◌-◌}
 use Rattle.words.specs.Words.{words_of}
 use Rattle.job.specs.Job.{job_of}
 use Rattle.constraints.specs.Ready.{Stands}
@@ -7,3 +8,6 @@ use Rattle.scans.proofs.scan_uses.Given as goal
 
 abbrev pub invariant-loop-n : goal.invariant-loop-n
 invariant-loop-n l = Forward (λ st. Stands l.fr.ol (words_of l.out) (words_of l.fr.job.bytes.now) (words_of l.work) l.fr.job.lay l.fr.wl st) (job_of (words_of l.fr.job.bytes.now) l.fr.job.lay) (marked_use (words_of l.work) l.fr.wl.marks (words_of l.fr.job.bytes.now) l.fr.job.lay) l.fn.a l.fn.b l.initial.held l.n l.held
+
+abbrev pub decreases-loop-n : goal.decreases-loop-n
+decreases-loop-n l = l.fn.b - l.n

@@ -1,0 +1,4 @@
+pub mod Lists
+pub mod Asking
+pub mod Admitting
+pub mod Walking
