@@ -12,6 +12,7 @@ use Rattle.std.specs.Prelude.{Ok, Err}
 use Rattle.definition.specs.Text.{digit_of}
 use Rattle.streams.specs.declared.Stream.{Stream}
 use Rattle.streams.specs.Tape.{is_tape, at_of, AllPlayed, Filled}
+use Rattle.streams.specs.Calls.{passed_on}
 use Rattle.streams.proofs.Steps.{never}
 use Rattle.frames.specs.declared.Frame.{Frame}
 use Rattle.frames.specs.declared.NoFrame.TheVariants.{Other}
@@ -81,7 +82,12 @@ module _ (tape given : List ℕ) (s : Stream) (n : ℕ) (t : Stream) (H : List �
             bound = q.bound;
             room = tt;
             whole = tt;
-            missing = λ y. record { stopped = λ f. never f; none = λ _. no_head D (sym (head_is b e y) ∙ z); empty = λ _. some_left D (omega (arith, long y)) };
+            missing = λ y. record {
+              stopped = λ f. never f;
+              passed = λ _. (played y).passed refl;
+              none = λ _. no_head D (sym (head_is b e y) ∙ z);
+              empty = λ _. some_left D (omega (arith, long y));
+            };
           }
 
       pub head_some : (b : Bool) → b ≡ (eqb (get_or H 8 0) 9 && eqb (get_or H 17 0) 10 && leb k 262144 && leb m 524288) → b ≡ true → HeadRead tape given s (Ok (record { sheet = k; answer = m })) t
@@ -97,6 +103,7 @@ module _ (tape given : List ℕ) (s : Stream) (n : ℕ) (t : Stream) (H : List �
               sheet = ek ∙ number_is y 0 (omega arith);
               answer = em ∙ number_is y 9 (omega arith);
               at = omega (arith, (played y).at, eighteen);
+              passed = (played y).passed refl;
               onward = (played y).onward (omega (arith, l)) refl;
             };
             missing = tt;
@@ -115,7 +122,7 @@ module _ (tape given : List ℕ) (s : Stream) (n : ℕ) (t : Stream) (H : List �
 -- ---- the parts
 
 module _ (tape given : List ℕ) (s : Stream) (f : Frame) (u : Stream) (q : HeadRead tape given s (Ok f) u) where
-  headed : is_tape s ≡ true → Headed (drop (at_of s) given) s f u
+  headed : is_tape s ≡ true → Headed tape (drop (at_of s) given) s f u
   headed y = q.whole y
 
   module _ (n : ℕ) (v : Stream) (X : List ℕ) (lx : length X ≡ f.sheet) (p : Filled tape given u (Ok n) v X) where
@@ -146,7 +153,7 @@ module _ (tape given : List ℕ) (s : Stream) (f : Frame) (u : Stream) (q : Head
             sheet = full f.sheet X SR lx;
             answer = full f.answer Y AR ly;
             whole = λ y.
-                let hd : Headed (drop (at_of s) given) s f u = headed y in
+                let hd : Headed tape (drop (at_of s) given) s f u = headed y in
                 record {
                   frame = ap (λ (c : Bool). c && leb (frame_size (drop (at_of s) given)) (length (drop (at_of s) given))) hd.head ∙ le-leb (frame_size (drop (at_of s) given)) (length (drop (at_of s) given)) (omega (arith, end y, r.bound, length-drop (at_of s) given, hd.sheet, hd.answer));
                   sheet = filled_with f.sheet 18 n X SR u lx all_sheet (sheet_played y).bytes hd.at ∙ ap (λ (j : ℕ). take j (drop 18 (drop (at_of s) given))) hd.sheet;
@@ -154,7 +161,14 @@ module _ (tape given : List ℕ) (s : Stream) (f : Frame) (u : Stream) (q : Head
                       filled_with f.answer (18 + sheet_size (drop (at_of s) given)) m Y AR v ly all_answer (answer_played y).bytes (omega (arith, (sheet_played y).at, hd.at, all_sheet, hd.sheet))
                       ∙ ap (λ (j : ℕ). take j (drop (18 + sheet_size (drop (at_of s) given)) (drop (at_of s) given))) hd.answer;
                   at = omega (arith, end y, hd.sheet, hd.answer);
-                  onward = omega (arith, hd.onward, (sheet_played y).call refl, (answer_played y).call refl);
+                  passed = passed_on tape s u t hd.passed
+                      (passed_on tape u v t ((sheet_played y).passed refl) ((answer_played y).passed refl));
+                  onward = omega (
+                    arith,
+                    hd.onward,
+                    ((sheet_played y).passed refl).onward,
+                    ((answer_played y).passed refl).onward,
+                  );
                 };
             missing = tt;
           }

@@ -24,7 +24,7 @@ told reads given input next n m cur T Y v e f l t h =
     let s : Streamed (open_form table_words 1536) (formed cur (words_of T) Y) =
     streamed_in n m (formed cur (words_of T) Y) e f t.streamed in
     record {
-      whole = λ y. (t.on_tape y).whole refl;
+      whole = λ y. ((t.on_tape y).whole refl, (t.on_tape y).passed refl);
       shows = λ z.
           let b : Begins s.bytes (words_of T) = (h s.bytes (leads cur (words_of T) Y s)).begins z in
           record { long = l; job = job_of_records b.records; records = b.records; left = b.left };

@@ -16,7 +16,9 @@ use Rattle.streams.specs.declared.Stream.{Stream}
 use Rattle.streams.specs.declared.Cut.{Cut}
 use Rattle.streams.specs.declared.Broken.{Broken}
 use Rattle.streams.specs.declared.Broken.TheVariants.{Input, Output}
-use Rattle.streams.specs.Tape.{is_tape, call_of, at_of, AllMarked, WroteAll, written as moved, in_broken, out_broken}
+use Rattle.streams.specs.Tape.{is_tape, call_of, at_of, Passed, AllMarked, WroteAll}
+use Rattle.streams.specs.Tape.{written as moved, in_broken, out_broken}
+use Rattle.streams.specs.Calls.{passed_none, passed_on, stopped_on, stopped_end}
 use Rattle.streams.specs.Ends.{or_broken}
 use Rattle.streams.proofs.Steps.{never}
 use Rattle.frames.specs.declared.Frame.{Frame}
@@ -39,11 +41,12 @@ found_some tape given s f t S A b q i =
       taped = q.taped;
       bound = q.bound;
       whole = λ y.
-          let w : Framed (drop (at_of s) given) s f t S A = q.whole y in
+          let w : Framed tape (drop (at_of s) given) s f t S A = q.whole y in
           record {
             frame = w.frame;
             is = i ∙ ap (λ (l : List ℕ). same l (vregs_of (take f.sheet S))) w.answer ∙ ap (λ (l : List ℕ). same (frame_answer (drop (at_of s) given)) (vregs_of l)) w.sheet;
             at = w.at;
+            passed = w.passed;
             onward = w.onward;
           };
       missing = tt;
@@ -75,23 +78,29 @@ missed_one false = omega arith
 
 -- ---- between two turns
 
-pub record Kept (given : List ℕ) (input : Stream) (paper : List ℕ) (output at to : Stream) (answers differ turn : ℕ) (P : List ℕ) : Type 0 where
+pub record Kept (reads given : List ℕ) (input : Stream) (writes paper : List ℕ) (output at to : Stream)
+    (answers differ turn : ℕ) (P : List ℕ) : Type 0 where
   pub fuel : ℕ
   pub enough : length (drop (at_of at) given) ≤ fuel
   pub text : take (at_of to) P ++ report_from fuel answers differ (drop (at_of at) given) ≡ take (at_of output) paper ++ report (drop (at_of input) given)
+  pub read : Passed reads input at
+  pub written : Passed writes output to
   pub made : turn ≤ call_of at
 
-pub record Replaying (given : List ℕ) (input : Stream) (paper : List ℕ) (output at to : Stream) (answers differ turn : ℕ) (P : List ℕ) : Type 0 where
+pub record Replaying (reads given : List ℕ) (input : Stream) (writes paper : List ℕ) (output at to : Stream)
+    (answers differ turn : ℕ) (P : List ℕ) : Type 0 where
   pub in_taped : is_tape at ≡ is_tape input
   pub out_taped : is_tape to ≡ is_tape output
   pub in_bound : at_of at ≤ length given
   pub out_bound : at_of to ≤ length P
   pub few : answers ≤ turn
   pub less : differ ≤ answers
-  pub kept : is_tape input ≡ true → is_tape output ≡ true → Kept given input paper output at to answers differ turn P
+  pub kept : is_tape input ≡ true → is_tape output ≡ true → Kept reads given input writes paper output at to answers differ turn P
 
-pub replaying_start : (given : List ℕ) (input : Stream) (paper : List ℕ) (output : Stream) → at_of input ≤ length given → at_of output ≤ length paper → Replaying given input paper output input output 0 0 0 paper
-replaying_start given input paper output h g =
+pub replaying_start : (reads given : List ℕ) (input : Stream) (writes paper : List ℕ) (output : Stream)
+    → at_of input ≤ length given → at_of output ≤ length paper
+    → Replaying reads given input writes paper output input output 0 0 0 paper
+replaying_start reads given input writes paper output h g =
     record {
       in_taped = refl;
       out_taped = refl;
@@ -99,7 +108,14 @@ replaying_start given input paper output h g =
       out_bound = g;
       few = omega arith;
       less = omega arith;
-      kept = λ _ _. record { fuel = length (drop (at_of input) given); enough = omega arith; text = refl; made = omega arith };
+      kept = λ _ _. record {
+        fuel = length (drop (at_of input) given);
+        enough = omega arith;
+        text = refl;
+        read = passed_none reads input;
+        written = passed_none writes output;
+        made = omega arith;
+      };
     }
 
 -- what was written of a text, and what is left of it
@@ -113,24 +129,26 @@ written tape P text to w t Q R m =
 nothing_left : (text : List ℕ) (n : ℕ) → n ≡ length text → drop n text ≡ []
 nothing_left text n e = let h : length text ≤ n = omega (arith, e) in drop_of_length-le text h
 
-module _ (reads given : List ℕ) (input : Stream) (writes paper : List ℕ) (output at to : Stream) (answers differ turn : ℕ) (P : List ℕ) (h : Replaying given input paper output at to answers differ turn P) where
+module _ (reads given : List ℕ) (input : Stream) (writes paper : List ℕ) (output at to : Stream) (answers differ turn : ℕ) (P : List ℕ) (h : Replaying reads given input writes paper output at to answers differ turn P) where
   -- no turn is left
   pub replaying_out : length reads ≤ turn → Ran reads given input at writes paper output (Err Input) to P
   replaying_out z =
       record {
         on_tapes = λ ti tw.
-            let k : Kept given input paper output at to answers differ turn P = h.kept ti tw in
+            let k : Kept reads given input writes paper output at to answers differ turn P = h.kept ti tw in
             record {
               rest = report_from k.fuel answers differ (drop (at_of at) given);
               is = k.text;
               whole = λ y _. never (sym y);
-              unread = λ _. get_or-eq_default reads 0 (omega (arith, k.made, z));
+              unread = λ _. stopped_end reads input at ⊥ k.read (get_or-eq_default reads 0 (omega (arith, k.made, z)));
+              read = λ y. never (sym y);
               unwritten = λ y. never y;
+              written = λ _. k.written;
             };
       }
 
   module _ (e : NoFrame) (next : Stream) (q : AnswerRead reads given at (Err e) next) where
-    missing : is_tape input ≡ true → Missing reads (drop (at_of at) given) e next
+    missing : is_tape input ≡ true → Missing reads (drop (at_of at) given) at e next
     missing t = q.missing (h.in_taped ∙ t)
 
     -- no frame is left: the last line
@@ -143,7 +161,7 @@ module _ (reads given : List ℕ) (input : Stream) (writes paper : List ℕ) (ou
 
       all_but : is_tape input ≡ true → is_tape output ≡ true → take (at_of t) Q ++ drop (moved last w) last ≡ take (at_of output) paper ++ report (drop (at_of input) given)
       all_but ti tw =
-          let k : Kept given input paper output at to answers differ turn P = h.kept ti tw in
+          let k : Kept reads given input writes paper output at to answers differ turn P = h.kept ti tw in
           ap (λ (l : List ℕ). take (at_of t) Q ++ l) (sym (append-nil (drop (moved last w) last))) ∙ written writes P last to w t Q [] (marked tw)
           ∙ ap (λ (l : List ℕ). take (at_of to) P ++ l) (append-nil last ∙ ap (λ (c : Bool). summary c answers differ) (eb ∙ (missing ti).empty z) ∙ sym (report_stop k.fuel answers differ (drop (at_of at) given) ((missing ti).none z)))
           ∙ k.text
@@ -158,21 +176,26 @@ module _ (reads given : List ℕ) (input : Stream) (writes paper : List ℕ) (ou
               is = all_but ti tw;
               whole = λ _ y. nothing_left last (moved last w) (a.whole (unbroken w (eo ∙ y)));
               unread = λ y. never (sym ei ∙ y);
-              unwritten = λ y. (marked tw).stopped (eo ∙ y);
+              read = λ _. passed_on reads input at next (h.kept ti tw).read ((missing ti).passed z);
+              unwritten = λ y.
+                  stopped_on writes output to t (at_of t ≡ length Q) (h.kept ti tw).written
+                  ((marked tw).stopped (eo ∙ y));
+              written = λ y.
+                  passed_on writes output to t (h.kept ti tw).written ((marked tw).passed (unbroken w (eo ∙ y)));
             };
           }
 
   module _ (b : Bool) (next : Stream) (q : AnswerRead reads given at (Ok b) next) (w : Result Unit Cut) (t : Stream) (Q : List ℕ) (a : WroteAll writes P (differs_line b (answers + 1)) to w t Q) where
-    compared : is_tape input ≡ true → Compared (drop (at_of at) given) at b next
+    compared : is_tape input ≡ true → Compared reads (drop (at_of at) given) at b next
     compared y = q.whole (h.in_taped ∙ y)
 
     -- what is left to report, its line first
-    record Onward (k : Kept given input paper output at to answers differ turn P) : Type 0 where
+    record Onward (k : Kept reads given input writes paper output at to answers differ turn P) : Type 0 where
       fuel : ℕ
       enough : length (drop (at_of next) given) ≤ fuel
       is : report_from k.fuel answers differ (drop (at_of at) given) ≡ differs_line b (answers + 1) ++ report_from fuel (answers + 1) (differ + missed b) (drop (at_of next) given)
 
-    onward : (y : is_tape input ≡ true) (k : Kept given input paper output at to answers differ turn P) → Onward k
+    onward : (y : is_tape input ≡ true) (k : Kept reads given input writes paper output at to answers differ turn P) → Onward k
     onward y k = go k.fuel refl
       where
         go : (n : ℕ) → k.fuel ≡ n → Onward k
@@ -197,7 +220,7 @@ module _ (reads given : List ℕ) (input : Stream) (writes paper : List ℕ) (ou
     replaying_unwritten z =
         record {
           on_tapes = λ ti tw.
-              let k : Kept given input paper output at to answers differ turn P = h.kept ti tw in
+              let k : Kept reads given input writes paper output at to answers differ turn P = h.kept ti tw in
               let o : Onward k = onward ti k in
               let m : AllMarked writes P line to w t Q = a.marked (h.out_taped ∙ tw) in
               let R : List ℕ = report_from o.fuel (answers + 1) (differ + missed b) (drop (at_of next) given) in
@@ -206,13 +229,15 @@ module _ (reads given : List ℕ) (input : Stream) (writes paper : List ℕ) (ou
                 is = written writes P line to w t Q R m ∙ ap (λ (l : List ℕ). take (at_of to) P ++ l) (sym o.is) ∙ k.text;
                 whole = λ _ y. never (sym y);
                 unread = λ y. never y;
-                unwritten = λ _. m.stopped z;
+                read = λ _. passed_on reads input at next k.read (compared ti).passed;
+                unwritten = λ _. stopped_on writes output to t (at_of t ≡ length Q) k.written (m.stopped z);
+                written = λ y. never (sym y);
               };
         }
 
-    pub replaying_next : (x : ℕ) → x ≡ missed b → is_err w ≡ false → Replaying given input paper output next t (answers + 1) (differ + x) (turn + 1) Q
+    pub replaying_next : (x : ℕ) → x ≡ missed b → is_err w ≡ false → Replaying reads given input writes paper output next t (answers + 1) (differ + x) (turn + 1) Q
     replaying_next x i z =
-        subst (λ (y : ℕ). Replaying given input paper output next t (answers + 1) (differ + y) (turn + 1) Q) (sym i)
+        subst (λ (y : ℕ). Replaying reads given input writes paper output next t (answers + 1) (differ + y) (turn + 1) Q) (sym i)
         (record {
           in_taped = q.taped ∙ h.in_taped;
           out_taped = a.taped ∙ h.out_taped;
@@ -221,7 +246,7 @@ module _ (reads given : List ℕ) (input : Stream) (writes paper : List ℕ) (ou
           few = omega (arith, h.few);
           less = omega (arith, h.less, missed_one b);
           kept = λ ti tw.
-              let k : Kept given input paper output at to answers differ turn P = h.kept ti tw in
+              let k : Kept reads given input writes paper output at to answers differ turn P = h.kept ti tw in
               let o : Onward k = onward ti k in
               let m : AllMarked writes P line to w t Q = a.marked (h.out_taped ∙ tw) in
               let R : List ℕ = report_from o.fuel (answers + 1) (differ + missed b) (drop (at_of next) given) in
@@ -231,6 +256,8 @@ module _ (reads given : List ℕ) (input : Stream) (writes paper : List ℕ) (ou
                 text =
                     ap (λ (l : List ℕ). take (at_of t) Q ++ (l ++ R)) (sym (nothing_left line (moved line w) (a.whole (unbroken w z))))
                     ∙ written writes P line to w t Q R m ∙ ap (λ (l : List ℕ). take (at_of to) P ++ l) (sym o.is) ∙ k.text;
+                read = passed_on reads input at next k.read (compared ti).passed;
+                written = passed_on writes output to t k.written (m.passed (unbroken w z));
                 made = omega (arith, k.made, (compared ti).onward);
               };
         })

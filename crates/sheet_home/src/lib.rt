@@ -38,8 +38,7 @@ fn settle(
         × (max_work ≤ word_count work.old) }
     ensures { Settled second sheet.now (words_of table.new) result }
 {
-    let first = sheet_form::open(table, written);
-    let cur = sheet_form::feed(first, sheet, table, written);
+    let cur = sheet_verdict::feed_sheet(sheet, table, written);
     move_verdict::verdict_on(second, cur, table, written, work)
 }
 
@@ -99,8 +98,7 @@ pub fn is_moved(second: bool, sheet: &[u8], answer: &[u8], lent: &mut Lent) -> b
 fn form_of(sheet: &[u8], lent: &mut Lent) -> bool
     ensures { result ≡ is_second sheet.now }
 {
-    let first = sheet_form::open(lent.table, lent.written);
-    let cur = sheet_form::feed(first, sheet, lent.table, lent.written);
+    let cur = sheet_verdict::feed_sheet(sheet, lent.table, lent.written);
     sheet_form::is_second(cur)
 }
 

@@ -27,8 +27,7 @@ pub fn read_job(
         × (max_work ≤ word_count work.old) }
     ensures { Shelved sheet.now (words_of table.new) result }
 {
-    let first = sheet_form::open(table, written);
-    let cur = sheet_form::feed(first, sheet, table, written);
+    let cur = sheet_verdict::feed_sheet(sheet, table, written);
     order_answer::verdict_on(cur, table, written, work)
 }
 

@@ -2,21 +2,19 @@
 use mathlib.Core.Path.{◌≡◌, refl, sym, ap, subst, ◌∙◌}
 use mathlib.Core.Bool.{Bool, true, false, ◌&&◌}
 use mathlib.Core.List.{List, [], ◌∷◌, ◌++◌}
-use Prim.Native.Nat.{ℕ, ◌<◌}
+use Prim.Native.Nat.{ℕ}
 use native.Mathlib.Omega.{arith}
 use lib.Dec.{eqb}
 use lib.Pointwise.{pointwise}
-use lib.ListN.{length, get_or, take, drop}
+use lib.ListN.{length, take, drop}
 use borrow.Author.Tests.{ne_eqb}
 use Rattle.definition.specs.Build.{Result}
 use Rattle.definition.specs.Limits.{vregs_room}
 use Rattle.definition.specs.Text.{same}
 use Rattle.definition.specs.SheetForms.{SheetOut, answer_to_sheet, answer_text, vregs_of}
 use Rattle.virt_regs.specs.declared.OutLayout.{OutLayout}
-use Rattle.sheet_places.specs.Places.{table_words}
 use Rattle.sheet_form.specs.declared.Reading.{Reading}
-use Rattle.sheet_form.specs.Front.{Formed, formed, run_form, open_form}
-use Rattle.agree.specs.Agree.{all_bytes}
+use Rattle.sheet_verdict.specs.Judged.{LeadsTo}
 use Rattle.sheet_output.specs.declared.Cursor.{Cursor}
 use Rattle.lines.specs.declared.Page.{Page}
 use Rattle.lines.specs.Comparing.{same_append, same_none}
@@ -79,19 +77,10 @@ agreed_all ol r x answer c rest h d o g =
 
 -- ---- the sheet that was fed
 
-pub fed_once : (n m : ℕ) (f g : Formed) (sheet : List ℕ) → n ≡ table_words → m ≡ 1536 → f ≡ open_form n m
-    → g ≡ run_form f sheet → g ≡ run_form (open_form table_words 1536) sheet
-fed_once n m f g sheet e d a b =
-    b
-    ∙ ap (λ (k : Formed). run_form k sheet)
-    (a ∙ ap (λ (k : ℕ). open_form k m) e ∙ ap (λ (k : ℕ). open_form table_words k) d)
-
-module _ (n : ℕ) (cur : Reading) (W Y : List ℕ) (r : BuildEnd) (x sheet : List ℕ) (s : (i : ℕ) → get_or sheet i 0 < 256)
-    (e : formed cur W Y ≡ run_form (open_form table_words 1536) sheet) (a : Answers n cur W Y r x) where
+module _ (n : ℕ) (cur : Reading) (W Y : List ℕ) (r : BuildEnd) (x sheet : List ℕ) (l : LeadsTo sheet cur W Y)
+    (a : Answers n cur W Y r x) where
   printing_fed : Printing vregs_tables (answer_to_sheet sheet vregs_room) r x at_start
-  printing_fed =
-      printing_start n vregs_tables (answer_to_sheet sheet vregs_room) r x
-      (a sheet (record { bytes = all_bytes sheet s; is = e }))
+  printing_fed = printing_start n vregs_tables (answer_to_sheet sheet vregs_room) r x (a sheet l)
 
   pub prints_fed : Prints vregs_tables r x at_start
   prints_fed = record {

@@ -36,8 +36,7 @@ fn same_sheet(end: BuildEnd, tables: &[u8], answer: &[u8], buf: &mut [u8]) -> bo
 pub fn is_answer(sheet: &[u8], answer: &[u8], space: &mut Space) -> bool
     ensures { result ≡ same answer.now (vregs_of sheet.now) }
 {
-    let first = sheet_form::open(space.table, space.written);
-    let cur = sheet_form::feed(first, sheet, space.table, space.written);
+    let cur = sheet_verdict::feed_sheet(sheet, space.table, space.written);
     let end = vregs_answer::answer_table(cur, space.table, space.written, space.out, space.work);
     same_sheet(end, space.out, answer, space.buf)
 }

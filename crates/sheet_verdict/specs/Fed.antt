@@ -1,5 +1,5 @@
 -- A sheet that was fed to the reader leads to its state and its tables. Assumes nothing.
-use Rattle.std.specs.Prelude.{◌≡◌, true, false, List, ℕ, ◌<◌, drop, get_or}
+use Rattle.std.specs.Prelude.{◌≡◌, true, false, List, ℕ, drop}
 use Rattle.std.proofs.Common.{ap, subst, ◌∙◌}
 use Rattle.sheet_places.specs.Places.{table_words}
 use Rattle.sheet_form.specs.declared.Reading.{Reading}
@@ -22,22 +22,6 @@ streamed_in n m g e f s = subst (λ (k : Formed). Streamed k g) (both_open n m e
 pub leads : (cur : Reading) (W Y : List ℕ) (s : Streamed (open_form table_words 1536) (formed cur W Y))
     → LeadsTo s.bytes cur W Y
 leads cur W Y s = record { bytes = all_bytes s.bytes s.small; is = s.is }
-
--- ---- a whole sheet that was fed as one part
-
-pub led : (n m : ℕ) (f : Formed) (cur : Reading) (W Y sheet : List ℕ) → n ≡ table_words → m ≡ 1536
-    → ((i : ℕ) → get_or sheet i 0 < 256) → f ≡ open_form n m → formed cur W Y ≡ run_form f sheet
-    → LeadsTo sheet cur W Y
-led n m f cur W Y sheet e d s a b = record {
-  bytes = all_bytes sheet s;
-  is = b ∙ ap (λ (k : Formed). run_form k sheet) (a ∙ both_open n m e d);
-}
-
-pub streamed : (n m : ℕ) (f : Formed) (cur : Reading) (W Y sheet : List ℕ) → n ≡ table_words → m ≡ 1536
-    → ((i : ℕ) → get_or sheet i 0 < 256) → f ≡ open_form n m → formed cur W Y ≡ run_form f sheet
-    → Streamed (open_form table_words 1536) (formed cur W Y)
-streamed n m f cur W Y sheet e d s a b =
-    record { bytes = sheet; small = s; is = (led n m f cur W Y sheet e d s a b).is }
 
 -- ---- where no read failed, the sheet that was read is all bytes that are given
 

@@ -1,4 +1,5 @@
-// The verdict on a job sheet of either form that was read: the refusal of tests 1 to 7 and 10, or what a build needs of a sheet that passes.
+// The verdict on a job sheet of either form that was read: the refusal of tests 1 to 7 and 10, or what a build needs of a
+// sheet that passes; and reading a sheet in memory.
 #![tactic(auto)]
 
 ghost use Rattle.std.specs.Prelude.{◌≡◌, ◌≤◌};
@@ -7,7 +8,7 @@ ghost use Rattle.work_layout.specs.Regions.{max_work};
 ghost use Rattle.sheet_places.specs.Places.{table_words};
 ghost use Rattle.sheet_form.specs.Front.{formed, open_form};
 ghost use Rattle.sheet_form.specs.Stream.{Streamed};
-ghost use Rattle.sheet_verdict.specs.Judged.{Tested, Judged};
+ghost use Rattle.sheet_verdict.specs.Judged.{Tested, LeadsTo, Judged};
 
 use definition::{Refusal, SheetRefusal};
 use entry::Entered;
@@ -16,6 +17,17 @@ use layout::Job;
 use sheet::SheetError;
 use sheet_form::Reading;
 use sheet_written::Written;
+
+// Feeds the reader a whole sheet in memory: the state that the sheet leads to, with its tables.
+pub fn feed_sheet(sheet: &[u8], table: &mut [u8], written: &mut [u8]) -> Reading
+    requires { (word_count table.old ≡ table_words) × (word_count written.old ≡ 1536) }
+    ensures leads { LeadsTo sheet.now result (words_of table.new) (words_of written.new) }
+    ensures streamed { Streamed (open_form table_words 1536)
+        (formed result (words_of table.new) (words_of written.new)) }
+{
+    let first = sheet_form::open(table, written);
+    sheet_form::feed(first, sheet, table, written)
+}
 
 // Tests 2 to 7 on the job of a table, then 10 where there are written fields.
 #[tactic(auto, using(crate::proofs::Ways::tested_refused))]

@@ -28,5 +28,6 @@ put-requires g c = let p = c.requires in (
 pub returns : goal.returns
 returns g c = let p = c.requires in
     ran_written _ _ _ _ _ _ _ _ _ _ _ _ c.or.ensures
+    (λ y. (c.in-Ok.ensures.on_tape y).passed refl)
     (put_all _ _ _ _ _ _ _ _ _ p.3 p.4 c.in-Ok.ensures _ _ _ _ _ _ _ _ c.verdict_on-verdict.ensures
     c.put.ensures)

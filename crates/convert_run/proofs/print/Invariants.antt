@@ -6,7 +6,7 @@ use Rattle.convert_run.proofs.print.Given as goal
 
 abbrev pub invariant-loop-cur : goal.invariant-loop-cur
 invariant-loop-cur g l = (length l.paper ≡ length l.initial.paper) × (length l.buf ≡ length l.initial.buf)
-    × Showing l.second l.table l.initial.paper l.initial.s l.s (cursor_of l.cur) l.paper
+    × Showing l.second l.table l.tape l.initial.paper l.initial.s l.s (cursor_of l.cur) l.paper
 
 abbrev pub decreases-loop-cur : goal.decreases-loop-cur
 decreases-loop-cur g l = steps_left (cursor_of l.cur)

@@ -4,7 +4,7 @@ use Rattle.replay_run.proofs.Replaying.{replaying_end, replaying_unwritten, repl
 use Rattle.replay_run.proofs.replay.Goals as goal
 
 pub loop-init : goal.loop-init
-loop-init g c = (refl, refl, refl, replaying_start _ _ _ _ c.requires.0 c.requires.1)
+loop-init g c = (refl, refl, refl, replaying_start _ _ _ _ _ _ c.requires.0 c.requires.1)
 
 pub next_answer-requires : goal.next_answer-requires
 next_answer-requires g c = let i = c.loop.invariant in

@@ -20,5 +20,6 @@ print-requires g c = let p = c.requires in
 pub returns : goal.returns
 returns g c = let sp = c.args.space.now in
     ran_written _ _ _ _ _ _ _ _ _ _ _ _ c.or.ensures
+    (λ y. (c.in-Ok.ensures.on_tape y).passed refl)
     (shown_all _ _ _ _ _ _ _ _ _ sp.job sp.fields c.in-Ok.ensures _ _ _ _ _ _ _ _ _ c.answer_table-end.ensures
     c.print.ensures)

@@ -10,7 +10,7 @@ pub loop-cur-init : goal.loop-cur-init
 loop-cur-init g c = let p = c.requires in
     let e = c.vregs_tables-ol.ensures in
     let d = c.start-cur.ensures in
-    (refl, refl, showing_start _ _ _ _ _ _ (begun _ _ _ _ p.0 e d) e d p.2)
+    (refl, refl, showing_start _ _ _ _ _ _ _ (begun _ _ _ _ p.0 e d) e d p.2)
 
 pub returns-in_err-write_all : goal.returns-in_err-write_all
 returns-in_err-write_all g c = let p = err_from_is_err_and c.from_residual.result c.from_residual.ensures.1 in
