@@ -58,7 +58,8 @@ pub fn at_segment<T: Copy>(i: usize, k: usize, own: T, other: T) -> T
     if i == k { own } else { other }
 }
 
-// Segment i of a part.
+// Segment i of a part. Inlined, since each call copies the part.
+#[inline(always)]
 #[tactic(auto, unfolding(crate::specs::Part::part_row, layout::specs::Layout::seg_at))]
 pub fn part_seg(job: &Job, sp: SetPart, i: usize) -> PartSeg
     requires { (sp.last < job.now.lay.segments.n) × (i ≤ sp.last) }
