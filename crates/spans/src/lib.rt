@@ -1,8 +1,7 @@
-// Runs of words in lent byte slices: clearing, copying, inserting. An index counts words.
+// Runs of words in lent byte slices: clearing, copying, moving. An index counts words.
 #![tactic(auto)]
 
-ghost use Rattle.std.specs.Prelude.{◌≡◌, ◌++◌, ◌+◌, ◌≤◌, length, take, drop, replicate};
-ghost use Rattle.std.proofs.Math.Seq.{slice};
+ghost use Rattle.std.specs.Prelude.{◌≡◌, ◌+◌, ◌≤◌, length, take, drop, replicate};
 ghost use Rattle.rows.specs.Parts.{splice};
 ghost use Rattle.rows.specs.Moves.{Gap};
 ghost use Rattle.words.specs.Words.{word_count, words_of};
@@ -13,14 +12,6 @@ pub fn clear(s: &mut [u8])
     ensures zero_words { words_of s.new ≡ replicate (word_count s.old) 0 }
 {
     s.fill(0);
-}
-
-// Zeros in the first n words.
-pub fn clear_first(s: &mut [u8], n: usize)
-    requires { n ≤ word_count s.old }
-    ensures { words_of s.new ≡ replicate n 0 ++ drop n (words_of s.old) }
-{
-    clear(&mut s[..n * 4]);
 }
 
 // Zeros in n words from word `at` on.
@@ -45,13 +36,4 @@ pub fn open_gap(t: &mut [u8], at: usize, end: usize, n: usize)
     ensures { Gap (words_of t.old) at end n (words_of t.new) }
 {
     t.copy_within(at * 4..end * 4, (at + n) * 4);
-}
-
-// Inserts n words of src, from word `from` on, at word `at`; the words from there up to `end` move up.
-pub fn insert_words(t: &mut [u8], at: usize, end: usize, src: &[u8], from: usize, n: usize)
-    requires { (at ≤ end) × (end + n ≤ word_count t.old) × (from + n ≤ word_count src.now) }
-    ensures { words_of t.new ≡ take at (words_of t.old) ++ (take n (drop from (words_of src.now)) ++ (slice at end (words_of t.old) ++ drop (end + n) (words_of t.old))) }
-{
-    open_gap(t, at, end, n);
-    copy_words(t, at, src, from, n);
 }
