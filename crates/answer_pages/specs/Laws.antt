@@ -13,6 +13,7 @@ use Rattle.definition.specs.SheetForms.{sheet_number_of, SheetOut, given', refus
 use Rattle.definition.proofs.Forms.{same_text}
 use Rattle.virt_regs.specs.declared.OutLayout.{OutLayout}
 use Rattle.virt_regs.specs.Encoding.{Holds}
+use Rattle.virt_regs.specs.Held.{held_long}
 use Rattle.register_sheet.specs.Typed.{refused_line}
 use Rattle.sheet_output.specs.declared.Cursor.{Cursor}
 use Rattle.lines.specs.declared.Page.{Page}
@@ -113,7 +114,7 @@ fill_asked ol r x c p z =
     let d : Accepted p.answer = accepted p.answer (sym (number_of_lem p.answer r g.end) ∙ z) in
     let h : Holds ol (words_of x) (state_of d.res) = g.holds d.res d.is in
     record {
-      long = omega (arith, h.long, length_words x);
+      long = omega (arith, held_long h, length_words x);
       few_regs = p.few_regs;
       few_groups = p.few_groups;
       st = state_of d.res;

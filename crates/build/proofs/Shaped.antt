@@ -10,8 +10,8 @@ use Rattle.words.specs.Laws.{length_words, words_replicate}
 use Rattle.definition.specs.declared.Refusal.{Refusal}
 use Rattle.definition.specs.declared.Refusal.TheVariants.{NotARecord, OverALimit, BadBook, BadFunction, BadHint, BadSegment, BadUse, Stopped, Full}
 use Rattle.definition.specs.Types.{Job, State, Out, done, refused, number_of}
-use Rattle.definition.specs.Place.{◌>>=◌}
-use Rattle.definition.specs.Build.{Result, empty, build}
+use Rattle.definition.specs.Place.{◌>>=◌, empty}
+use Rattle.definition.specs.Build.{Result, build, result_of}
 use Rattle.definition.specs.Entry.{entry, answer}
 use Rattle.layout.specs.declared.Layout.{Layout}
 use Rattle.layout.specs.Layout.{seg_at}
@@ -19,6 +19,7 @@ use Rattle.job.specs.Job.{raw_job, job_of}
 use Rattle.virt_regs.specs.declared.OutLayout.{OutLayout}
 use Rattle.virt_regs.specs.declared.Counts.{Counts}
 use Rattle.virt_regs.specs.Encoding.{tables_end, room_of, counts_of, Holds}
+use Rattle.virt_regs.specs.Held.{fit_registers, fit_groups}
 use Rattle.virt_regs.specs.Reads.{holds_mapping}
 use Rattle.work_layout.specs.declared.WorkLayout.{WorkLayout}
 use Rattle.work_layout.specs.Regions.{max_work}
@@ -32,7 +33,7 @@ use Rattle.build_begin.specs.Begins.{begun, onward_begin, builds}
 use Rattle.build_begin.specs.Empty.{Clear, clear_zeros, empty_stands}
 use Rattle.build_begin.specs.Loop.{finished, build_from, build_begins}
 use Rattle.build_answer.specs.declared.BuildEnd.{BuildEnd}
-use Rattle.build_answer.specs.Answered.{bytes_left, end_left, result_of, state_of, Answered}
+use Rattle.build_answer.specs.Answered.{bytes_left, end_left, state_of, Answered}
 use Rattle.build_answer.specs.Held.{held_left, answered_refused}
 use Rattle.conflicts.specs.Conflicts.{EndsAs}
 use Rattle.conflicts.proofs.Going.{ended_state}
@@ -115,7 +116,7 @@ module _ (s : List ℕ) (lay : Layout) (ol : OutLayout) where
             let e = l.2.counts in
             let g : c₁.regs ≡ length l.0.registers = ap (λ (i : Counts). i.regs) e in
             let g' : c₁.groups ≡ length l.0.groups = ap (λ (i : Counts). i.groups) e in
-            (omega (arith, l.2.stands.tables.fit_registers, c.regs), omega (arith, l.2.stands.tables.fit_groups, c.groups))
+            (omega (arith, fit_registers l.2.stands.tables, c.regs), omega (arith, fit_groups l.2.stands.tables, c.groups))
 
         pub answered_built : (x₀ x : List ℕ) → Cleared ol x₀ → length x ≡ length x₀ → O ≡ words_of x → ((i : ℕ) → get_or x i 0 < 256)
             → Answered (length x₀) ol (build (raw_job (words_of s) lay) (room_of ol)) (built_end c₁) x

@@ -1,14 +1,17 @@
 -- What a build leaves in the lent result tables, byte for byte, and answers. Assumes nothing.
-use Rattle.std.specs.Prelude.{◌≡◌, min, List, [], ◌++◌, ℕ, ◌+◌, ◌-◌, ◌*◌, ◌/◌, ◌≤◌, ◌<◌, length, replicate}
+use Rattle.std.specs.Prelude.{◌≡◌, min, List, ℕ, ◌+◌, ◌-◌, ◌*◌, ◌/◌, ◌≤◌, ◌<◌, length, replicate}
 use Rattle.rows.specs.Parts.{pad}
 use Rattle.words.specs.Words.{words_of, bytes_of}
 use Rattle.definition.specs.Types.{State, Out, done, refused, number_of}
-use Rattle.definition.specs.Place.{uses_of, segs_of}
+use Rattle.definition.specs.Place.{empty, set_registers, set_groups}
 use Rattle.definition.specs.Build.{Result}
 use Rattle.virt_regs.specs.declared.OutLayout.{OutLayout}
-use Rattle.virt_regs.specs.Encoding.{tables_end, all_pieces, register_rows, piece_rows, use_rows, group_rows, Holds}
+use Rattle.virt_regs.specs.Encoding.{tables_end, Holds, tables, contents}
 use Rattle.virt_regs.specs.View.{registers_in, groups_in}
 use Rattle.build_answer.specs.declared.BuildEnd.{BuildEnd}
+use mathlib.Core.List.{[], ◌∷◌}
+use lib.ListN.{get_or}
+use Rattle.rows.specs.Tables.{Table, whole}
 
 -- ---- the tables in a lent slice of n words, cut by the numbers of rows that the caller names: where the slice is too short, the tables have fewer rows
 
@@ -20,12 +23,16 @@ named_in room a = min (min a 4294967294) room
 abbrev pub rows_in : ℕ → ℕ → ℕ → ℕ
 rows_in n k a = named_in (n / k) a
 
+-- of n words, each table in turn as many rows as are named and fit into what is left
+abbrev pub cut_all : ℕ → List Table → List ℕ
+cut_all n [] = []
+cut_all n (t ∷ ts) = let r = rows_in n t.stride t.rows in r ∷ cut_all (n - r * t.stride) ts
+
+abbrev pub layout_by : List ℕ → OutLayout
+layout_by rs = record { regs = get_or rs 0 0; segs = get_or rs 1 0; uses = get_or rs 2 0; groups = get_or rs 3 0 }
+
 unfoldable pub out_layout_of : ℕ → ℕ → ℕ → ℕ → ℕ → OutLayout
-out_layout_of n a b c d =
-    let r = rows_in n 8 a in
-    let s = rows_in (n - r * 8) 7 b in
-    let u = rows_in (n - r * 8 - s * 7) 6 c in
-    record { regs = r; segs = s; uses = u; groups = rows_in (n - r * 8 - s * 7 - u * 6) 9 d }
+out_layout_of n a b c d = layout_by (cut_all n (tables (record { regs = a; segs = b; uses = c; groups = d })))
 
 -- r are those tables: they lie in the slice, and a word counts the rows of each
 pub record Cut (n a b c d : ℕ) (r : OutLayout) : Type 0 where
@@ -38,12 +45,13 @@ pub record Cut (n a b c d : ℕ) (r : OutLayout) : Type 0 where
 
 -- ---- the content of the tables at exit
 
+-- the state with a result's registers and groups
+abbrev pub state_of : Result → State
+state_of res = set_groups res.groups (set_registers res.registers empty)
+
 -- the rows of registers, segments, uses and groups, zeros behind the rows of each table
 unfoldable pub result_words : OutLayout → Result → List ℕ
-result_words ol res =
-    pad (ol.regs * 8) (register_rows 0 res.registers)
-    ++ (pad (ol.segs * 7) (piece_rows 0 (all_pieces res.registers))
-    ++ (pad (ol.uses * 6) (use_rows (uses_of (segs_of (all_pieces res.registers)))) ++ pad (ol.groups * 9) (group_rows res.groups)))
+result_words ol res = whole (tables ol) (contents (state_of res))
 
 -- the bytes of a slice of n bytes: the result and zeros behind it; or zeros
 unfoldable pub bytes_left : ℕ → OutLayout → Out Result → List ℕ
@@ -54,13 +62,6 @@ bytes_left n ol (refused f) = replicate n 0
 unfoldable pub end_left : Out Result → BuildEnd
 end_left (done res) = record { number = 0; registers = length res.registers; groups = length res.groups }
 end_left (refused f) = record { number = number_of f; registers = 0; groups = 0 }
-
--- the result of a state, and the state with a result's registers and groups
-abbrev pub result_of : State → Result
-result_of st = record { registers = st.registers; groups = st.groups }
-
-abbrev pub state_of : Result → State
-state_of res = record { registers = res.registers; groups = res.groups; mapping = [] }
 
 -- A build of which o is the definition's answer ended with r and left the bytes x in a slice of n bytes with these tables. Where it is accepted, the rows can be read back.
 pub record Answered (n : ℕ) (ol : OutLayout) (o : Out Result) (r : BuildEnd) (x : List ℕ) : Type 0 where

@@ -1,6 +1,6 @@
 -- The bytes of lent tables that hold a state, as a value, and how a build has answered. Assumes nothing.
 use Rattle.std.specs.Prelude.{◌≡◌, List, [], ◌++◌, ℕ, ◌+◌, ◌-◌, ◌*◌, ◌/◌, ◌≤◌, ◌<◌, length, get_or, take, drop, replicate}
-use Rattle.std.proofs.Common.{sym, ap, subst, ◌∙◌, arith, length-append, length-drop, take-append-drop, drop-drop, take_all, take_at}
+use Rattle.std.proofs.Common.{sym, ap, subst, ◌∙◌, arith, take_at}
 use Rattle.std.proofs.lemmas.List.{replicate-append-replicate, length-replicate}
 use Rattle.std.proofs.Math.ListN.{get_or-append}
 use Rattle.rows.specs.Parts.{pad, drop_replicate}
@@ -8,52 +8,26 @@ use Rattle.words.specs.Words.{words_of, bytes_of}
 use Rattle.words.specs.Laws.{length_words, words_replicate, words_append, bytes_words}
 use Rattle.definition.specs.declared.Refusal.{Refusal}
 use Rattle.definition.specs.Types.{Mapped, State, Out, done, refused}
-use Rattle.definition.specs.Build.{Result}
+use Rattle.definition.specs.Place.{empty, set_mapping}
+use Rattle.definition.specs.Build.{Result, result_of}
 use Rattle.virt_regs.specs.declared.OutLayout.{OutLayout}
-use Rattle.virt_regs.specs.Part.{part, part_front}
-use Rattle.virt_regs.specs.Encoding.{seg_base, use_base, group_base, tables_end, Holds}
+use Rattle.virt_regs.specs.Encoding.{tables_end, Holds, tables, contents}
 use Rattle.virt_regs.specs.Reads.{holds_none, holds_mapping}
 use Rattle.build_answer.specs.declared.BuildEnd.{BuildEnd}
-use Rattle.build_answer.specs.Answered.{out_layout_of, Cut, result_words, bytes_left, end_left, result_of, state_of, Answered}
+use Rattle.build_answer.specs.Answered.{out_layout_of, Cut, result_words, bytes_left, end_left, state_of, Answered}
+use Rattle.rows.specs.Tables.{tabled_all, tabled_front}
 
 -- ---- the words
-
-drop_part : (a e : ℕ) (w : List ℕ) → a ≤ e → drop a w ≡ part a e w ++ drop e w
-unfolding part
-drop_part a e w h =
-    let k : a + (e - a) ≡ e = omega arith in
-    sym (take-append-drop (e - a) (drop a w)) ∙ ap (λ (t : List ℕ). take (e - a) (drop a w) ++ t) (drop-drop (e - a) a w ∙ ap (λ (n : ℕ). drop n w) k)
-
-drop_last : (a e : ℕ) (w : List ℕ) → length w ≡ e → drop a w ≡ part a e w
-unfolding part
-drop_last a e w h = sym (take_all (e - a) (drop a w) (simp length-drop (omega arith)))
 
 -- words that are just the tables, and hold a state, are its rows
 pub held_words : (ol : OutLayout) (O : List ℕ) (st : State) → length O ≡ tables_end ol → Holds ol O st → O ≡ result_words ol (result_of st)
 unfolding result_words
-held_words ol O st l h =
-    let g = drop_last (group_base ol) (tables_end ol) O l ∙ h.groups in
-    let u = drop_part (use_base ol) (group_base ol) O (omega arith) ∙ (λ i. h.uses i ++ g i) in
-    let s = drop_part (seg_base ol) (use_base ol) O (omega arith) ∙ (λ i. h.segments i ++ u i) in
-    drop_part 0 (seg_base ol) O (omega arith) ∙ (λ i. h.registers i ++ s i)
+held_words ol O st l h = tabled_all (tables ol) (contents st) O h.tabled l
 
 -- words behind the tables are no part of them
 pub holds_front : (ol : OutLayout) (O Z : List ℕ) (st : State) → Holds ol O st → Holds ol (O ++ Z) st
 holds_front ol O Z st h =
-    record {
-      long = omega (arith, h.long, length-append O Z);
-      fit_registers = h.fit_registers;
-      fit_segments = h.fit_segments;
-      fit_uses = h.fit_uses;
-      fit_groups = h.fit_groups;
-      registers = part_front 0 (seg_base ol) O Z (omega arith) (omega (arith, h.long)) ∙ h.registers;
-      segments = part_front (seg_base ol) (use_base ol) O Z (omega arith) (omega (arith, h.long)) ∙ h.segments;
-      uses = part_front (use_base ol) (group_base ol) O Z (omega arith) (omega (arith, h.long)) ∙ h.uses;
-      groups = part_front (group_base ol) (tables_end ol) O Z (omega arith) h.long ∙ h.groups;
-      typed = h.typed;
-      weights = h.weights;
-      members = h.members;
-    }
+    record { tabled = tabled_front (tables ol) (contents st) O Z h.tabled; typed = h.typed; weights = h.weights; members = h.members }
 
 -- ---- the bytes
 
@@ -82,9 +56,9 @@ lent_zeros n e s z h =
     ap (λ (t : List ℕ). take e t) (z ∙ ap (λ (m : ℕ). replicate m 0) k ∙ sym (replicate-append-replicate e (n - e) 0)) ∙ take_at (replicate e 0) _ e (length-replicate e 0)
 
 pub lent_holds : (n e : ℕ) (ol : OutLayout) (s : List ℕ) (ms : List Mapped) → s ≡ replicate n 0 → e ≡ tables_end ol * 4 → e ≤ n
-    → Holds ol (words_of (take e s)) (record { registers = []; groups = []; mapping = ms })
+    → Holds ol (words_of (take e s)) (set_mapping ms empty)
 lent_holds n e ol s ms z takes h =
-    subst (λ (w : List ℕ). Holds ol w (record { registers = []; groups = []; mapping = ms })) (sym (ap words_of (lent_zeros n e s z h) ∙ words_replicate e))
+    subst (λ (w : List ℕ). Holds ol w (set_mapping ms empty)) (sym (ap words_of (lent_zeros n e s z h) ∙ words_replicate e))
     (holds_none ol (e / 4) ms (omega arith))
 
 -- ---- how a build has answered

@@ -6,7 +6,7 @@ ghost use Rattle.virt_regs.specs.Encoding.{tables_end};
 ghost use Rattle.build_answer.specs.Answered.{named_in, Cut};
 ghost use Rattle.build_answer.specs.Sheets.{number_alone};
 
-use virt_regs::OutLayout;
+use virt_regs::{GROUP_ROW, OutLayout};
 
 // Number 0 and how many registers and groups there are; or the refusal's number, and zeros. No Result, since C gets it.
 #[repr(C)]
@@ -45,7 +45,7 @@ pub fn out_layout(n: usize, regs: u32, segs: u32, uses: u32, groups: u32) -> Out
     let behind_segs = behind_regs - b * 7;
     let c = rows_in(behind_segs / 6, uses);
     let behind_uses = behind_segs - c * 6;
-    let d = rows_in(behind_uses / 9, groups);
+    let d = rows_in(behind_uses / GROUP_ROW, groups);
     OutLayout {
         regs: a,
         segs: b,
@@ -59,5 +59,5 @@ pub fn tables_bytes(ol: OutLayout) -> usize
     requires { tables_end ol < 4611686018427387904 }
     ensures { result ≡ tables_end ol * 4 }
 {
-    (ol.group_base() + ol.groups * 9) * 4
+    (ol.group_base() + ol.groups * GROUP_ROW) * 4
 }

@@ -8,8 +8,8 @@ use Rattle.rows.specs.RowsAt.{length_rows_at}
 use Rattle.definition.specs.declared.Value.{Value}
 use Rattle.definition.specs.Types.{Segment, Job, Room, State, Out, done}
 use Rattle.definition.specs.RegInfo.{set_of, top_of}
-use Rattle.definition.specs.Place.{◌>>=◌}
-use Rattle.definition.specs.Build.{Result, conflicts, runs, same_inst, same_set, build_set, build_sets, empty, build}
+use Rattle.definition.specs.Place.{◌>>=◌, empty}
+use Rattle.definition.specs.Build.{Result, conflicts, runs, same_inst, same_set, build_set, build_sets, build, result_of}
 use Rattle.definition.specs.Entry.{entry, segment_ok, segment_tests}
 use Rattle.definition.proofs.Places.{All}
 use Rattle.definition.proofs.Entries.{conj_all}
@@ -31,7 +31,7 @@ set_by J room s ss st = refl
 
 -- the answer where all sets are built
 abbrev pub finished : State → Out Result
-finished st = done (record { registers = st.registers; groups = st.groups })
+finished st = done (result_of st)
 
 module _ (W : List ℕ) (lay : Layout) (room : Room) where
   -- what is built of the segments from a on

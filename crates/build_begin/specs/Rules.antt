@@ -9,6 +9,7 @@ use Rattle.definition.specs.declared.Value.{Value}
 use Rattle.definition.specs.declared.RegClass.{RegClass}
 use Rattle.definition.specs.declared.ClassData.{ClassData}
 use Rattle.definition.specs.declared.Use.{Use}
+use Rattle.definition.specs.Limits.{max_group}
 use Rattle.definition.specs.Types.{Segment, Job}
 use Rattle.definition.specs.RegInfo.{class_at, no_class}
 use Rattle.definition.specs.Build.{with_uses}
@@ -27,7 +28,7 @@ use Rattle.definition.proofs.Accepted.{group_operand, sized_at}
 
 -- a class by its tests: its mask, its size, and those of its subclasses
 abbrev ClassFits : List ClassData → ClassData → Type 0
-ClassFits cs c = (c.mask < 2 ^ length cs) × (c.size ≤ 8) × (2 ≤ c.size → sized c.mask c.size cs ≡ true)
+ClassFits cs c = (c.mask < 2 ^ length cs) × (c.size ≤ max_group) × (2 ≤ c.size → sized c.mask c.size cs ≡ true)
 
 class_fits : (cs : List ClassData) (c : ClassData) → class_ok cs c ≡ true → ClassFits cs c
 unfolding class_ok
@@ -66,7 +67,7 @@ module _ (J : Job) (e : entry J ≡ none) where
   accepted_sizes c k i l = let f = fits_at c in sized_at J.classes (class_at J c).mask (class_at J c).size k.0 f.0 (f.2 l) i
 
   -- "group size not 1 to 8" is refused, and an unknown class has size 0
-  pub accepted_widths : (c : RegClass) → (class_at J c).size ≤ 8
+  pub accepted_widths : (c : RegClass) → (class_at J c).size ≤ max_group
   accepted_widths c = (fits_at c).1
 
   -- ---- group uses

@@ -16,8 +16,8 @@ use Rattle.definition.specs.Types.{Job, Room, State, Held, HeldGroup, Piece, Reg
 use Rattle.definition.specs.Uses.{slot_of}
 use Rattle.definition.specs.Weights.{weight_of}
 use Rattle.definition.specs.Admit.{scan, through, fresh, members_at, mapped_at, register_at, no_register}
-use Rattle.definition.specs.Place.{alone, alone_state, first_from, group_weight, has_room, if_unmapped, inserted, is_none, join, join_state, last_to, lead, lead_state, made, map_one, map_uses, merge, merge_state, on_mapping, or_else, overlaps, place, place_by, place_group, segs_of, spread, update, uses_of, with_pieces}
-use Rattle.definition.specs.Build.{as_own, empty}
+use Rattle.definition.specs.Place.{alone, alone_state, first_from, group_weight, has_room, if_unmapped, inserted, is_none, join, join_state, last_to, lead, lead_state, made, map_one, map_uses, merge, merge_state, on_mapping, or_else, overlaps, place, place_by, place_group, segs_of, spread, update, uses_of, with_pieces, empty}
+use Rattle.definition.specs.Build.{as_own}
 use Rattle.definition.proofs.Places.{All, Ok, Members, Groups, all_map, all_append, all_get_d, all_set, gate_done, room_done, placed, scan_target, update_length, own_uses_lem}
 use Rattle.definition.proofs.Classes.{Masks}
 use Rattle.definition.proofs.Tables.{nth, memb, memb_all, Inside, spread_in, spread_out, spread_len, nth_left, nth_last}

@@ -11,13 +11,13 @@ use lib.Seq.{get_or-append-add, get_or-set_same, get_or-set_other}
 use lib.Dec.{ltb, eqb}
 use lib.Ieee.{Float}
 use borrow.Author.Tests.{ltb-true, ltb-false, eqb-false, eq-eqb, ne_eqb}
-use Rattle.definition.specs.Types.{Inst, ValueSet, RegClass, VirtReg, VirtRegGroup, UseKind, FixedDef, FixedUse, TiedUse, ConstraintConflict, ClassUse, ClassDef, GroupClassUse, GroupClassDef, BlockparamIn, BlockparamOut, Use, Segment, Job, Room, HeldGroup, Held, Piece, Register, Mapped, State, MappedTwice, Overlap, done, inst, cls, vreg, vrgroup}
+use Rattle.definition.specs.Types.{Inst, ValueSet, RegClass, VirtReg, VirtRegGroup, UseKind, FixedDef, FixedUse, TiedUse, ConstraintConflict, ClassUse, ClassDef, GroupClassUse, GroupClassDef, BlockparamIn, BlockparamOut, Use, Segment, Job, Room, HeldGroup, Held, Piece, Register, Mapped, State, MappedTwice, Overlap, done, cls, vreg, vrgroup}
 use Rattle.definition.specs.RegInfo.{class_at, common_subclass, set_of}
 use Rattle.definition.specs.Uses.{class_of, slot_of}
 use Rattle.definition.specs.Weights.{weight_of}
 use Rattle.definition.specs.Admit.{admit, admit_class, admit_group, admit_kind, at_place, fresh, group_fits, guard, in_group, mapped_at, mapping_fits, members_at, narrowed, register_at, scan, sets_at, through}
-use Rattle.definition.specs.Place.{alone, alone_state, first_from, group_weight, has_room, inserted, is_none, join, join_state, last_to, lead, lead_state, made, map_uses, merge, merge_state, or_else, overlaps, place, place_by, place_group, segs_of, spread, update, uses_of, with_pieces}
-use Rattle.definition.specs.Build.{Result, build, build_sets, empty, runs, same_set}
+use Rattle.definition.specs.Place.{alone, alone_state, first_from, group_weight, has_room, inserted, is_none, join, join_state, last_to, lead, lead_state, made, map_uses, merge, merge_state, or_else, overlaps, place, place_by, place_group, segs_of, spread, update, uses_of, with_pieces, empty}
+use Rattle.definition.specs.Build.{Result, build, build_sets, runs, same_set}
 use Rattle.definition.specs.Promised.{In, Transitive}
 use Rattle.definition.proofs.Places.{All, all_get_d, all_set, all_map, bind_some, bind_done, update_length, gate_done, room_done}
 use Rattle.definition.proofs.Classes.{Masks, Serves, Below, common_in, below_in, below_trans, serves_below, same_step, class_step}

@@ -12,8 +12,8 @@ use Rattle.definition.specs.Types.{Held, Hint, Inst, Job, Piece, RegClass, Room,
 use Rattle.definition.specs.RegInfo.{set_of, top_of}
 use Rattle.definition.specs.Cuts.{left_cut, left_of, right_cut, right_of}
 use Rattle.definition.specs.Admit.{Move, Scan, admit, admit_kind, cut, fails_at, fresh, halt, move, scan, through, turn, whole}
-use Rattle.definition.specs.Place.{place, segs_of, total, uses_of}
-use Rattle.definition.specs.Build.{Built, Result, Round, all_of, as_own, at_inst, build, build_set, build_sets, class_uses, conflict_piece, conflicts, empty, last_first, last_first', onto, opening, place_front, place_round, place_scan, rounds, runs, same_inst, same_set, step, steps, try, turn_at, turn_in, turned_at, uses_turned, with_uses}
+use Rattle.definition.specs.Place.{place, segs_of, total, uses_of, empty}
+use Rattle.definition.specs.Build.{Built, Result, Round, all_of, as_own, at_inst, build, build_set, build_sets, class_uses, conflict_piece, conflicts, last_first, last_first', onto, opening, place_front, place_round, place_scan, rounds, runs, same_inst, same_set, step, steps, try, turn_at, turn_in, turned_at, uses_turned, with_uses}
 use Rattle.definition.proofs.Scans.{scan_snoc}
 use Rattle.definition.proofs.Moves.{ClassAt, move_whole, move_turn}
 use Rattle.definition.proofs.Places.{All, all_append, all_first, bind_done, own_uses_lem, total_append}

@@ -16,8 +16,8 @@ use Rattle.definition.specs.RegInfo.{class_at, common_subclass, set_of}
 use Rattle.definition.specs.Uses.{slot_of}
 use Rattle.definition.specs.Weights.{weight_of}
 use Rattle.definition.specs.Admit.{admit, admit_class, admit_group, admit_kind, at_place, fresh, group_fits, guard, in_group, mapped_at, mapping_fits, members_at, narrowed, no_register, register_at, scan, sets_at, sets_of, through, vgroup_at}
-use Rattle.definition.specs.Place.{alone, alone_state, first_from, group_weight, has_room, inserted, is_none, join, join_state, last_to, lead, lead_state, made, map_uses, merge, merge_state, or_else, overlaps, place, place_by, place_group, segs_of, spread, update, uses_of, with_pieces, with_weight}
-use Rattle.definition.specs.Build.{Result, build, build_sets, empty, runs, same_set}
+use Rattle.definition.specs.Place.{alone, alone_state, first_from, group_weight, has_room, inserted, is_none, join, join_state, last_to, lead, lead_state, made, map_uses, merge, merge_state, or_else, overlaps, place, place_by, place_group, segs_of, spread, update, uses_of, with_pieces, with_weight, empty}
+use Rattle.definition.specs.Build.{Result, build, build_sets, runs, same_set}
 use Rattle.definition.specs.Entry.{every, function_ok, group_use_ok, vgroup_values, uses_ok}
 use Rattle.definition.proofs.Places.{All, all_append, all_get_d, all_map, bind_some, bind_done, gate_done, room_done, update_length}
 use Rattle.definition.proofs.Entries.{every_all}

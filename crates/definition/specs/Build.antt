@@ -6,7 +6,7 @@ use Rattle.definition.specs.RegInfo.{set_of, top_of}
 use Rattle.definition.specs.Uses.{is_class_use, param_of}
 use Rattle.definition.specs.Cuts.{left_cut, right_cut}
 use Rattle.definition.specs.Admit.{fresh, admit, Scan, through, fails_at, scan, Move, whole, turn, cut, halt, move, no_use}
-use Rattle.definition.specs.Place.{◌>>=◌, place, uses_of}
+use Rattle.definition.specs.Place.{◌>>=◌, place, uses_of, empty}
 
 -- ---- turning
 
@@ -209,17 +209,17 @@ build_sets job room (ss ∷ rest) st = build_set job room ss st >>= λ st'. buil
 abbrev pub same_set : Job → Segment → Segment → Bool
 same_set job s t = eqb (set_of job s.value).0 (set_of job t.value).0
 
--- "from empty tables"
-abbrev pub empty : State
-empty = record { registers = []; groups = []; mapping = [] }
-
 pub record Result : Type 0 where
   pub registers : List Register
   pub groups : List (List (Option VirtReg))
+
+-- the result that a state leaves
+abbrev pub result_of : State → Result
+result_of st = record { registers = st.registers; groups = st.groups }
 
 -- "It takes the value sets by rising number": what the rules define for a job that passes the entry rules
 unfoldable pub build : Job → Room → Out Result
 unfolding build_sets runs set_of
 build job room =
     build_sets job room (runs (same_set job) job.segments) empty
-    >>= λ st. done (record { registers = st.registers; groups = st.groups })
+    >>= λ st. done (result_of st)

@@ -1,5 +1,6 @@
 -- The limits of "Entry rules and the numbers given", and the sizes of `vregs`'s result tables. Assumes nothing.
 use Rattle.std.specs.Prelude.{ℕ}
+use Rattle.definition.specs.declared.TheConstants.{MAX_GROUP}
 use Rattle.definition.specs.Types.{Room}
 
 -- "At most 4,096 instructions, 512 blocks, 1,024 values, 256 value groups, 1,024 operands, hints and segments each, 4,096 uses, 32 classes, 8 banks, 256 registers; k to 65,535."
@@ -41,7 +42,7 @@ max_adjust = 65535
 
 -- "group size not 1 to 8", "vgroup not 2 to 8 known values": the width of a group
 abbrev pub max_group : ℕ
-max_group = 8
+max_group = MAX_GROUP
 
 -- a slot is held to u16, a group index to u8, as in UseKind; a number of a sheet to u32
 abbrev pub slots : ℕ

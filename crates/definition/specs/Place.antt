@@ -12,6 +12,69 @@ abbrev pub ◌>>=◌ : {A B : Type 0} → Out A → (A → Out B) → Out B
 ◌>>=◌ (done a) k = k a
 ◌>>=◌ (refused r) k = refused r
 
+-- ---- how a state changes
+
+-- A state is written out here alone, and by these names elsewhere: a field more is a line in `empty` and in each of these
+-- that changes it.
+
+-- "from empty tables"
+abbrev pub empty : State
+empty = record { registers = []; groups = []; mapping = [] }
+
+-- one field replaced, the others as they are
+abbrev pub set_registers : List Register → State → State
+set_registers rs st = record st { registers = rs }
+
+abbrev pub set_groups : List (List (Option VirtReg)) → State → State
+set_groups gs st = record st { groups = gs }
+
+abbrev pub set_mapping : List Mapped → State → State
+set_mapping ms st = record st { mapping = ms }
+
+-- a register more, behind the others
+abbrev pub add_register : Register → State → State
+add_register r st = set_registers (st.registers ++ (r ∷ [])) st
+
+-- a group more, behind the others, with the members ms
+abbrev pub add_group : List (Option VirtReg) → State → State
+add_group ms st = set_groups (st.groups ++ (ms ∷ [])) st
+
+-- the members ms in place of those of group g
+abbrev pub set_members : VirtRegGroup → List (Option VirtReg) → State → State
+set_members g ms st = set_groups (set st.groups g.0 ms) st
+
+-- a register with the class c and the weight w, and one with the pieces ps
+abbrev pub with_weight : RegClass → Float → Register → Register
+with_weight c w r = record r { class = c; weight = w }
+
+abbrev pub with_pieces : List Piece → Register → Register
+with_pieces ps r = record r { pieces = ps }
+
+-- register n changed by f
+unfoldable pub update : (Register → Register) → ℕ → List Register → List Register
+update f n [] = []
+update f zero (r ∷ rs) = f r ∷ rs
+update f (suc n) (r ∷ rs) = r ∷ update f n rs
+
+-- "A joining or merging register sets class and weight of all members."
+unfoldable pub spread : RegClass → Float → List (Option VirtReg) → List Register → List Register
+unfolding update
+spread c w [] rs = rs
+spread c w (none ∷ ms) rs = spread c w ms rs
+spread c w (some r ∷ ms) rs = spread c w ms (update (with_weight c w) r.0 rs)
+
+-- the class c and the weight w for register v
+abbrev pub with_weight_at : VirtReg → RegClass → Float → State → State
+with_weight_at v c w st = set_registers (update (with_weight c w) v.0 st.registers) st
+
+-- the same for each of the members ms
+abbrev pub spread_to : List (Option VirtReg) → RegClass → Float → State → State
+spread_to ms c w st = set_registers (spread c w ms st.registers) st
+
+-- the pieces ps for register v
+abbrev pub with_pieces_at : VirtReg → List Piece → State → State
+with_pieces_at v ps st = set_registers (update (with_pieces ps) v.0 st.registers) st
+
 -- ---- counts, for the lent tables
 
 unfoldable pub total : {A : Type 0} → (A → ℕ) → List A → ℕ
@@ -58,24 +121,6 @@ least_weight st i j [] w = w
 least_weight st i j (none ∷ ms) w = least_weight st i (suc j) ms w
 least_weight st i j (some r ∷ ms) w = least_weight st i (suc j) ms (cond (eqb i j) w (min_f w (register_at st r).weight))
 
-abbrev pub with_weight : RegClass → Float → Register → Register
-with_weight c w r = record { set = r.set; class = c; weight = w; group = r.group; index = r.index; pieces = r.pieces }
-
-abbrev pub with_pieces : List Piece → Register → Register
-with_pieces ps r = record { set = r.set; class = r.class; weight = r.weight; group = r.group; index = r.index; pieces = ps }
-
-unfoldable pub update : (Register → Register) → ℕ → List Register → List Register
-update f n [] = []
-update f zero (r ∷ rs) = f r ∷ rs
-update f (suc n) (r ∷ rs) = r ∷ update f n rs
-
--- "A joining or merging register sets class and weight of all members."
-unfoldable pub spread : RegClass → Float → List (Option VirtReg) → List Register → List Register
-unfolding update
-spread c w [] rs = rs
-spread c w (none ∷ ms) rs = spread c w ms rs
-spread c w (some r ∷ ms) rs = spread c w ms (update (with_weight c w) r.0 rs)
-
 -- ---- merging
 
 unfoldable pub first_from : List Piece → LiveRangePoint
@@ -109,11 +154,7 @@ unfoldable pub merge_state : Job → Held → HeldGroup → VirtRegGroup → Vir
 unfolding inserted first_from register_at members_at group_weight spread update
 merge_state job h hg g v new st =
     let ps = inserted (first_from new) new (register_at st v).pieces in
-    record {
-      registers = spread h.class (group_weight job h hg (members_at st g) ps st) (members_at st g) (update (with_pieces ps) v.0 st.registers);
-      groups = st.groups;
-      mapping = st.mapping;
-    }
+    spread_to (members_at st g) h.class (group_weight job h hg (members_at st g) ps st) (with_pieces_at v ps st)
 
 unfoldable pub merge : Job → Room → Held → HeldGroup → VirtRegGroup → VirtReg → List Piece → State → Out State
 unfolding gate overlaps first_from last_to has_room register_at merge_state
@@ -128,12 +169,10 @@ made set' h w g i ps = record { set = set'; class = h.class; weight = w; group =
 unfoldable pub join_state : Job → ValueSet → Held → HeldGroup → VirtRegGroup → List Piece → State → State
 unfolding members_at group_weight spread
 join_state job set' h hg g new st =
-    let w = group_weight job h hg (members_at st g) new st in
-    record {
-      registers = spread h.class w (members_at st g) st.registers ++ (made set' h w (some g) hg.index new ∷ []);
-      groups = set st.groups g.0 (set (members_at st g) hg.index (some (vreg (length st.registers))));
-      mapping = st.mapping;
-    }
+    let ms = members_at st g in
+    let w = group_weight job h hg ms new st in
+    let r = made set' h w (some g) hg.index new in
+    set_members g (set ms hg.index (some (vreg (length st.registers)))) (add_register r (spread_to ms h.class w st))
 
 unfoldable pub join : Job → Room → ValueSet → Held → HeldGroup → VirtRegGroup → List Piece → State → Out State
 unfolding if_room has_room join_state
@@ -174,11 +213,10 @@ or_else (some a) d = a
 
 unfoldable pub lead_state : Job → ValueSet → Held → HeldGroup → List Piece → State → List Mapped → State
 unfolding weight_of class_at
-lead_state job set' h hg new st ms = record {
-  registers = st.registers ++ (made set' h (weight_of job h.class (segs_of new)) (some (vrgroup (length st.groups))) hg.index new ∷ []);
-  groups = st.groups ++ (set (replicate (class_at job h.class).size none) hg.index (some (vreg (length st.registers))) ∷ []);
-  mapping = ms;
-}
+lead_state job set' h hg new st ms =
+    let r = made set' h (weight_of job h.class (segs_of new)) (some (vrgroup (length st.groups))) hg.index new in
+    let places = set (replicate (class_at job h.class).size none) hg.index (some (vreg (length st.registers))) in
+    set_mapping ms (add_group places (add_register r st))
 
 unfoldable pub lead : Job → Room → ValueSet → Held → HeldGroup → List Piece → State → Out State
 unfolding gate has_room map_uses uses_of lead_state
@@ -190,11 +228,7 @@ lead job room set' h hg new st =
 
 unfoldable pub alone_state : Job → ValueSet → Held → List Piece → State → State
 unfolding weight_of
-alone_state job set' h new st = record {
-  registers = st.registers ++ (made set' h (weight_of job h.class (segs_of new)) none 0 new ∷ []);
-  groups = st.groups;
-  mapping = st.mapping;
-}
+alone_state job set' h new st = add_register (made set' h (weight_of job h.class (segs_of new)) none 0 new) st
 
 unfoldable pub alone : Job → Room → ValueSet → Held → List Piece → State → Out State
 unfolding if_room has_room alone_state

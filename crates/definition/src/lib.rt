@@ -7,6 +7,9 @@ ghost use Rattle.definition.specs.Text.{bytes};
 ghost use Rattle.definition.specs.SheetForms.{sheet_number_of};
 ghost use Rattle.definition.specs.JobOrder.{order_word};
 
+// How many places a group of values or of registers has at most.
+pub const MAX_GROUP: usize = 8;
+
 // One tuple struct for each kind of index, as the Rust's entity types.
 
 #[derive(Clone, Copy, PartialEq, Eq, PartialOrd, Ord)]

@@ -1,6 +1,6 @@
 -- One piece more: its row, its uses, and the tally with it. Assumes nothing.
 use Rattle.std.specs.Prelude.{◌≡◌, refl, Bool, true, false, ◌||◌, List, [], ◌∷◌, ◌++◌, ℕ, ◌+◌, ◌-◌, ◌*◌, ◌≤◌, ◌<◌, max, length, Float}
-use Rattle.std.proofs.Common.{sym, ap, ◌∙◌, subst, arith, append-nil}
+use Rattle.std.proofs.Common.{length-append, sym, ap, ◌∙◌, subst, arith, append-nil}
 use Rattle.rows.specs.Tab.{tab}
 use Rattle.rows.specs.Parts.{splice}
 use Rattle.definition.specs.declared.Remat.{Remat}
@@ -94,7 +94,7 @@ told_more J ol p u q rm O₁ O₂ O₃ t t' costs l h e er w et O p₀ u₀ ps t
     written_piece ol O p₀ u₀ ps (uses_of (segs_of ps)) O₁ O₂ q u told.written (omega (arith, told.written.long)) (omega arith) eu
     (e ∙ ap (λ (k : ℕ). splice O₁ (seg_base ol + k * 7) (each_piece u q)) ep) in
     record {
-      written = subst (λ (us : List Use). Written ol O p₀ u₀ (ps ++ (q ∷ [])) us O₃) (sym (uses_more ps q)) (w.written O p₀ u₀ (ps ++ (q ∷ [])) (uses_of (segs_of ps)) row (omega arith));
+      written = subst (λ (us : List Use). Written ol O p₀ u₀ (ps ++ (q ∷ [])) us O₃) (sym (uses_more ps q)) (w.written O p₀ u₀ (ps ++ (q ∷ [])) (uses_of (segs_of ps)) row (omega (arith, length-append ps (q ∷ []))) (omega arith));
       sum =
           ap (λ (c : Costs). c.total.value) et.costs
           ∙ w.sum

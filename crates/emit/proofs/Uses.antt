@@ -22,7 +22,7 @@ module _ (J : Job) (ol : OutLayout) (u : ℕ) (r : Remat) where
   uses_nil O s n = record {
     near = n;
     sum = refl;
-    written = λ O₀ p₀ u₀ ps us w e. subst (λ (l : List Use). Written ol O₀ p₀ u₀ ps l O) (sym (append-nil us)) w;
+    written = λ O₀ p₀ u₀ ps us w f e. subst (λ (l : List Use). Written ol O₀ p₀ u₀ ps l O) (sym (append-nil us)) w;
   }
 
   -- those of xs, then those of ys
@@ -33,9 +33,9 @@ module _ (J : Job) (ol : OutLayout) (u : ℕ) (r : Remat) where
     near = b.near;
     sum = b.sum ∙ ap (λ (y : Float). sum_uses J r y ys) a.sum ∙ sym (uses_append J r s₁.total.value xs ys);
     written =
-        λ O p₀ u₀ ps us w eu.
+        λ O p₀ u₀ ps us w f eu.
         subst (λ (l : List Use). Written ol O p₀ u₀ ps l O₃) (append_assoc us xs ys)
-        (b.written O p₀ u₀ ps (us ++ xs) (a.written O p₀ u₀ ps us w eu) (omega (arith, length-append us xs)));
+        (b.written O p₀ u₀ ps (us ++ xs) (a.written O p₀ u₀ ps us w f eu) f (omega (arith, length-append us xs)));
   }
 
   -- one use
@@ -47,8 +47,8 @@ module _ (J : Job) (ol : OutLayout) (u : ℕ) (r : Remat) where
     near = n;
     sum = es;
     written =
-        λ O p₀ u₀ ps us w eu.
-        written_use ol O p₀ u₀ ps us O₁ O₂ x w (omega (arith, w.long)) (omega arith) (e ∙ ap (λ (j : ℕ). splice O₁ (use_base ol + j * 6) (use_words x)) eu);
+        λ O p₀ u₀ ps us w f eu.
+        written_use ol O p₀ u₀ ps us O₁ O₂ x w (omega (arith, w.long)) f (omega arith) (e ∙ ap (λ (j : ℕ). splice O₁ (use_base ol + j * 6) (use_words x)) eu);
   }
 
 module _ (J : Job) (ol : OutLayout) (u : ℕ) (r : Remat) (f : ℕ → Use) (a : ℕ) where

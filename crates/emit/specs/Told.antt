@@ -69,7 +69,7 @@ pub record UsesAdd (J : Job) (ol : OutLayout) (u : ℕ) (r : Remat) (xs : List U
   pub near : NearFits J.blocks t.near
   pub sum : t.total.value ≡ sum_uses J r s.total.value xs
   pub written : (O : List ℕ) (p₀ u₀ : ℕ) (ps : List Piece) (us : List Use) → Written ol O p₀ u₀ ps us O₁
-      → u ≡ u₀ + length us → Written ol O p₀ u₀ ps (us ++ xs) O₂
+      → p₀ + length ps ≤ ol.segs → u ≡ u₀ + length us → Written ol O p₀ u₀ ps (us ++ xs) O₂
 
 -- ---- pieces
 

@@ -14,6 +14,7 @@ use Rattle.layout.specs.declared.Layout.{Layout}
 use Rattle.virt_regs.specs.declared.OutLayout.{OutLayout}
 use Rattle.virt_regs.specs.declared.Counts.{Counts}
 use Rattle.virt_regs.specs.Encoding.{tables_end, room_of, counts_of, Holds}
+use Rattle.virt_regs.specs.Held.{fit_registers, fit_groups}
 use Rattle.virt_regs.specs.Reads.{pieces_in_lem, span_in}
 use Rattle.vreg_put.specs.Written.{Written}
 use Rattle.vreg_find.specs.Ends.{ends_le}
@@ -75,7 +76,7 @@ module _ (J : Job) (ol : OutLayout) (O : List ℕ) (p u : ℕ) (ps : List Piece)
 pub can_decide : (J : Job) (ol : OutLayout) (O : List ℕ) (c : Counts) (h : Held) (st : State) (ps : List Piece) → Setting J ol O c h st ps → (n : ℕ) → tables_end ol ≤ n → plan.Asked n O ol h
 can_decide J ol O c h st ps s n l = record {
   long = l;
-  target = λ g v eg ev. let here = s.fits.target g v eg ev in (omega (arith, here, s.holds.fit_registers), span_in ol O st s.holds v here);
+  target = λ g v eg ev. let here = s.fits.target g v eg ev in (omega (arith, here, fit_registers s.holds), span_in ol O st s.holds v here);
 }
 
 -- ---- by the plan
@@ -97,7 +98,7 @@ module _ (twice : Bool) (J : Job) (ol : OutLayout) (O : List ℕ) (c : Counts) (
       ready_fair J ol O O₂ c n.pieces n.uses n.hint st ps s.holds s.counts w₁ f.pieces f.uses f.hinted s.fair
 
   groups_fit : c.groups + 1 < 2 ^ 32
-  groups_fit = let e : c.groups ≡ length st.groups = ap (λ (x : Counts). x.groups) s.counts in omega (arith, sm.3, s.holds.fit_groups)
+  groups_fit = let e : c.groups ≡ length st.groups = ap (λ (x : Counts). x.groups) s.counts in omega (arith, sm.3, fit_groups s.holds)
 
   -- ---- into gaps
 
@@ -195,7 +196,7 @@ module _ (twice : Bool) (J : Job) (ol : OutLayout) (O : List ℕ) (c : Counts) (
       let y = s.fits.index q.group q.held in (
         new_space 0 w.room',
         spreadable_written ol O O₂ st g _ _ ps _ s.holds x.0.written x.1,
-        omega (arith, x.1, sm.3, s.holds.fit_groups),
+        omega (arith, x.1, sm.3, fit_groups s.holds),
         omega (arith, y.0, y.1, q.index),
       )
   can_finish (plans.Merge g v i k) O₂ w x = gap_merging g v i k w.room' w.way O₂ x.0

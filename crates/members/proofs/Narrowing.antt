@@ -13,6 +13,7 @@ use borrow.Author.Tests.{ltb-true, ltb-false}
 use Rattle.definition.specs.declared.RegClass.{RegClass}
 use Rattle.definition.specs.declared.VirtReg.{VirtReg}
 use Rattle.definition.specs.declared.VirtRegGroup.{VirtRegGroup}
+use Rattle.definition.specs.Limits.{max_group}
 use Rattle.definition.specs.Types.{Job, State, cls}
 use Rattle.definition.specs.RegInfo.{common_subclass}
 use Rattle.definition.specs.Admit.{register_at, members_at, narrowed}
@@ -120,7 +121,7 @@ module _ {ol : OutLayout} {O : List ℕ} {job : Job} {g : VirtRegGroup} {k : Reg
       ∙ narrow_step job st (members_at st g) i n
       ∙ bind_none (λ x. narrowed job st (drop (i + 1) (members_at st g)) x) (found_none r _ (here st h) e)))
 
-pub narrow_end : {ol : OutLayout} {O : List ℕ} {job : Job} {g : VirtRegGroup} {k : RegClass} {i : ℕ} {n : RegClass} → Narrowing ol O job g k i n → 8 ≤ i
+pub narrow_end : {ol : OutLayout} {O : List ℕ} {job : Job} {g : VirtRegGroup} {k : RegClass} {i : ℕ} {n : RegClass} → Narrowing ol O job g k i n → max_group ≤ i
     → (st : State) → Holds ol O st → Some n ≡ found_of (narrowed job st (members_at st g) k)
 unfolding narrowed
 narrow_end {ol} {O} {job} {g} {k} {i} {n} f l st h =

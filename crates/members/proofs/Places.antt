@@ -6,22 +6,23 @@ use mathlib.Core.List.{List, []}
 use Prim.Native.Nat.{ℕ, ◌+◌, ◌-◌, ◌*◌, ◌≤◌, ◌<◌}
 use native.Mathlib.Omega.{arith}
 use lib.Dec.{ltb}
-use lib.ListN.{length, get_or, replicate, get_or-eq_default, get_or-replicate}
+use lib.ListN.{length, get_or, get_or-eq_default}
 use borrow.Author.Tests.{ltb-true, ltb-false}
-use Rattle.rows.specs.Parts.{pad, get_d_past}
 use Rattle.definition.specs.declared.VirtReg.{VirtReg}
 use Rattle.definition.specs.declared.VirtRegGroup.{VirtRegGroup}
+use Rattle.definition.specs.Limits.{max_group}
 use Rattle.definition.specs.Types.{State, vreg, vrgroup}
 use Rattle.definition.specs.Admit.{members_at}
 use Rattle.virt_regs.specs.declared.OutLayout.{OutLayout}
-use Rattle.virt_regs.specs.Part.{part_get}
-use Rattle.virt_regs.specs.Encoding.{group_base, tables_end, group_word, place_word, group_rows, Holds}
+use Rattle.rows.specs.Tables.{table_zero}
+use Rattle.virt_regs.specs.Held.{fit_groups}
+use Rattle.virt_regs.specs.Encoding.{group_row, tables, contents, group_base, group_word, place_word, Holds}
 use Rattle.virt_regs.specs.Counting.{length_groups}
 use Rattle.virt_regs.specs.Reads.{member_held, size_le, member_lt}
 use Rattle.std.specs.Prelude.{Some, None, IfSome, IsSomeAnd, MatchOption}
-use Rattle.std.specs.Prelude as code
 use Rattle.std.specs.Option.{option_map}
 use Rattle.members.specs.Places.{number_word, option_of}
+use Rattle.std.specs.Prelude as code
 
 -- ---- what a word stands for
 
@@ -61,10 +62,10 @@ module _ (ol : OutLayout) (O : List ℕ) (st : State) (h : Holds ol O st) (g : V
   unfolding members_at
   no_members l = get_or-eq_default st.groups [] l
 
-  pub width : length (members_at st g) ≤ 8
+  pub width : length (members_at st g) ≤ max_group
   width = go (ltb g.0 (length st.groups)) refl
     where
-      go : (b : Bool) → ltb g.0 (length st.groups) ≡ b → length (members_at st g) ≤ 8
+      go : (b : Bool) → ltb g.0 (length st.groups) ≡ b → length (members_at st g) ≤ max_group
       go true e = size_le ol O st h g (ltb-true _ _ e)
       go false e = rw (no_members (ltb-false _ _ e)) (omega arith)
 
@@ -79,35 +80,28 @@ module _ (ol : OutLayout) (O : List ℕ) (st : State) (h : Holds ol O st) (g : V
           absurd (omega arith)
 
   -- the words behind the last group are zeros
-  zero_word : (j : ℕ) → length st.groups * 9 ≤ j → j < ol.groups * 9 → get_or O (group_base ol + j) 0 ≡ 0
-  unfolding pad
+  zero_word : (j : ℕ) → length st.groups * group_row ≤ j → j < ol.groups * group_row → get_or O (group_base ol + j) 0 ≡ 0
   zero_word j l k =
-      let xs : List ℕ = group_rows st.groups in
-      let n : length xs ≡ length st.groups * 9 = length_groups st.groups in
-      let s : j ≡ length xs + (j - length xs) = omega arith in
-      sym (part_get (group_base ol) (tables_end ol) j O (omega arith))
-      ∙ ap (λ (t : List ℕ). get_or t j 0) h.groups
-      ∙ get_d_past xs (replicate (ol.groups * 9 - length xs) 0) j (j - length xs) 0 s
-      ∙ get_or-replicate (ol.groups * 9 - length xs) (j - length xs) 0 0 (omega arith)
+      table_zero (tables ol) (contents st) O h.tabled 3 (omega arith) (group_base ol + j) j refl (omega (arith, length_groups st.groups)) k
 
-  pub place_word_lem : (i w : ℕ) → i < 8 → g.0 < ol.groups → w ≡ get_or O (group_base ol + (g.0 * 9 + (i + 1))) 0 → w ≡ place_word (get_or (members_at st g) i none)
+  pub place_word_lem : (i w : ℕ) → i < max_group → g.0 < ol.groups → w ≡ get_or O (group_base ol + (g.0 * group_row + (i + 1))) 0 → w ≡ place_word (get_or (members_at st g) i none)
   place_word_lem i w l k e = e ∙ go (ltb g.0 (length st.groups)) refl
     where
-      go : (b : Bool) → ltb g.0 (length st.groups) ≡ b → get_or O (group_base ol + (g.0 * 9 + (i + 1))) 0 ≡ place_word (get_or (members_at st g) i none)
+      go : (b : Bool) → ltb g.0 (length st.groups) ≡ b → get_or O (group_base ol + (g.0 * group_row + (i + 1))) 0 ≡ place_word (get_or (members_at st g) i none)
       go true q = member_held ol O st h g i (ltb-true _ _ q) l
       go false q =
           let p : length st.groups ≤ g.0 = ltb-false _ _ q in
-          zero_word (g.0 * 9 + (i + 1)) (omega arith) (omega arith)
+          zero_word (g.0 * group_row + (i + 1)) (omega arith) (omega arith)
           ∙ sym (ap (λ (ms : List (Option VirtReg)). place_word (get_or ms i none)) (no_members p))
 
-  pub no_place : (i : ℕ) → 8 ≤ i → none ≡ get_or (members_at st g) i none
+  pub no_place : (i : ℕ) → max_group ≤ i → none ≡ get_or (members_at st g) i none
   no_place i l =
       let p : length (members_at st g) ≤ i = omega (arith, width) in
       sym (get_or-eq_default (members_at st g) none p)
 
   pub no_group : (i : ℕ) → ol.groups ≤ g.0 → none ≡ get_or (members_at st g) i none
   no_group i l =
-      let p : length st.groups ≤ g.0 = omega (arith, h.fit_groups) in
+      let p : length st.groups ≤ g.0 = omega (arith, fit_groups h) in
       sym (ap (λ (ms : List (Option VirtReg)). get_or ms i none) (no_members p))
 
   -- a member is one of the registers

@@ -13,7 +13,7 @@ ghost use Rattle.reginfo.specs.Rows.{found_of};
 ghost use Rattle.virt_regs.specs.Encoding.{tables_end, Holds};
 ghost use Rattle.members.specs.Places.{number_word, option_of, narrowed_at, joined_of};
 
-use definition::{RegClass, VirtReg, VirtRegGroup};
+use definition::{MAX_GROUP, RegClass, VirtReg, VirtRegGroup};
 use frame::Frame;
 use virt_regs::OutLayout;
 
@@ -40,7 +40,7 @@ pub fn member_at(out: &[u8], ol: OutLayout, g: VirtRegGroup, i: usize) -> Option
     if ol.groups <= k {
         return None;
     }
-    if 8 <= i {
+    if MAX_GROUP <= i {
         return None;
     }
     let w = virt_regs::member_at(out, ol, g, i);
@@ -78,7 +78,7 @@ pub fn narrowed_by(fr: &Frame, out: &[u8], g: VirtRegGroup, k: RegClass) -> Opti
     ensures { (st : State) → Holds fr.now.ol (words_of out.now) st → result ≡ found_of (narrowed (job_in fr.now.job) st (members_at st g) k) }
 {
     let mut class = k;
-    for i in 0..8 {
+    for i in 0..MAX_GROUP {
         let m = member_at(out, fr.ol, g, i);
         class = narrow(fr, out, class, m)?;
     }

@@ -25,9 +25,10 @@ use Rattle.definition.specs.Place.{pieces_in, uses_of_pieces, uses_of, segs_of, 
 use Rattle.virt_regs.specs.declared.OutLayout.{OutLayout}
 use Rattle.virt_regs.specs.declared.Counts.{Counts}
 use Rattle.virt_regs.specs.declared.RegisterRow.{RegisterRow}
-use Rattle.virt_regs.specs.Part.{part, part_get, part_ahead}
+use Rattle.rows.specs.Part.{part, part_get, part_ahead}
 use Rattle.virt_regs.specs.Each.{Each}
 use Rattle.virt_regs.specs.Encoding.{group_base, tables_end, group_word, hint_word, register_words, register_row, counts_of, Weighs, Typed, Holds}
+use Rattle.virt_regs.specs.Held.{held_long, fit_registers, fit_groups}
 use Rattle.virt_regs.specs.Update.{length_update}
 use Rattle.virt_regs.specs.Reads.{first_piece, first_use, first_held, count_held, member_lt, pieces_in_lem, span_in, holds_mapping}
 use Rattle.vreg_put.specs.Written.{Written, holds_added}
@@ -61,7 +62,7 @@ spreadable_kept ol g O O' e s =
 -- after pieces and uses have been written
 pub spreadable_written : (ol : OutLayout) (O O' : List ℕ) (st : State) (g : VirtRegGroup) (p u : ℕ) (ps : List Piece) (us : List Use) → Holds ol O st → Written ol O p u ps us O' → g.0 < length st.groups
     → Spreadable ol g O'
-spreadable_written ol O O' st g p u ps us h w l = spreadable_kept ol g O O' w.groups (spread_able ol O st h g l)
+spreadable_written ol O O' st g p u ps us h w l = spreadable_kept ol g O O' (w.behind (group_base ol) (tables_end ol) (omega arith) (omega (arith, held_long h))) (spread_able ol O st h g l)
 
 -- after a register's row
 pub spreadable_row : (ol : OutLayout) (g : VirtRegGroup) (O O' : List ℕ) (v : ℕ) (row : RegisterRow) → O' ≡ splice O (v * 8) (register_words row) → v < ol.regs → tables_end ol ≤ length O
@@ -89,7 +90,7 @@ module _ (J : Job) (ol : OutLayout) (O O₁ : List ℕ) (c : Counts) (np nu : �
   pub ready_weight : (k : RegClass) (w : ℕ) → WeightFrom J ol O₁ c.segs np k w → BitsOf w (weight_of J k (segs_of ps))
   ready_weight k w f =
       let shown : Shown ol O₁ c.segs c.uses ps =
-      shown_written ol O O₁ c.segs c.uses ps r.written r.holds.long (omega (arith, r.pieces, s.segs)) (omega (arith, r.uses, s.uses)) (typed_uses (uses_of (segs_of ps)) r.typed) in
+      shown_written ol O O₁ c.segs c.uses ps r.written (held_long r.holds) (omega (arith, r.pieces, s.segs)) (omega (arith, r.uses, s.uses)) (typed_uses (uses_of (segs_of ps)) r.typed) in
       f c.uses ps shown r.pieces r.weighed.inside r.weighed.least r.weighed.most
 
   -- its row behind the registers held
@@ -166,9 +167,9 @@ module _ (J : Job) (ol : OutLayout) (O O₁ : List ℕ) (c : Counts) (np nu : �
       let rs : List Register = st.registers in
       let ms : List (Option VirtReg) = members_at st g in
       let x : Float = least_weight st i 0 ms (weight_of J k (segs_of ps)) in
-      let fit : g.0 < ol.groups = omega (arith, r.holds.fit_groups) in
+      let fit : g.0 < ol.groups = omega (arith, fit_groups r.holds) in
       let b : BitsOf w x =
-      subst (λ (y : Float). BitsOf w (least_weight st i 0 ms y)) b₀.1 (lf st (members_written ol O O₁ st g c.segs c.uses ps (uses_of (segs_of ps)) r.written fit (members_held ol O st g r.holds here))) in
+      subst (λ (y : Float). BitsOf w (least_weight st i 0 ms y)) b₀.1 (lf st (members_written ol O O₁ st g c.segs c.uses ps (uses_of (segs_of ps)) r.written (held_long r.holds) fit (members_held ol O st g r.holds here))) in
       let q : Register = record { set = vs; class = k; weight = x; group = some g; index = i; pieces = ps } in
       let one = added vs k x (some g) i w O₂ b l e₂ in
       let st₂ : State = record { registers = rs ++ (q ∷ []); groups = st.groups; mapping = st.mapping } in
@@ -219,7 +220,7 @@ pub filled_asks : (J : Job) (ol : OutLayout) (O : List ℕ) (c : Counts) (np nu 
     → Spreadable ol g O × (v.0 < ol.regs) × (get_or O (v.0 * 8 + 6) 0 + get_or O (v.0 * 8 + 7) 0 ≤ ol.segs)
 filled_asks J ol O c np nu v st new g f l =
     let there : v.0 < length (with_new v new st).registers = omega (arith, f.here, length_update (with_pieces (all_of v new st)) v.0 st.registers) in
-    (spread_able ol O (with_new v new st) f.holds g l, omega (arith, f.holds.fit_registers), span_in ol O (with_new v new st) f.holds v there)
+    (spread_able ol O (with_new v new st) f.holds g l, omega (arith, fit_registers f.holds), span_in ol O (with_new v new st) f.holds v there)
 
 -- the weight of all of its pieces, read off their rows
 pub merge_weight : (J : Job) (ol : OutLayout) (O : List ℕ) (c : Counts) (np nu : ℕ) (v : VirtReg) (st : State) (new : List Piece) (k : RegClass) (p m w : ℕ) → Filled J ol c np nu v st new O

@@ -23,6 +23,7 @@ use Rattle.virt_regs.specs.declared.Counts.{Counts}
 use Rattle.virt_regs.specs.Encoding.{tables_end, counts_of, Holds}
 use Rattle.constraints.specs.declared.Held.{Held}
 use Rattle.work_layout.specs.declared.WorkLayout.{WorkLayout}
+use Rattle.virt_regs.specs.Held.{fit_groups}
 use Rattle.constraints.specs.Ready as constraints
 use Rattle.part_maps.specs.Maps.{MapApart, Outside}
 use Rattle.part_maps.proofs.Kept.{ready_kept}
@@ -84,7 +85,7 @@ module _ {t w n : ℕ} {W K O : List ℕ} {lay : Layout} {wl : WorkLayout} {ol :
 
     -- groups are counted by words
     pub asks_groups : c.groups + 1 < 2 ^ 32
-    asks_groups = omega (arith, ap (λ (y : Counts). y.groups) k.counts, k.holds.fit_groups, k.small.3)
+    asks_groups = omega (arith, ap (λ (y : Counts). y.groups) k.counts, fit_groups k.holds, k.small.3)
 
     pub asks_small : Small ol
     asks_small = (k.small.0, k.small.1, k.small.2, k.small.3)

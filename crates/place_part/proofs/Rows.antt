@@ -21,6 +21,7 @@ use Rattle.set_part.specs.declared.SetPart.{SetPart}
 use Rattle.set_part.specs.Part.{PartOk, part_row, seg_by, marked_use, part_segs}
 use Rattle.virt_regs.specs.declared.OutLayout.{OutLayout}
 use Rattle.virt_regs.specs.declared.Counts.{Counts}
+use Rattle.virt_regs.specs.Held.{fit_groups}
 use Rattle.vreg_weight.specs.Fair.{Fair}
 use Rattle.emit.specs.declared.tally.Tally.{Tally}
 use Rattle.emit.specs.Told.{Told}
@@ -74,7 +75,7 @@ module _ (K : List ℕ) (m : ℕ) (W : List ℕ) (lay : Layout) (sp : SetPart) (
 module _ {t w o : ℕ} {W K O : List ℕ} {lay : Layout} {ol : OutLayout} {wl : WorkLayout} {sp : SetPart} {h : Held} {c : Counts} (a : Asked t w o W K O lay ol wl sp h c) where
   -- groups are counted by words
   pub asked_groups : c.groups + 1 < 2 ^ 32
-  asked_groups = let e = ap (λ (x : Counts). x.groups) a.counts in omega (arith, e, a.groups, a.holds.fit_groups)
+  asked_groups = let e = ap (λ (x : Counts). x.groups) a.counts in omega (arith, e, a.groups, fit_groups a.holds)
 
   pub asked_small : Small ol
   asked_small = (a.regs, a.segs, a.uses, a.groups)

@@ -3,3 +3,5 @@ pub mod RowsAt
 pub mod Parts
 pub mod Moves
 pub mod Rows
+pub mod Part
+pub mod Tables

@@ -15,6 +15,7 @@ use Rattle.virt_regs.specs.declared.OutLayout.{OutLayout}
 use Rattle.virt_regs.specs.declared.PieceRow.{PieceRow}
 use Rattle.virt_regs.specs.declared.RegisterRow.{RegisterRow}
 use Rattle.virt_regs.specs.Encoding.{seg_base, use_base, group_base}
+use Rattle.virt_regs.specs.Held.{fit_registers, fit_segments, fit_uses, fit_groups}
 use Rattle.virt_regs.specs.Reads.{piece_at, first_piece, first_use, piece_in, piece_held}
 use Rattle.register_sheet.specs.Typed.{end_line}
 use Rattle.sheet_output.specs.declared.Cursor.{Cursor}
@@ -35,15 +36,27 @@ module _ {ol : OutLayout} {w : ℕ} {O : List ℕ} {regs groups : ℕ} {c : Curs
   seg_in l = omega (arith, a.stands.segs_end_lem, first_piece_le a.st c.regs)
 
   pub use_asked : c.uses < c.uses_end → (c.uses < ol.uses) × (get_or O (use_base ol + c.uses * 6) 0 < 10)
-  use_asked l = (omega (arith, use_in l, a.holds.fit_uses), kind_held ol O a.st a.holds c.uses (use_in l))
+  use_asked l = (omega (arith, use_in l, fit_uses a.holds), kind_held ol O a.st a.holds c.uses (use_in l))
 
   pub seg_asked : c.segs < c.segs_end → c.segs < ol.segs
-  seg_asked l = omega (arith, seg_in l, a.holds.fit_segments)
+  seg_asked l = omega (arith, seg_in l, fit_segments a.holds)
+
+  pub vreg_asked : c.regs < regs → (c.regs * 8 + 8 ≤ w) × (c.regs < 2 ^ 32)
+  vreg_asked l = (
+    omega (arith, a.has_registers, fit_registers a.holds, a.long),
+    omega (arith, a.has_registers, fit_registers a.holds, a.few_regs),
+  )
+
+  pub end_asked : (regs < 2 ^ 32) × (groups < 2 ^ 32)
+  end_asked = (
+    omega (arith, a.has_registers, fit_registers a.holds, a.few_regs),
+    omega (arith, a.has_groups, fit_groups a.holds, a.few_groups),
+  )
 
   pub group_asked : c.groups < groups → (c.groups < ol.groups) × (c.groups < 2 ^ 32) × (get_or O (group_base ol + c.groups * 9) 0 ≤ 8)
   group_asked l = (
-    omega (arith, a.has_groups, a.holds.fit_groups),
-    omega (arith, a.has_groups, a.holds.fit_groups, a.few_groups),
+    omega (arith, a.has_groups, fit_groups a.holds),
+    omega (arith, a.has_groups, fit_groups a.holds, a.few_groups),
     size_most ol O a.st a.holds c.groups (omega (arith, a.has_groups)),
   )
 

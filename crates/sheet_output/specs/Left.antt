@@ -3,7 +3,6 @@ use Rattle.std.specs.Prelude.{◌≡◌, false, cond, List, [], ◌∷◌, ◌++
 use Rattle.definition.specs.declared.Use.{Use}
 use Rattle.definition.specs.Types.{Piece, State, vreg}
 use Rattle.definition.specs.Place.{uses_of, segs_of}
-use Rattle.definition.specs.Build.{Result}
 use Rattle.definition.specs.Lines.{Line, end_line_lem, use_lines, seg_lines, vreg_lines, group_lines}
 use Rattle.definition.specs.RegisterSheet.{lines_bytes}
 use Rattle.virt_regs.specs.declared.OutLayout.{OutLayout}
@@ -50,7 +49,3 @@ pub record Stands (st : State) (c : Cursor) : Type 0 where
 -- how many lines there can be from the cursor on
 abbrev pub rows_left : OutLayout → ℕ → ℕ → Cursor → ℕ
 rows_left ol regs groups c = (ol.uses - c.uses) + (ol.segs - c.segs) + (regs - c.regs) + (groups - c.groups) + cond c.ended 0 1
-
--- a state's registers and groups
-abbrev pub result_of : State → Result
-result_of st = record { registers = st.registers; groups = st.groups }

@@ -4,15 +4,17 @@ use Rattle.std.proofs.Common.{sym, ap, ◌∙◌, append_assoc, append-nil, arit
 use Rattle.words.specs.Words.{word_count, words_of}
 use Rattle.words.specs.Laws.{length_words}
 use Rattle.definition.specs.Types.{State, done}
+use Rattle.definition.specs.Build.{result_of}
 use Rattle.definition.specs.Place.{uses_of}
 use Rattle.definition.specs.Lines.{Line, use_lines, seg_lines, vreg_lines, group_lines, printed}
 use Rattle.definition.specs.RegisterSheet.{lines_bytes, register_sheet}
 use Rattle.virt_regs.specs.declared.OutLayout.{OutLayout}
 use Rattle.virt_regs.specs.Encoding.{all_pieces, Holds}
+use Rattle.virt_regs.specs.Held.{held_long}
 use Rattle.virt_regs.specs.Reads.{first_piece, first_use}
 use Rattle.sheet_output.specs.declared.Cursor.{Cursor}
 use Rattle.lines.specs.declared.Page.{Page}
-use Rattle.sheet_output.specs.Left.{at_start, uses_left, pieces_left, open_lines, lines_left, text_left, Stands, result_of}
+use Rattle.sheet_output.specs.Left.{at_start, uses_left, pieces_left, open_lines, lines_left, text_left, Stands}
 use Rattle.sheet_output.specs.Pages.{Shows, Paged}
 
 -- at the start the whole sheet is left
@@ -34,7 +36,7 @@ pub start_shows : (ol : OutLayout) (x : List ℕ) (st : State) → ol.regs < 2 ^
     → Shows ol (word_count x) (words_of x) (length st.registers) (length st.groups) at_start
 start_shows ol x st a b h =
     record {
-      long = omega (arith, h.long, length_words x);
+      long = omega (arith, held_long h, length_words x);
       few_regs = a;
       few_groups = b;
       st = st;

@@ -7,7 +7,7 @@ use Rattle.definition.specs.declared.VirtReg.{VirtReg}
 use Rattle.definition.specs.declared.Use.{Use}
 use Rattle.definition.specs.Types.{Piece, Register, State}
 use Rattle.definition.specs.Place.{total, pieces_in, uses_of_pieces, uses_in, uses_of, segs_of}
-use Rattle.virt_regs.specs.Encoding.{all_pieces, past_pieces, used_by, still, each_register, each_piece, each_use, each_group, register_rows, piece_rows, use_rows, group_rows, Placed}
+use Rattle.virt_regs.specs.Encoding.{group_row, all_pieces, past_pieces, used_by, still, each_register, each_piece, each_use, each_group, register_rows, piece_rows, use_rows, group_rows, Placed}
 
 pub all_append : (rs ss : List Register) → all_pieces (rs ++ ss) ≡ all_pieces rs ++ all_pieces ss
 unfolding all_pieces
@@ -65,8 +65,8 @@ length_pieces f ps = length_rows each_piece used_by 7 (λ σ a. refl) f ps
 pub length_uses : (us : List Use) → length (use_rows us) ≡ length us * 6
 length_uses us = length_rows each_use still 6 (λ σ a. refl) tt us
 
-pub length_groups : (gs : List (List (Option VirtReg))) → length (group_rows gs) ≡ length gs * 9
-length_groups gs = length_rows each_group still 9 (λ σ a. refl) tt gs
+pub length_groups : (gs : List (List (Option VirtReg))) → length (group_rows gs) ≡ length gs * group_row
+length_groups gs = length_rows each_group still group_row (λ σ a. refl) tt gs
 
 -- a group among more registers
 pub placed_more : (ms : List (Option VirtReg)) (n k : ℕ) → n ≤ k → Placed n ms → Placed k ms

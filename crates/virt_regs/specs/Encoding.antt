@@ -1,10 +1,9 @@
 -- The rows of the result tables, and what it is for a list of words to hold a state's registers and groups. Assumes nothing.
-use Rattle.std.specs.Prelude.{◌≡◌, Bool, cond, List, [], ◌∷◌, ◌++◌, ℕ, ◌+◌, ◌*◌, ◌≤◌, ◌<◌, length, get_or, Float}
+use Rattle.std.specs.Prelude.{◌≡◌, Bool, cond, List, [], ◌∷◌, ◌++◌, ℕ, ◌+◌, ◌≤◌, ◌<◌, length, get_or, Float}
 use Rattle.std.proofs.Math.Option.{Option, none, some}
 use Rattle.std.specs.Float.{binary32}
 use Rattle.std.specs.Float.Ieee.{to_bits, of_bits}
 use Rattle.rows.specs.Tab.{tab}
-use Rattle.rows.specs.Parts.{pad}
 use Rattle.rows.specs.Rows.{rows_of}
 use Rattle.definition.specs.declared.VirtReg.{VirtReg}
 use Rattle.definition.specs.declared.VirtRegGroup.{VirtRegGroup}
@@ -13,6 +12,7 @@ use Rattle.definition.specs.declared.UseKind.{UseKind}
 use Rattle.definition.specs.declared.UseKind.TheVariants.{FixedDef, FixedUse, TiedUse, ConstraintConflict, ClassUse, ClassDef, GroupClassUse, GroupClassDef, BlockparamIn, BlockparamOut}
 use Rattle.definition.specs.declared.Origin.{Origin}
 use Rattle.definition.specs.declared.Origin.TheVariants.{Own, Conflict}
+use Rattle.definition.specs.Limits.{max_group}
 use Rattle.definition.specs.Types.{Piece, Register, State, Room}
 use Rattle.definition.specs.Place.{pieces_in, uses_in, uses_of, segs_of}
 use Rattle.definition.specs.Lines.{use_numbers, flags_number, hint_in}
@@ -20,22 +20,30 @@ use Rattle.virt_regs.specs.declared.OutLayout.{OutLayout}
 use Rattle.virt_regs.specs.declared.Counts.{Counts}
 use Rattle.virt_regs.specs.declared.RegisterRow.{RegisterRow}
 use Rattle.virt_regs.specs.declared.PieceRow.{PieceRow}
-use Rattle.virt_regs.specs.Part.{part}
+use Rattle.rows.specs.Tables.{Table, table, base_of, end_of, Tabled}
 use Rattle.virt_regs.specs.Each.{Each}
 
--- ---- where the tables begin, in words: registers at 0
+-- the words of a group's row: the number of its places, and a word for each
+abbrev pub group_row : ℕ
+group_row = max_group + 1
 
+-- ---- the tables of a result, in their order: the words in a row, and the rows that each can hold
+
+abbrev pub tables : OutLayout → List Table
+tables ol = table 8 ol.regs ∷ table 7 ol.segs ∷ table 6 ol.uses ∷ table group_row ol.groups ∷ []
+
+-- where they begin, in words: registers at 0
 abbrev pub seg_base : OutLayout → ℕ
-seg_base ol = ol.regs * 8
+seg_base ol = base_of 1 (tables ol)
 
 abbrev pub use_base : OutLayout → ℕ
-use_base ol = ol.regs * 8 + ol.segs * 7
+use_base ol = base_of 2 (tables ol)
 
 abbrev pub group_base : OutLayout → ℕ
-group_base ol = ol.regs * 8 + ol.segs * 7 + ol.uses * 6
+group_base ol = base_of 3 (tables ol)
 
 abbrev pub tables_end : OutLayout → ℕ
-tables_end ol = ol.regs * 8 + ol.segs * 7 + ol.uses * 6 + ol.groups * 9
+tables_end ol = end_of (tables ol)
 
 abbrev pub room_of : OutLayout → Room
 room_of ol = record { registers = ol.regs; segments = ol.segs; uses = ol.uses; groups = ol.groups }
@@ -93,9 +101,9 @@ piece_row f p = record {
 abbrev pub use_words : Use → List ℕ
 use_words u = tab (λ i. get_or (use_numbers u) i 0) 0 6
 
--- the number of places, and a word for each of eight places
+-- the number of places, and a word for each that a group may have
 abbrev pub group_words : List (Option VirtReg) → List ℕ
-group_words ms = length ms ∷ tab (λ i. place_word (get_or ms i none)) 0 8
+group_words ms = length ms ∷ tab (λ i. place_word (get_or ms i none)) 0 max_group
 
 -- ---- tables
 
@@ -146,9 +154,9 @@ counts_of st = record { regs = length st.registers; segs = pieces_in st; uses = 
 unfoldable pub Weighs : Float → Type 0
 Weighs w = (of_bits binary32 (to_bits binary32 w) ≡ w) × (to_bits binary32 w ≤ 2139095040)
 
--- a group among n registers: at most eight places, whose members are registers
+-- a group among n registers: as many places as a group may have, whose members are registers
 unfoldable pub Placed : ℕ → List (Option VirtReg) → Type 0
-Placed n ms = (length ms ≤ 8) × ((i : ℕ) (r : VirtReg) → get_or ms i none ≡ some r → r.0 < n)
+Placed n ms = (length ms ≤ max_group) × ((i : ℕ) (r : VirtReg) → get_or ms i none ≡ some r → r.0 < n)
 
 -- the fields of a use fit their UseKind types
 unfoldable pub TypedKind : UseKind → Type 0
@@ -166,17 +174,18 @@ TypedKind BlockparamOut = Unit {0}
 abbrev pub Typed : Use → Type 0
 Typed u = TypedKind u.kind
 
+-- the rows of each table, in the order of `tables`
+abbrev pub contents : State → List (List ℕ)
+contents st =
+    register_rows 0 st.registers
+    ∷ piece_rows 0 (all_pieces st.registers)
+    ∷ use_rows (uses_of (segs_of (all_pieces st.registers)))
+    ∷ group_rows st.groups
+    ∷ []
+
 -- The words O hold the registers and groups of st, with zeros behind the rows of each table.
 pub record Holds (ol : OutLayout) (O : List ℕ) (st : State) : Type 0 where
-  pub long : tables_end ol ≤ length O
-  pub fit_registers : length st.registers ≤ ol.regs
-  pub fit_segments : pieces_in st ≤ ol.segs
-  pub fit_uses : uses_in st ≤ ol.uses
-  pub fit_groups : length st.groups ≤ ol.groups
-  pub registers : part 0 (seg_base ol) O ≡ pad (ol.regs * 8) (register_rows 0 st.registers)
-  pub segments : part (seg_base ol) (use_base ol) O ≡ pad (ol.segs * 7) (piece_rows 0 (all_pieces st.registers))
-  pub uses : part (use_base ol) (group_base ol) O ≡ pad (ol.uses * 6) (use_rows (uses_of (segs_of (all_pieces st.registers))))
-  pub groups : part (group_base ol) (tables_end ol) O ≡ pad (ol.groups * 9) (group_rows st.groups)
+  pub tabled : Tabled (tables ol) (contents st) O
   pub typed : Each Typed (uses_of (segs_of (all_pieces st.registers)))
   pub weights : Each (λ r. Weighs r.weight) st.registers
   pub members : Each (Placed (length st.registers)) st.groups

@@ -1,7 +1,7 @@
-pub mod Part
 pub mod Each
 pub mod Encoding
 pub mod Counting
+pub mod Held
 pub mod Update
 pub mod Reads
 pub mod UseRows

@@ -8,26 +8,28 @@ use Prim.Native.Nat.{ℕ, suc, ◌+◌, ◌-◌, ◌*◌, ◌≤◌, ◌<◌}
 use Rattle.std.proofs.Math.Nat.{zero-add}
 use native.Mathlib.Omega.{arith}
 use Rattle.std.proofs.Math.ListN.{length, get_or, take, drop, replicate, length-append, get_or-append}
-use Rattle.std.proofs.lemmas.List.{length-replicate}
 use Rattle.std.specs.Float.{binary32}
 use Rattle.std.specs.Float.Ieee.{to_bits, of_bits}
 use Rattle.std.proofs.Math.Seq.{split_at, length-take-le, take_at, get_or-append-add}
 use Rattle.rows.specs.Tab.{get_or_tab}
-use Rattle.rows.specs.Parts.{pad, pad_get_or, pad_none}
+use Rattle.rows.specs.Parts.{pad}
 use Rattle.rows.specs.Rows.{rows_of, after, rows_append, row_get}
 use Rattle.definition.specs.declared.VirtReg.{VirtReg}
 use Rattle.definition.specs.declared.VirtRegGroup.{VirtRegGroup}
 use Rattle.definition.specs.declared.Use.{Use}
 use Rattle.definition.specs.declared.Origin.TheVariants.{Own}
+use Rattle.definition.specs.Limits.{max_group}
 use Rattle.definition.specs.Types.{Piece, Register, Mapped, State, val, point}
-use Rattle.definition.specs.Place.{total, pieces_in, uses_in, uses_of, segs_of}
+use Rattle.definition.specs.Place.{pieces_in, uses_in, uses_of, segs_of, empty, set_mapping}
 use Rattle.definition.specs.Lines.{hint_in}
 use Rattle.definition.specs.Admit.{register_at, no_register, members_at, no_use}
 use Rattle.virt_regs.specs.declared.OutLayout.{OutLayout}
 use Rattle.virt_regs.specs.declared.PieceRow.{PieceRow}
-use Rattle.virt_regs.specs.Part.{part, part_get, part_cut, part_middle, part_zeros}
+use Rattle.rows.specs.Part.{part, part_cut, part_middle}
+use Rattle.rows.specs.Tables.{table_word, cleared}
 use Rattle.virt_regs.specs.Each.{each_none, each_get}
-use Rattle.virt_regs.specs.Encoding.{Weighs, Placed, seg_base, use_base, group_base, tables_end, group_word, place_word, hint_word, piece_row, use_words, group_words, all_pieces, past_pieces, used_by, still, each_register, each_piece, each_use, each_group, register_rows, piece_rows, use_rows, group_rows, Holds}
+use Rattle.virt_regs.specs.Encoding.{group_row, tables, contents, Weighs, Placed, seg_base, use_base, group_base, tables_end, group_word, place_word, hint_word, piece_row, use_words, group_words, all_pieces, past_pieces, used_by, still, each_register, each_piece, each_use, each_group, piece_rows, Holds}
+use Rattle.virt_regs.specs.Held.{held_long, fit_registers, fit_segments, part_segments}
 use Rattle.virt_regs.specs.Counting.{all_append, count_pieces, count_uses, after_registers, after_pieces, length_registers, length_pieces, length_uses, length_groups}
 
 abbrev pub no_piece : Piece
@@ -61,20 +63,14 @@ segments_in ol O v =
     let f = get_or O (v.0 * 8 + 6) 0 in
     part (seg_base ol + f * 7) (seg_base ol + f * 7 + get_or O (v.0 * 8 + 7) 0 * 7) O
 
--- a word of a table that is a part
-word_in : (a e j n : ℕ) (O xs : List ℕ) → part a e O ≡ pad n xs → j < e - a → j < length xs → get_or O (a + j) 0 ≡ get_or xs j 0
-word_in a e j n O xs p l k = sym (part_get a e j O l) ∙ ap (λ (t : List ℕ). get_or t j 0) p ∙ pad_get_or n xs j 0 k
-
 module _ (ol : OutLayout) (O : List ℕ) (st : State) (h : Holds ol O st) where
   -- word k of a row
   pub register_word : (v : VirtReg) (k : ℕ) → v.0 < length st.registers → k < 8
       → get_or O (v.0 * 8 + k) 0 ≡ get_or (each_register (first_piece st v) (register_at st v)) k 0
   unfolding register_at first_piece
   register_word v k l s =
-      let z : 0 + (v.0 * 8 + k) ≡ v.0 * 8 + k = zero-add _ in
       let f : after each_register past_pieces 0 (take v.0 st.registers) ≡ length (all_pieces (take v.0 st.registers)) = after_registers 0 (take v.0 st.registers) ∙ zero-add _ in
-      ap (λ (i : ℕ). get_or O i 0) (sym z)
-      ∙ word_in 0 (seg_base ol) (v.0 * 8 + k) (ol.regs * 8) O (register_rows 0 st.registers) h.registers (omega (arith, h.fit_registers)) (omega (arith, length_registers 0 st.registers))
+      table_word (tables ol) (contents st) O h.tabled 0 (omega arith) (v.0 * 8 + k) (v.0 * 8 + k) (omega arith) (omega (arith, length_registers 0 st.registers))
       ∙ row_get each_register past_pieces 8 (λ σ a. refl) 0 st.registers no_register v.0 k l s
       ∙ ap (λ (σ : ℕ). get_or (each_register σ (get_or st.registers v.0 no_register)) k 0) f
 
@@ -84,7 +80,7 @@ module _ (ol : OutLayout) (O : List ℕ) (st : State) (h : Holds ol O st) where
       let ps : List Piece = all_pieces st.registers in
       let f : after each_piece used_by 0 (take i ps) ≡ length (uses_of (segs_of (take i ps))) = after_pieces 0 (take i ps) ∙ zero-add _ in
       let n : i < length ps = omega (arith, count_pieces st) in
-      word_in (seg_base ol) (use_base ol) (i * 7 + k) (ol.segs * 7) O (piece_rows 0 ps) h.segments (omega (arith, h.fit_segments)) (omega (arith, length_pieces 0 ps))
+      table_word (tables ol) (contents st) O h.tabled 1 (omega arith) (seg_base ol + (i * 7 + k)) (i * 7 + k) refl (omega (arith, length_pieces 0 ps))
       ∙ row_get each_piece used_by 7 (λ σ a. refl) 0 ps no_piece i k n s
       ∙ ap (λ (σ : ℕ). get_or (each_piece σ (get_or ps i no_piece)) k 0) f
 
@@ -92,14 +88,14 @@ module _ (ol : OutLayout) (O : List ℕ) (st : State) (h : Holds ol O st) where
   use_word i k l s =
       let us : List Use = uses_of (segs_of (all_pieces st.registers)) in
       let n : i < length us = omega (arith, count_uses st) in
-      word_in (use_base ol) (group_base ol) (i * 6 + k) (ol.uses * 6) O (use_rows us) h.uses (omega (arith, h.fit_uses)) (omega (arith, length_uses us))
+      table_word (tables ol) (contents st) O h.tabled 2 (omega arith) (use_base ol + (i * 6 + k)) (i * 6 + k) refl (omega (arith, length_uses us))
       ∙ row_get each_use still 6 (λ σ a. refl) tt us no_use i k n s
 
-  pub group_word_lem : (g : VirtRegGroup) (k : ℕ) → g.0 < length st.groups → k < 9 → get_or O (group_base ol + (g.0 * 9 + k)) 0 ≡ get_or (group_words (members_at st g)) k 0
+  pub group_word_lem : (g : VirtRegGroup) (k : ℕ) → g.0 < length st.groups → k < group_row → get_or O (group_base ol + (g.0 * group_row + k)) 0 ≡ get_or (group_words (members_at st g)) k 0
   unfolding members_at
   group_word_lem g k l s =
-      word_in (group_base ol) (tables_end ol) (g.0 * 9 + k) (ol.groups * 9) O (group_rows st.groups) h.groups (omega (arith, h.fit_groups)) (omega (arith, length_groups st.groups))
-      ∙ row_get each_group still 9 (λ σ a. refl) tt st.groups [] g.0 k l s
+      table_word (tables ol) (contents st) O h.tabled 3 (omega arith) (group_base ol + (g.0 * group_row + k)) (g.0 * group_row + k) refl (omega (arith, length_groups st.groups))
+      ∙ row_get each_group still group_row (λ σ a. refl) tt st.groups [] g.0 k l s
 
   -- ---- fields
 
@@ -121,16 +117,16 @@ module _ (ol : OutLayout) (O : List ℕ) (st : State) (h : Holds ol O st) where
   pub count_held : (v : VirtReg) → v.0 < length st.registers → get_or O (v.0 * 8 + 7) 0 ≡ length (register_at st v).pieces
   count_held v l = register_word v 7 l (omega arith)
 
-  pub size_held : (g : VirtRegGroup) → g.0 < length st.groups → get_or O (group_base ol + g.0 * 9) 0 ≡ length (members_at st g)
-  size_held g l = let e : g.0 * 9 ≡ g.0 * 9 + 0 = omega arith in ap (λ (k : ℕ). get_or O (group_base ol + k) 0) e ∙ group_word_lem g 0 l (omega arith)
+  pub size_held : (g : VirtRegGroup) → g.0 < length st.groups → get_or O (group_base ol + g.0 * group_row) 0 ≡ length (members_at st g)
+  size_held g l = let e : g.0 * group_row ≡ g.0 * group_row + 0 = omega arith in ap (λ (k : ℕ). get_or O (group_base ol + k) 0) e ∙ group_word_lem g 0 l (omega arith)
 
-  pub member_held : (g : VirtRegGroup) (i : ℕ) → g.0 < length st.groups → i < 8
-      → get_or O (group_base ol + (g.0 * 9 + (i + 1))) 0 ≡ place_word (get_or (members_at st g) i none)
+  pub member_held : (g : VirtRegGroup) (i : ℕ) → g.0 < length st.groups → i < max_group
+      → get_or O (group_base ol + (g.0 * group_row + (i + 1))) 0 ≡ place_word (get_or (members_at st g) i none)
   member_held g i l s =
       let e : i + 1 ≡ suc i = omega arith in
       group_word_lem g (i + 1) l (omega arith)
       ∙ ap (λ (k : ℕ). get_or (group_words (members_at st g)) k 0) e
-      ∙ get_or_tab (λ k. place_word (get_or (members_at st g) k none)) 0 8 i 0 s
+      ∙ get_or_tab (λ k. place_word (get_or (members_at st g) k none)) 0 max_group i 0 s
       ∙ ap (λ (k : ℕ). place_word (get_or (members_at st g) k none)) (zero-add i)
 
   pub piece_held : (i : ℕ) → i < pieces_in st → piece_in O (seg_base ol + i * 7) ≡ piece_row (first_use st i) (piece_at st i)
@@ -152,15 +148,15 @@ module _ (ol : OutLayout) (O : List ℕ) (st : State) (h : Holds ol O st) where
   -- ---- bounds
 
   pub register_in : (v : VirtReg) → v.0 < length st.registers → v.0 * 8 + 8 ≤ length O
-  register_in v l = omega (arith, h.long, h.fit_registers)
+  register_in v l = omega (arith, held_long h, fit_registers h)
 
   pub weighs_held : (v : VirtReg) → v.0 < length st.registers
       → (of_bits binary32 (to_bits binary32 (register_at st v).weight) ≡ (register_at st v).weight) × (to_bits binary32 (register_at st v).weight ≤ 2139095040)
   unfolding register_at Weighs
   weighs_held v l = each_get _ st.registers v.0 no_register h.weights l
 
-  -- a group has at most eight places, and a member is a register
-  pub size_le : (g : VirtRegGroup) → g.0 < length st.groups → length (members_at st g) ≤ 8
+  -- a group has no more places than it may have, and a member is a register
+  pub size_le : (g : VirtRegGroup) → g.0 < length st.groups → length (members_at st g) ≤ max_group
   unfolding members_at Placed
   size_le g l = (each_get _ st.groups g.0 [] h.members l).0
 
@@ -192,7 +188,7 @@ module _ (ol : OutLayout) (O : List ℕ) (st : State) (h : Holds ol O st) where
 
   -- its rows are rows of the table
   pub span_in : (v : VirtReg) → v.0 < length st.registers → get_or O (v.0 * 8 + 6) 0 + get_or O (v.0 * 8 + 7) 0 ≤ ol.segs
-  span_in v l = omega (arith, first_held v l, count_held v l, pieces_in_lem v l, h.fit_segments)
+  span_in v l = omega (arith, first_held v l, count_held v l, pieces_in_lem v l, fit_segments h)
 
   -- the rows of register v's pieces
   pub segments_held : (v : VirtReg) → v.0 < length st.registers
@@ -217,12 +213,12 @@ module _ (ol : OutLayout) (O : List ℕ) (st : State) (h : Holds ol O st) where
       ap (λ (t : List Piece). piece_rows 0 t) e ∙ rows_append each_piece used_by 0 ps (r.pieces ++ qs) ∙ ap (λ (t : List ℕ). A ++ t) (rows_append each_piece used_by σ r.pieces qs) in
       let whole : O ≡ (T ++ A) ++ (B ++ (C ++ (Z ++ rest))) =
       part_cut (seg_base ol) (use_base ol) O (omega arith)
-      ∙ ap (λ (t : List ℕ). T ++ (t ++ rest)) (h.segments ∙ ap (λ (t : List ℕ). t ++ Z) rows)
+      ∙ ap (λ (t : List ℕ). T ++ (t ++ rest)) (part_segments h ∙ ap (λ (t : List ℕ). t ++ Z) rows)
       ∙ simp append_assoc in
       let f : get_or O (v.0 * 8 + 6) 0 ≡ length ps = first_held v l in
       let n : get_or O (v.0 * 8 + 7) 0 ≡ length r.pieces = count_held v l in
       let lt : length (T ++ A) ≡ seg_base ol + length ps * 7 =
-      length-append T A ∙ (let la = length_pieces 0 ps in let lo = length-take-le (seg_base ol) O (omega (arith, h.long)) in omega arith) in
+      length-append T A ∙ (let la = length_pieces 0 ps in let lo = length-take-le (seg_base ol) O (omega (arith, held_long h)) in omega arith) in
       let lb : length B ≡ seg_base ol + length ps * 7 + length r.pieces * 7 - (seg_base ol + length ps * 7) = length_pieces σ r.pieces ∙ omega arith in
       let here : part (seg_base ol + length ps * 7) (seg_base ol + length ps * 7 + length r.pieces * 7) O ≡ B =
       ap (λ (t : List ℕ). part (seg_base ol + length ps * 7) (seg_base ol + length ps * 7 + length r.pieces * 7) t) whole
@@ -237,43 +233,15 @@ module _ (ol : OutLayout) (O : List ℕ) (st : State) (h : Holds ol O st) where
 
 -- ---- cleared words hold the state of no registers and no groups
 
-pub holds_none : (ol : OutLayout) (n : ℕ) (ms : List Mapped) → tables_end ol ≤ n → Holds ol (replicate n 0) (record { registers = []; groups = []; mapping = ms })
-unfolding rows_of all_pieces uses_of pieces_in uses_in total
-holds_none ol n ms l =
-    record {
-      long = omega (arith, length-replicate {A = ℕ} n 0);
-      fit_registers = omega arith;
-      fit_segments = omega arith;
-      fit_uses = omega arith;
-      fit_groups = omega arith;
-      registers = zeros 0 (seg_base ol) (ol.regs * 8) (omega arith) (omega arith);
-      segments = zeros (seg_base ol) (use_base ol) (ol.segs * 7) (omega arith) (omega arith);
-      uses = zeros (use_base ol) (group_base ol) (ol.uses * 6) (omega arith) (omega arith);
-      groups = zeros (group_base ol) (tables_end ol) (ol.groups * 9) (omega arith) (omega arith);
-      typed = each_none _;
-      weights = each_none _;
-      members = each_none _;
-    }
-  where
-    zeros : (a e k : ℕ) → e ≤ n → e - a ≡ k → part a e (replicate n 0) ≡ pad k []
-    zeros a e k le eq = part_zeros a e n le ∙ ap (λ (m : ℕ). replicate m 0) eq ∙ sym (pad_none k)
+pub holds_none : (ol : OutLayout) (n : ℕ) (ms : List Mapped) → tables_end ol ≤ n → Holds ol (replicate n 0) (set_mapping ms empty)
+unfolding rows_of all_pieces uses_of
+holds_none ol n ms l = record {
+  tabled = cleared (tables ol) (contents (set_mapping ms empty)) n (omega arith) (refl, (refl, (refl, (refl, tt)))) l;
+  typed = each_none _;
+  weights = each_none _;
+  members = each_none _;
+}
 
 -- the mapping is no part of the tables
-pub holds_mapping : (ol : OutLayout) (O : List ℕ) (st : State) (ms : List Mapped) → Holds ol O st
-    → Holds ol O (record { registers = st.registers; groups = st.groups; mapping = ms })
-unfolding pieces_in uses_in
-holds_mapping ol O st ms h =
-    record {
-      long = h.long;
-      fit_registers = h.fit_registers;
-      fit_segments = h.fit_segments;
-      fit_uses = h.fit_uses;
-      fit_groups = h.fit_groups;
-      registers = h.registers;
-      segments = h.segments;
-      uses = h.uses;
-      groups = h.groups;
-      typed = h.typed;
-      weights = h.weights;
-      members = h.members;
-    }
+pub holds_mapping : (ol : OutLayout) (O : List ℕ) (st : State) (ms : List Mapped) → Holds ol O st → Holds ol O (set_mapping ms st)
+holds_mapping ol O st ms h = record { tabled = h.tabled; typed = h.typed; weights = h.weights; members = h.members }

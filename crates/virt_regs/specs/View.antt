@@ -25,7 +25,7 @@ use Rattle.uses.specs.Rows.{use_row}
 use Rattle.virt_regs.specs.declared.OutLayout.{OutLayout}
 use Rattle.virt_regs.specs.declared.Counts.{Counts}
 use Rattle.virt_regs.specs.Each.{each_get}
-use Rattle.virt_regs.specs.Encoding.{seg_base, use_base, group_base, group_word, place_word, origin_word, all_pieces, each_register, each_piece, counts_of, Holds}
+use Rattle.virt_regs.specs.Encoding.{group_row, seg_base, use_base, group_base, group_word, place_word, origin_word, all_pieces, each_register, each_piece, counts_of, Holds}
 use Rattle.virt_regs.specs.Counting.{uses_append, count_pieces, count_uses}
 use Rattle.virt_regs.specs.Reads.{no_piece, piece_at, first_piece, first_use, register_word, piece_word, use_word, group_held, first_held, count_held, size_held, member_held, weight_held, weighs_held, size_le, piece_of_lem, pieces_in_lem}
 use Rattle.virt_regs.specs.UseRows.{use_back}
@@ -77,7 +77,7 @@ registers_in ol O n = rows_at (register_of ol) O 0 8 n
 
 unfoldable pub groups_in : OutLayout → List ℕ → ℕ → List (List (Option VirtReg))
 unfolding group_places
-groups_in ol O n = rows_at group_places O (group_base ol) 9 n
+groups_in ol O n = rows_at group_places O (group_base ol) group_row n
 
 -- ---- read back
 
@@ -187,27 +187,27 @@ module _ (ol : OutLayout) (O : List ℕ) (st : State) (h : Holds ol O st) where
       let q : j < length rs = omega (arith, length_rows_at (register_of ol) O 0 8 (length rs)) in
       get_or_rows_at (register_of ol) O 0 8 (length rs) j no_register q ∙ ap (λ (x : ℕ). register_of ol O x) (zero-add (j * 8)) ∙ register_back (vreg j) q)
 
-  group_read : (g : VirtRegGroup) → g.0 < length st.groups → group_places O (group_base ol + g.0 * 9) ≡ members_at st g
+  group_read : (g : VirtRegGroup) → g.0 < length st.groups → group_places O (group_base ol + g.0 * group_row) ≡ members_at st g
   unfolding group_places
   group_read g l =
       let ms : List (Option VirtReg) = members_at st g in
-      let f : ℕ → Option VirtReg = λ j. member_of (get_or O (group_base ol + g.0 * 9 + (j + 1)) 0) in
+      let f : ℕ → Option VirtReg = λ j. member_of (get_or O (group_base ol + g.0 * group_row + (j + 1)) 0) in
       let le = size_le ol O st h g l in
       ap (λ (n : ℕ). tab f 0 n) (size_held ol O st h g l)
       ∙ ext_get_or none (tab f 0 (length ms)) ms (length_tab f 0 (length ms))
       (λ j s.
       let q : j < length ms = omega (arith, length_tab f 0 (length ms)) in
-      let e : group_base ol + g.0 * 9 + (0 + j + 1) ≡ group_base ol + (g.0 * 9 + (j + 1)) = omega arith in
+      let e : group_base ol + g.0 * group_row + (0 + j + 1) ≡ group_base ol + (g.0 * group_row + (j + 1)) = omega arith in
       get_or_tab f 0 (length ms) j none q ∙ ap (λ (x : ℕ). member_of (get_or O x 0)) e ∙ ap member_of (member_held ol O st h g j l (omega arith)) ∙ member_back (get_or ms j none))
 
   pub groups_held : groups_in ol O (length st.groups) ≡ st.groups
   unfolding groups_in members_at
   groups_held =
       let gs : List (List (Option VirtReg)) = st.groups in
-      ext_get_or [] (rows_at group_places O (group_base ol) 9 (length gs)) gs (length_rows_at group_places O (group_base ol) 9 (length gs))
+      ext_get_or [] (rows_at group_places O (group_base ol) group_row (length gs)) gs (length_rows_at group_places O (group_base ol) group_row (length gs))
       (λ j s.
-      let q : j < length gs = omega (arith, length_rows_at group_places O (group_base ol) 9 (length gs)) in
-      get_or_rows_at group_places O (group_base ol) 9 (length gs) j [] q ∙ group_read (vrgroup j) q)
+      let q : j < length gs = omega (arith, length_rows_at group_places O (group_base ol) group_row (length gs)) in
+      get_or_rows_at group_places O (group_base ol) group_row (length gs) j [] q ∙ group_read (vrgroup j) q)
 
 -- the words and the counts say which registers and groups they hold
 pub loses_nothing : (ol : OutLayout) (O : List ℕ) (st st' : State) → Holds ol O st → Holds ol O st' → counts_of st ≡ counts_of st' → (st.registers ≡ st'.registers) × (st.groups ≡ st'.groups)

@@ -7,8 +7,11 @@ ghost use Rattle.definition.specs.Types.{cls};
 ghost use Rattle.virt_regs.specs.Encoding.{seg_base, use_base, group_base, tables_end};
 ghost use Rattle.virt_regs.specs.Reads.{piece_in, segments_in};
 
-use definition::{LiveRangePoint, RegClass, Value, ValueSet, VirtReg, VirtRegGroup};
+use definition::{LiveRangePoint, MAX_GROUP, RegClass, Value, ValueSet, VirtReg, VirtRegGroup};
 use words::word_at;
+
+// The words of a group's row: the number of its places, and a word for each.
+pub const GROUP_ROW: usize = MAX_GROUP + 1;
 
 // How many rows each table can hold.
 // That the tables lie in the slice beside it is a clause and no ghost field: the slice is lent `&mut`, and with a
@@ -137,16 +140,16 @@ pub fn pieces_of(out: &[u8], v: VirtReg) -> PieceSpan
 
 // Word k of group g's row.
 fn group_word(out: &[u8], ol: OutLayout, g: VirtRegGroup, k: usize) -> u32
-    requires { (tables_end ol ≤ word_count out.now) × (g.0 < ol.groups) × (k < 9) }
-    ensures { result ≡ get_or (words_of out.now) (group_base ol + (g.0 * 9 + k)) 0 }
+    requires { (tables_end ol ≤ word_count out.now) × (g.0 < ol.groups) × (k < GROUP_ROW) }
+    ensures { result ≡ get_or (words_of out.now) (group_base ol + (g.0 * GROUP_ROW + k)) 0 }
 {
-    word_at(out, ol.group_base() + (g.0 as usize * 9 + k))
+    word_at(out, ol.group_base() + (g.0 as usize * GROUP_ROW + k))
 }
 
 // The number of places of group g.
 pub fn group_size(out: &[u8], ol: OutLayout, g: VirtRegGroup) -> u32
     requires { (tables_end ol ≤ word_count out.now) × (g.0 < ol.groups) }
-    ensures { result ≡ get_or (words_of out.now) (group_base ol + g.0 * 9) 0 }
+    ensures { result ≡ get_or (words_of out.now) (group_base ol + g.0 * GROUP_ROW) 0 }
 {
     group_word(out, ol, g, 0)
 }
@@ -154,8 +157,8 @@ pub fn group_size(out: &[u8], ol: OutLayout, g: VirtRegGroup) -> u32
 // The register at place i of group g, + 1; 0 where the place is empty: the word as the lent table has it for C, so no
 // Option.
 pub fn member_at(out: &[u8], ol: OutLayout, g: VirtRegGroup, i: usize) -> u32
-    requires { (tables_end ol ≤ word_count out.now) × (g.0 < ol.groups) × (i < 8) }
-    ensures { result ≡ get_or (words_of out.now) (group_base ol + (g.0 * 9 + (i + 1))) 0 }
+    requires { (tables_end ol ≤ word_count out.now) × (g.0 < ol.groups) × (i < MAX_GROUP) }
+    ensures { result ≡ get_or (words_of out.now) (group_base ol + (g.0 * GROUP_ROW + (i + 1))) 0 }
 {
     group_word(out, ol, g, i + 1)
 }

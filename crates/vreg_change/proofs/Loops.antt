@@ -9,7 +9,7 @@ use Rattle.rows.specs.Tab.{tab, tab_more, tab_done}
 use Rattle.words.specs.Words.{words_of}
 use Rattle.definition.specs.declared.VirtRegGroup.{VirtRegGroup}
 use Rattle.virt_regs.specs.declared.OutLayout.{OutLayout}
-use Rattle.virt_regs.specs.Encoding.{group_base}
+use Rattle.virt_regs.specs.Encoding.{group_row, group_base}
 use Rattle.vreg_change.specs.Flat.{weighted, at_place, at_places, member_in, spread_in, Spreadable}
 
 pub place_none : (c b m : ℕ) (O : List ℕ) → m ≡ 0 → O ≡ at_place c b m O
@@ -27,7 +27,7 @@ member_kept : (ol : OutLayout) (g : VirtRegGroup) (c b m j : ℕ) (O : List ℕ)
 unfolding at_place weighted member_in
 member_kept ol g c b zero j O h = refl
 member_kept ol g c b (suc v) j O h =
-    let at : ℕ = group_base ol + (g.0 * 9 + (j + 1)) in
+    let at : ℕ = group_base ol + (g.0 * group_row + (j + 1)) in
     get_or-set_other (set O (v * 8 + 1) c) (v * 8 + 2) at b 0 (omega arith) ∙ get_or-set_other O (v * 8 + 1) at c 0 (omega arith)
 
 -- the places before place i are done; n is the group's size
@@ -38,12 +38,12 @@ pub record Spreading (ol : OutLayout) (g : VirtRegGroup) (c b n : ℕ) (o₀ : L
 
 -- the member at place i is a row
 pub spread_row : {ol : OutLayout} {g : VirtRegGroup} {c b n : ℕ} {o₀ : List ℕ} {i : ℕ} {o : List ℕ} (m : ℕ) → Spreading ol g c b n o₀ i o → Spreadable ol g (words_of o₀) → i < n → n ≤ 8
-    → m ≡ get_or (words_of o) (group_base ol + (g.0 * 9 + (i + 1))) 0 → m ≤ ol.regs
+    → m ≡ get_or (words_of o) (group_base ol + (g.0 * group_row + (i + 1))) 0 → m ≤ ol.regs
 unfolding member_in
 spread_row {i = i} m s a l h e = let k = a.members i (omega arith) in let q = s.same i in omega arith
 
 pub spread_next : {ol : OutLayout} {g : VirtRegGroup} {c b n : ℕ} {o₀ : List ℕ} {i : ℕ} {o o' : List ℕ} (m : ℕ) → Spreading ol g c b n o₀ i o → i < n → m ≤ ol.regs
-    → m ≡ get_or (words_of o) (group_base ol + (g.0 * 9 + (i + 1))) 0 → words_of o' ≡ at_place c b m (words_of o) → Spreading ol g c b n o₀ (i + 1) o'
+    → m ≡ get_or (words_of o) (group_base ol + (g.0 * group_row + (i + 1))) 0 → words_of o' ≡ at_place c b m (words_of o) → Spreading ol g c b n o₀ (i + 1) o'
 unfolding member_in at_places
 spread_next {ol} {g} {c} {b} {n} {o₀} {i} {o} {o'} m s l r em ew =
     let f : ℕ → ℕ = member_in ol g (words_of o₀) in
@@ -59,7 +59,7 @@ spread_next {ol} {g} {c} {b} {n} {o₀} {i} {o} {o'} m s l r em ew =
     }
 
 pub spread_last : {ol : OutLayout} {g : VirtRegGroup} {c b n : ℕ} {o₀ : List ℕ} {i : ℕ} {o : List ℕ} → Spreading ol g c b n o₀ i o → n ≤ i
-    → n ≡ get_or (words_of o₀) (group_base ol + g.0 * 9) 0 → words_of o ≡ spread_in ol c b g (words_of o₀)
+    → n ≡ get_or (words_of o₀) (group_base ol + g.0 * group_row) 0 → words_of o ≡ spread_in ol c b g (words_of o₀)
 unfolding at_places spread_in
 spread_last {ol} {g} {c} {b} {n} {o₀} {i} {o} s l en =
     sym (ap (λ (k : ℕ). at_places c b (tab (member_in ol g (words_of o₀)) 0 k) (words_of o₀)) (sym en)

@@ -6,8 +6,8 @@ ghost use Rattle.words.specs.Words.{word_count, words_of};
 ghost use Rattle.virt_regs.specs.Encoding.{group_base, tables_end};
 ghost use Rattle.vreg_change.specs.Flat.{weighted, at_place, spread_in, Spreadable};
 
-use definition::{RegClass, VirtReg, VirtRegGroup};
-use virt_regs::{OutLayout, group_size, member_at};
+use definition::{MAX_GROUP, RegClass, VirtReg, VirtRegGroup};
+use virt_regs::{GROUP_ROW, OutLayout, group_size, member_at};
 use words::put_word;
 
 // Class and weight of register v.
@@ -45,18 +45,18 @@ pub fn spread(out: &mut [u8], ol: OutLayout, g: VirtRegGroup, class: RegClass, w
 
 // Register v at place i of group g.
 pub fn set_member(out: &mut [u8], ol: OutLayout, g: VirtRegGroup, i: usize, v: VirtReg)
-    requires { (tables_end ol ≤ word_count out.old) × (g.0 < ol.groups) × (i < 8) × (v.0 + 1 < 2 ^ 32) }
-    ensures { words_of out.new ≡ set (words_of out.old) (group_base ol + (g.0 * 9 + (i + 1))) (v.0 + 1) }
+    requires { (tables_end ol ≤ word_count out.old) × (g.0 < ol.groups) × (i < MAX_GROUP) × (v.0 + 1 < 2 ^ 32) }
+    ensures { words_of out.new ≡ set (words_of out.old) (group_base ol + (g.0 * GROUP_ROW + (i + 1))) (v.0 + 1) }
 {
-    let at = ol.group_base() + (g.0 as usize * 9 + (i + 1));
+    let at = ol.group_base() + (g.0 as usize * GROUP_ROW + (i + 1));
     put_word(out, at, v.0 + 1);
 }
 
 // Group g, behind the groups held: `size` places, of which place i has register v.
 pub fn add_group(out: &mut [u8], ol: OutLayout, g: VirtRegGroup, size: u32, i: usize, v: VirtReg)
-    requires { (tables_end ol ≤ word_count out.old) × (g.0 < ol.groups) × (i < 8) × (v.0 + 1 < 2 ^ 32) }
-    ensures { words_of out.new ≡ set (set (words_of out.old) (group_base ol + g.0 * 9) size) (group_base ol + (g.0 * 9 + (i + 1))) (v.0 + 1) }
+    requires { (tables_end ol ≤ word_count out.old) × (g.0 < ol.groups) × (i < MAX_GROUP) × (v.0 + 1 < 2 ^ 32) }
+    ensures { words_of out.new ≡ set (set (words_of out.old) (group_base ol + g.0 * GROUP_ROW) size) (group_base ol + (g.0 * GROUP_ROW + (i + 1))) (v.0 + 1) }
 {
-    put_word(out, ol.group_base() + g.0 as usize * 9, size);
+    put_word(out, ol.group_base() + g.0 as usize * GROUP_ROW, size);
     set_member(out, ol, g, i, v);
 }

@@ -12,6 +12,7 @@ use Rattle.virt_regs.specs.Encoding.{seg_base, use_base, tables_end, all_pieces,
 use Rattle.virt_regs.specs.Counting.{uses_append, count_uses}
 use Rattle.virt_regs.specs.Reads.{first_use, pieces_in_lem, first_held, count_held, piece_word}
 use Rattle.vreg_insert.specs.Flat.{Liftable}
+use Rattle.virt_regs.specs.Held.{held_long, fit_registers, fit_segments}
 
 -- The tables hold some state with these counts, with room for np pieces and nu uses more; register v has piece k or ends there.
 pub record Ask (ol : OutLayout) (O : List ℕ) (c : Counts) (v : VirtReg) (k np nu : ℕ) : Type 0 where
@@ -45,10 +46,10 @@ module _ (ol : OutLayout) (O : List ℕ) (c : Counts) (v : VirtReg) (k np nu : �
       omega (arith, first_held ol O a.st a.holds v a.here, pieces_in_lem ol O a.st a.holds v a.here, a.before)
 
   pub ask_long : tables_end ol ≤ length O
-  ask_long = a.holds.long
+  ask_long = held_long a.holds
 
   pub ask_row : v.0 < ol.regs
-  ask_row = omega (arith, a.holds.fit_registers, a.here)
+  ask_row = omega (arith, fit_registers a.holds, a.here)
 
   pub ask_lift : (p : ℕ) → p ≤ c.segs → Liftable ol c v.0 p np nu O
   ask_lift p hp =
@@ -58,8 +59,8 @@ module _ (ol : OutLayout) (O : List ℕ) (c : Counts) (v : VirtReg) (k np nu : �
       record {
         here = omega (arith, a.here);
         before = hp;
-        regs = omega (arith, a.holds.fit_registers);
-        segs = omega (arith, a.holds.fit_segments);
+        regs = omega (arith, fit_registers a.holds);
+        segs = omega (arith, fit_segments a.holds);
         count = omega (arith, count_held ol O a.st a.holds v a.here, pieces_in_lem ol O a.st a.holds v a.here, a.small);
         firsts = λ i l.
             let w : VirtReg = record { 0 = i } in

@@ -1,56 +1,42 @@
--- A gap opened in one part, seen from each part. Assumes nothing.
-use Rattle.std.specs.Prelude.{◌≡◌, List, ◌++◌, ℕ, ◌+◌, ◌-◌, ◌≤◌, length, take, drop}
-use Rattle.std.proofs.Common.{sym, ap, ◌∙◌, append_assoc, arith, length-append, take-take, take-add, length-take-le}
-use Rattle.std.proofs.Math.Seq.{slice, length-slice, drop-append-add}
-use Rattle.rows.specs.Parts.{splice}
+-- A gap opened in one of the tables. Assumes nothing.
+use mathlib.Core.Path.{◌≡◌, sym, ap, ◌∙◌}
+use mathlib.Core.List.{List, ◌++◌, append_assoc}
+use Prim.Native.Nat.{ℕ, ◌+◌, ◌-◌, ◌≤◌, ◌<◌}
+use native.Mathlib.Omega.{arith}
+use lib.ListN.{length, set, take, drop, replicate, length-append, length-replicate}
+use lib.Seq.{slice, take_at, drop_at, drop-append-add}
+use Rattle.std.proofs.lemmas.List.{drop-append-le}
+use Rattle.rows.specs.Parts.{pad, drop_replicate}
 use Rattle.rows.specs.Moves.{Gap}
-use Rattle.virt_regs.specs.Part.{part, length_part, part_ahead, part_behind, part_in}
+use Rattle.rows.specs.Tables.{Table, size_of, table_at, words_at, base_of, Tabled, change}
 
-gap_length : (t gap : List ℕ) (at end n : ℕ) → length gap ≡ n → end + n ≤ length t → length (gap ++ slice at end t) ≡ n + (end - at)
-gap_length t gap at end n l h = length-append gap (slice at end t) ∙ (let s = length-slice at end t (omega arith) in omega arith)
+-- a gap past_pieces the words x, in words and what is past_pieces them
+gap_between : (x y t gap O : List ℕ) (a e n : ℕ) → O ≡ x ++ (y ++ t) → length x ≡ a → length x + length y ≡ e
+    → take a O ++ (gap ++ (slice a e O ++ drop (e + n) O)) ≡ x ++ (gap ++ (y ++ drop n t))
+gap_between x y t gap O a e n eo la le =
+    let whole : O ≡ (x ++ y) ++ t = eo ∙ sym (append_assoc x y t) in
+    let lxy : length (x ++ y) ≡ e = length-append x y ∙ le in
+    let f : take a O ≡ x = ap (λ (l : List ℕ). take a l) eo ∙ take_at x (y ++ t) a la in
+    let s : slice a e O ≡ y = ap (λ (l : List ℕ). drop a (take e l)) whole ∙ ap (λ (l : List ℕ). drop a l) (take_at (x ++ y) t e lxy) ∙ drop_at x y a la in
+    let d : drop (e + n) O ≡ drop n t = ap (λ (l : List ℕ). drop (e + n) l) whole ∙ ap (λ (m : ℕ). drop (m + n) ((x ++ y) ++ t)) (sym lxy) ∙ drop-append-add (x ++ y) t n in
+    λ i. f i ++ (gap ++ (s i ++ d i))
 
--- a gap is words put in
-gap_form : (t gap : List ℕ) (at end n : ℕ) → length gap ≡ n → at ≤ end → end + n ≤ length t
-    → take at t ++ (gap ++ (slice at end t ++ drop (end + n) t)) ≡ splice t at (gap ++ slice at end t)
-unfolding splice
-gap_form t gap at end n l h k =
-    let e : end + n ≡ at + length (gap ++ slice at end t) = omega (arith, gap_length t gap at end n l k) in
-    ap (λ (x : List ℕ). take at t ++ x) (sym (append_assoc gap (slice at end t) (drop (end + n) t)))
-    ∙ ap (λ (m : ℕ). take at t ++ ((gap ++ slice at end t) ++ drop m t)) e
-
-slice_part : (a e i j : ℕ) (O : List ℕ) → a ≤ length O → j ≤ e - a → slice (a + i) (a + j) O ≡ slice i j (part a e O)
-unfolding part
-slice_part a e i j O h l =
-    let la : length (take a O) ≡ a = length-take-le a O h in
-    ap (λ (t : List ℕ). drop (a + i) t) (take-add a j O)
-    ∙ ap (λ (n : ℕ). drop (n + i) (take a O ++ take j (drop a O))) (sym la)
-    ∙ drop-append-add (take a O) (take j (drop a O)) i
-    ∙ ap (λ (t : List ℕ). drop i t) (sym (take-take j (e - a) (drop a O) l))
-
-module _ (O O' : List ℕ) (at end n : ℕ) (g : Gap O at end n O') (h : at ≤ end) (k : end + n ≤ length O) where
-  gap_splice : O' ≡ splice O at (g.gap ++ slice at end O)
-  gap_splice = g.is ∙ gap_form O g.gap at end n g.long h k
-
-  gap_long : length (g.gap ++ slice at end O) ≡ n + (end - at)
-  gap_long = gap_length O g.gap at end n g.long k
-
-  pub part_gap_ahead : (a e : ℕ) → end + n ≤ a → a ≤ length O → part a e O' ≡ part a e O
-  part_gap_ahead a e p q = ap (λ (t : List ℕ). part a e t) gap_splice ∙ part_ahead a e at O (g.gap ++ slice at end O) (omega (arith, gap_long)) q
-
-  pub part_gap_behind : (a e : ℕ) → a ≤ e → e ≤ at → part a e O' ≡ part a e O
-  part_gap_behind a e p q = ap (λ (t : List ℕ). part a e t) gap_splice ∙ part_behind a e at O (g.gap ++ slice at end O) p q (omega arith)
-
-  pub part_gap_in : (a e i j : ℕ) → at ≡ a + i → end ≡ a + j → a ≤ e → j + n ≤ e - a → e ≤ length O → Gap (part a e O) i j n (part a e O')
-  part_gap_in a e i j ei ej p q r =
-      let P : List ℕ = part a e O in
-      let lp : length P ≡ e - a = length_part a e O r in
-      let s : slice at end O ≡ slice i j P = ap (λ (x : ℕ). slice x end O) ei ∙ ap (λ (x : ℕ). slice (a + i) x O) ej ∙ slice_part a e i j O (omega arith) (omega arith) in
-      record {
-        gap = g.gap;
-        long = g.long;
-        is =
-            ap (λ (t : List ℕ). part a e t) gap_splice
-            ∙ part_in a e at i O (g.gap ++ slice at end O) ei p (omega (arith, gap_long)) r
-            ∙ ap (λ (t : List ℕ). splice P i (g.gap ++ t)) s
-            ∙ sym (gap_form P g.gap i j n g.long (omega arith) (omega arith));
-      }
+module _ (ts : List Table) (cs : List (List ℕ)) (O : List ℕ) (l : Tabled ts cs O) (i : ℕ) (h : i < length cs) where
+  -- between the words x and y of table i
+  pub put_gap : (a e n : ℕ) (x y O' : List ℕ) (g : Gap O a e n O') → words_at i cs ≡ x ++ y → a ≡ base_of i ts + length x → e ≡ base_of i ts + (length x + length y)
+      → length x + length y + n ≤ size_of (table_at i ts) → Tabled ts (set cs i (x ++ (g.gap ++ y))) O'
+  unfolding pad
+  put_gap a e n x y O' g ew ea ee f =
+      let N : ℕ = size_of (table_at i ts) in
+      let lg : length (x ++ (g.gap ++ y)) ≡ length x + (n + length y) = length-append x (g.gap ++ y) ∙ (let q = length-append g.gap y in omega (arith, g.long)) in
+      change ts cs O l i h (x ++ (g.gap ++ y)) O' (omega arith) (λ p z lp eo.
+      let Z : List ℕ = replicate (N - length (words_at i cs)) 0 in
+      let lw : length (words_at i cs) ≡ length x + length y = ap length ew ∙ length-append x y in
+      let lz : length Z ≡ N - length (words_at i cs) = length-replicate (N - length (words_at i cs)) 0 in
+      let here : O ≡ (p ++ x) ++ (y ++ (Z ++ z)) = eo ∙ ap (λ (t : List ℕ). p ++ ((t ++ Z) ++ z)) ew ∙ simp append_assoc in
+      let rest : drop n (Z ++ z) ≡ replicate (N - length (x ++ (g.gap ++ y))) 0 ++ z =
+      drop-append-le n Z z (omega arith) ∙ ap (λ (t : List ℕ). t ++ z) (drop_replicate n (N - length (words_at i cs)) 0 ∙ (let k : N - length (words_at i cs) - n ≡ N - length (x ++ (g.gap ++ y)) = omega arith in ap (λ (m : ℕ). replicate m 0) k)) in
+      g.is
+      ∙ gap_between (p ++ x) y (Z ++ z) g.gap O a e n here (length-append p x ∙ omega arith) (let q = length-append p x in omega arith)
+      ∙ ap (λ (t : List ℕ). (p ++ x) ++ (g.gap ++ (y ++ t))) rest
+      ∙ simp append_assoc)

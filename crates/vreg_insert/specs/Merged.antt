@@ -1,23 +1,21 @@
 -- The gaps filled: pieces merged into a register. Assumes nothing.
 use Rattle.std.specs.Prelude.{◌≡◌, refl, Bool, true, false, ◌||◌, List, [], ◌∷◌, ◌++◌, ℕ, suc, ◌+◌, ◌-◌, ◌*◌, ◌≤◌, ◌<◌, length, get_or, take, drop}
 use Rattle.std.proofs.Common.{sym, ap, ◌∙◌, subst, append_assoc, zero-add, arith, length-append, length-drop, take-append-drop, length-take-le}
-use Rattle.std.proofs.Math.Seq.{slice, split_at, take-append-add, drop-append-add}
+use Rattle.std.proofs.Math.Seq.{split_at, take-append-add, drop-append-add}
 use Rattle.std.proofs.lemmas.List.{take-append-le, drop-append-le}
-use Rattle.rows.specs.Parts.{pad, length_pad, pad_insert, splice}
-use Rattle.rows.specs.Moves.{Gap, gap_fill}
 use Rattle.rows.specs.Rows.{after, rows_append}
 use Rattle.definition.specs.declared.LiveRangePoint.{LiveRangePoint}
 use Rattle.definition.specs.declared.VirtReg.{VirtReg}
 use Rattle.definition.specs.declared.Use.{Use}
 use Rattle.definition.specs.Types.{Piece, Register, State}
-use Rattle.definition.specs.Place.{pieces_in, uses_in, uses_of_pieces, uses_of, segs_of, with_pieces, update, inserted}
+use Rattle.definition.specs.Place.{pieces_in, uses_in, uses_of_pieces, uses_of, segs_of, with_pieces, update, inserted, with_pieces_at}
 use Rattle.definition.specs.Lines.{hint_in}
 use Rattle.definition.specs.Admit.{register_at, no_register}
 use Rattle.virt_regs.specs.declared.OutLayout.{OutLayout}
 use Rattle.virt_regs.specs.declared.Counts.{Counts}
-use Rattle.virt_regs.specs.Part.{part}
+use Rattle.rows.specs.Tables.{Tabled, put_over}
 use Rattle.virt_regs.specs.Each.{Each, each_append, each_front, each_back, each_weaker}
-use Rattle.virt_regs.specs.Encoding.{seg_base, use_base, group_base, all_pieces, used_by, still, each_piece, each_use, piece_rows, use_rows, counts_of, Typed, Holds}
+use Rattle.virt_regs.specs.Encoding.{tables, contents, seg_base, use_base, all_pieces, used_by, still, each_piece, each_use, piece_rows, use_rows, counts_of, Typed, Holds}
 use Rattle.virt_regs.specs.Update.{update_split, length_update, each_update}
 use Rattle.virt_regs.specs.Counting.{all_append, uses_append, count_pieces, count_uses, count_uses_of, after_pieces, length_pieces, length_uses, placed_more}
 use Rattle.virt_regs.specs.Reads.{first_piece, first_use}
@@ -72,20 +70,10 @@ all_inserted st v k p new here hk ep =
     ∙ all_append (take v.0 rs) (with_pieces (inserted_at k new ps) r ∷ drop (suc v.0) rs)
     ∙ rw (t, d) (simp append_assoc)
 
--- a gap in a table filled: the words go in between
-filled : (N : ℕ) (X Y vs t' : List ℕ) (at end n : ℕ) → Gap (pad N (X ++ Y)) at end n t' → length X ≡ at → length X + length Y ≡ end → length vs ≡ n → end ≤ N
-    → splice t' at vs ≡ pad N (X ++ (vs ++ Y))
-filled N X Y vs t' at end n g lx ly lv h =
-    let t : List ℕ = pad N (X ++ Y) in
-    let l : length t ≡ N = length_pad N (X ++ Y) (omega (arith, length-append X Y)) in
-    gap_fill t t' vs at end n (omega arith) lv g
-    ∙ ap (λ (m : ℕ). take at t ++ (vs ++ (slice at end t ++ drop (end + m) t))) (sym lv)
-    ∙ pad_insert N X Y vs at end lx ly
-
 pub holds_merged : (ol : OutLayout) (O O₁ O₂ : List ℕ) (st : State) (c : Counts) (v : VirtReg) (k np nu : ℕ) (hint : Bool) (p u : ℕ) (new : List Piece) → Holds ol O st → c ≡ counts_of st
     → v.0 < length st.registers → k ≤ length (register_at st v).pieces → Opened ol st c v k np nu hint p u O₁ → Written ol O₁ p u new (uses_of (segs_of new)) O₂
     → np ≡ length new → nu ≡ uses_of_pieces new → hint ≡ hint_in new → c.segs + np ≤ ol.segs → c.uses + nu ≤ ol.uses → p ≤ c.segs → Each Typed (uses_of (segs_of new))
-    → Holds ol O₂ (record { registers = update (with_pieces (inserted_at k new (register_at st v).pieces)) v.0 st.registers; groups = st.groups; mapping = st.mapping })
+    → Holds ol O₂ (with_pieces_at v (inserted_at k new (register_at st v).pieces) st)
 unfolding first_use
 holds_merged ol O O₁ O₂ st c v k np nu hint p u new h ec here hk op w en eu eh fp fu hp ty =
     let rs : List Register = st.registers in
@@ -101,7 +89,7 @@ holds_merged ol O O₁ O₂ st c v k np nu hint p u new h ec here hk op w en eu 
     let cu : c.uses ≡ length (uses_of (segs_of A)) = ap (λ (x : Counts). x.uses) ec ∙ count_uses st in
     let l_x : length X ≡ p = length-take-le p A (omega arith) in
     let l_y : length Y ≡ length A - p = length-drop p A in
-    let st' : State = record { registers = update (with_pieces qs) v.0 rs; groups = st.groups; mapping = st.mapping } in
+    let st' : State = with_pieces_at v qs st in
     let all : all_pieces st'.registers ≡ X ++ (new ++ Y) = all_inserted st v k p new here hk op.piece in
     let old : uses_of (segs_of A) ≡ U₁ ++ U₂ = ap (λ (t : List Piece). uses_of (segs_of t)) (sym (take-append-drop p A)) ∙ uses_append X Y in
     let each : uses_of (segs_of (all_pieces st'.registers)) ≡ U₁ ++ (Un ++ U₂) =
@@ -109,10 +97,6 @@ holds_merged ol O O₁ O₂ st c v k np nu hint p u new h ec here hk op w en eu 
     let lu : length U₁ ≡ u = sym op.use' in
     let lo : length (uses_of (segs_of A)) ≡ length U₁ + length U₂ = ap length old ∙ length-append U₁ U₂ in
     let lv : nu ≡ length Un = eu ∙ count_uses_of new in
-    let la : length (X ++ (new ++ Y)) ≡ length A + np = length-append X (new ++ Y) ∙ (let q = length-append new Y in omega arith) in
-    let le : length (U₁ ++ (Un ++ U₂)) ≡ length (uses_of (segs_of A)) + nu = length-append U₁ (Un ++ U₂) ∙ (let q = length-append Un U₂ in omega arith) in
-    let np' : pieces_in st' ≡ length A + np = count_pieces st' ∙ ap length all ∙ la in
-    let nu' : uses_in st' ≡ length (uses_of (segs_of A)) + nu = count_uses st' ∙ ap length each ∙ le in
     let ln : length st'.registers ≡ length rs = length_update (with_pieces qs) v.0 rs in
     let σ : after each_piece used_by 0 X ≡ u = after_pieces 0 X ∙ zero-add _ ∙ lu in
     let τ : after each_piece used_by u new ≡ u + nu = after_pieces u new ∙ ap (λ (n : ℕ). u + n) (sym lv) in
@@ -128,24 +112,11 @@ holds_merged ol O O₁ O₂ st c v k np nu hint p u new h ec here hk op w en eu 
     let lu_x = length_uses U₁ in
     let lu_y = length_uses U₂ in
     let lun = length_uses Un in
-    let ug : Gap (pad (ol.uses * 6) (use_rows U₁ ++ use_rows U₂)) (u * 6) (c.uses * 6) (nu * 6) (part (use_base ol) (group_base ol) O₁) =
-    subst (λ (t : List ℕ). Gap (pad (ol.uses * 6) t) (u * 6) (c.uses * 6) (nu * 6) (part (use_base ol) (group_base ol) O₁)) (ap (λ (t : List Use). use_rows t) old ∙ rows_append each_use still tt U₁ U₂) op.uses in
+    let opened = op.tabled qs (length_inserted k new ps ∙ ap (λ (n : ℕ). length ps + n) (sym en)) (hint_inserted k new ps ∙ ap (λ (b : Bool). b || hint_in ps) (sym eh)) in
+    let uses_put = put_over (tables ol) _ O₁ opened 2 (omega arith) (use_base ol + u * 6) (u * 6) (use_rows U₁) op.use_gap (use_rows U₂) (use_rows Un) _ refl refl (omega arith) (omega (arith, op.use_long)) (sym urows ∙ ap (λ (t : List Use). use_rows t) (sym each)) in
+    let pieces_put = put_over (tables ol) _ _ uses_put 1 (omega arith) (seg_base ol + p * 7) (p * 7) (piece_rows 0 X) op.gap (piece_rows (u + nu) Y) (piece_rows u new) _ refl refl (omega arith) (omega (arith, op.long)) (sym rows ∙ ap (λ (t : List Piece). piece_rows 0 t) (sym all)) in
     record {
-      long = omega (arith, w.long, op.long);
-      fit_registers = omega (arith, h.fit_registers);
-      fit_segments = omega arith;
-      fit_uses = omega arith;
-      fit_groups = h.fit_groups;
-      registers = w.registers ∙ op.registers qs (length_inserted k new ps ∙ ap (λ (n : ℕ). length ps + n) (sym en)) (hint_inserted k new ps ∙ ap (λ (b : Bool). b || hint_in ps) (sym eh));
-      segments =
-          w.segments
-          ∙ filled (ol.segs * 7) (piece_rows 0 X) (piece_rows (u + nu) Y) (piece_rows u new) (part (seg_base ol) (use_base ol) O₁) (p * 7) (c.segs * 7) (np * 7) op.segments (omega arith) (omega arith) (omega arith) (omega arith)
-          ∙ ap (λ (t : List ℕ). pad (ol.segs * 7) t) (sym rows ∙ ap (λ (t : List Piece). piece_rows 0 t) (sym all));
-      uses =
-          w.uses
-          ∙ filled (ol.uses * 6) (use_rows U₁) (use_rows U₂) (use_rows Un) (part (use_base ol) (group_base ol) O₁) (u * 6) (c.uses * 6) (nu * 6) ug (omega arith) (omega arith) (omega arith) (omega arith)
-          ∙ ap (λ (t : List ℕ). pad (ol.uses * 6) t) (sym urows ∙ ap (λ (t : List Use). use_rows t) (sym each));
-      groups = w.groups ∙ op.groups;
+      tabled = subst (λ (t : List ℕ). Tabled (tables ol) (contents st') t) (sym w.is) pieces_put;
       typed =
           let o : Each Typed (U₁ ++ U₂) = subst (λ (us : List Use). Each Typed us) old h.typed in
           subst (λ (us : List Use). Each Typed us) (sym each) (each_append _ U₁ (Un ++ U₂) (each_front _ U₁ U₂ o) (each_append _ Un U₂ ty (each_back _ U₁ U₂ o)));
@@ -155,23 +126,23 @@ holds_merged ol O O₁ O₂ st c v k np nu hint p u new h ec here hk op w en eu 
 
 -- the place is the definition's: behind the pieces that end by a
 pub merged_inserted : (ol : OutLayout) (O : List ℕ) (st : State) (v : VirtReg) (a : LiveRangePoint) (k : ℕ) (new : List Piece) → k ≡ ends_by a (register_at st v).pieces
-    → Holds ol O (record { registers = update (with_pieces (inserted_at k new (register_at st v).pieces)) v.0 st.registers; groups = st.groups; mapping = st.mapping })
-    → Holds ol O (record { registers = update (with_pieces (inserted a new (register_at st v).pieces)) v.0 st.registers; groups = st.groups; mapping = st.mapping })
+    → Holds ol O (with_pieces_at v (inserted_at k new (register_at st v).pieces) st)
+    → Holds ol O (with_pieces_at v (inserted a new (register_at st v).pieces) st)
 merged_inserted ol O st v a k new ek h =
     let ps : List Piece = (register_at st v).pieces in
     let e : inserted_at k new ps ≡ inserted a new ps = ap (λ (j : ℕ). inserted_at j new ps) ek ∙ sym (inserted_at_lem a new ps) in
-    subst (λ (qs : List Piece). Holds ol O (record { registers = update (with_pieces qs) v.0 st.registers; groups = st.groups; mapping = st.mapping })) e h
+    subst (λ (qs : List Piece). Holds ol O (with_pieces_at v qs st)) e h
 
 pub counts_merged : (st : State) (c : Counts) (v : VirtReg) (a : LiveRangePoint) (new : List Piece) → c ≡ counts_of st → v.0 < length st.registers
     → record { regs = c.regs; segs = c.segs + length new; uses = c.uses + uses_of_pieces new; groups = c.groups }
-    ≡ counts_of (record { registers = update (with_pieces (inserted a new (register_at st v).pieces)) v.0 st.registers; groups = st.groups; mapping = st.mapping })
+    ≡ counts_of (with_pieces_at v (inserted a new (register_at st v).pieces) st)
 counts_merged st c v a new ec here =
     let rs : List Register = st.registers in
     let ps : List Piece = (register_at st v).pieces in
     let k : ℕ = ends_by a ps in
     let p : ℕ = first_piece st v + k in
     let A : List Piece = all_pieces rs in
-    let st' : State = record { registers = update (with_pieces (inserted a new ps)) v.0 rs; groups = st.groups; mapping = st.mapping } in
+    let st' : State = with_pieces_at v (inserted a new ps) st in
     let all : all_pieces st'.registers ≡ take p A ++ (new ++ drop p A) =
     ap (λ (qs : List Piece). all_pieces (update (with_pieces qs) v.0 rs)) (inserted_at_lem a new ps) ∙ all_inserted st v k p new here (ends_le a ps) refl in
     let each : uses_of (segs_of (all_pieces st'.registers)) ≡ uses_of (segs_of (take p A)) ++ (uses_of (segs_of new) ++ uses_of (segs_of (drop p A))) =

@@ -7,9 +7,9 @@ use Prim.Native.Nat.{ℕ, zero, suc, ◌+◌, ◌-◌, ◌*◌, ◌≤◌, ◌<�
 use native.Mathlib.Omega.{arith}
 use Rattle.std.proofs.Math.ListN.{length, replicate, length-append, get_or-append}
 use Rattle.std.proofs.lemmas.List.{set-append_left}
-use Rattle.rows.specs.Parts.{pad, set_append_add}
+use Rattle.rows.specs.Parts.{pad, length_pad, set_append_add}
 use Rattle.rows.specs.Rows.{rows_of, after, rows_append, length_rows}
-use Rattle.virt_regs.specs.Part.{part, part_get, part_set_ahead, part_set_behind, part_set_in}
+use Rattle.rows.specs.Tables.{Table, size_of, table_at, words_at, base_of, Tabled, fits_at, change}
 
 -- m added to word i and to each s words behind it, k of them
 unfoldable pub raised : ℕ → ℕ → List ℕ → ℕ → ℕ → List ℕ
@@ -83,27 +83,16 @@ module _ {A : Type 0} (row : ℕ → A → List ℕ) (step : ℕ → A → ℕ) 
       ∙ sym (append_assoc X Y' Z)
       ∙ ap (λ (n : ℕ). (X ++ Y') ++ replicate (N - n) 0) lz
 
--- ---- seen from a part
+-- ---- in one of the tables
 
-pub part_raised_in : (a e m s : ℕ) (O : List ℕ) (j k i : ℕ) → i ≡ a + j → a ≤ e → j + k * s < e - a + s → e ≤ length O → part a e (raised m s O i k) ≡ raised m s (part a e O) j k
-unfolding raised
-part_raised_in a e m s O j zero i q h l n = refl
-part_raised_in a e m s O j (suc k) i q h l n =
-    let w : j < e - a = omega (arith, suc-mul k s) in
-    let g : get_or (part a e O) j 0 ≡ get_or O i 0 = part_get a e j O w ∙ ap (λ (x : ℕ). get_or O x 0) (sym q) in
-    part_raised_in a e m s (set O i (get_or O i 0 + m)) (j + s) k (i + s) (omega arith) h (omega (arith, suc-mul k s)) (omega (arith, length-set O i (get_or O i 0 + m)))
-    ∙ ap (λ (t : List ℕ). raised m s t (j + s) k) (part_set_in a e i j (get_or O i 0 + m) O q h w n ∙ ap (λ (x : ℕ). set (part a e O) j (x + m)) (sym g))
-
-pub part_raised_ahead : (a e m s : ℕ) (O : List ℕ) (i k : ℕ) → i + k * s < a + s → a ≤ length O → part a e (raised m s O i k) ≡ part a e O
-unfolding raised
-part_raised_ahead a e m s O i zero h l = refl
-part_raised_ahead a e m s O i (suc k) h l =
-    part_raised_ahead a e m s (set O i (get_or O i 0 + m)) (i + s) k (omega (arith, suc-mul k s)) (omega (arith, length-set O i (get_or O i 0 + m)))
-    ∙ part_set_ahead a e i (get_or O i 0 + m) O (omega (arith, suc-mul k s)) l
-
-pub part_raised_behind : (a e m s : ℕ) (O : List ℕ) (i k : ℕ) → a ≤ e → e ≤ i → i + k * s < length O + s → part a e (raised m s O i k) ≡ part a e O
-unfolding raised
-part_raised_behind a e m s O i zero h l n = refl
-part_raised_behind a e m s O i (suc k) h l n =
-    part_raised_behind a e m s (set O i (get_or O i 0 + m)) (i + s) k h (omega arith) (omega (arith, suc-mul k s, length-set O i (get_or O i 0 + m)))
-    ∙ part_set_behind a e i (get_or O i 0 + m) O h l (omega (arith, suc-mul k s))
+module _ (ts : List Table) (cs : List (List ℕ)) (O : List ℕ) (l : Tabled ts cs O) (i : ℕ) (h : i < length cs) where
+  pub put_raised : (m s a j k : ℕ) (ws : List ℕ) → a ≡ base_of i ts + j → j + k * s < size_of (table_at i ts) + s → length ws ≤ size_of (table_at i ts)
+      → raised m s (pad (size_of (table_at i ts)) (words_at i cs)) j k ≡ pad (size_of (table_at i ts)) ws → Tabled ts (set cs i ws) (raised m s O a k)
+  put_raised m s a j k ws ea q f e = change ts cs O l i h ws (raised m s O a k) f (λ p z lp eo.
+      let T : List ℕ = pad (size_of (table_at i ts)) (words_at i cs) in
+      let lt : length T ≡ size_of (table_at i ts) = length_pad (size_of (table_at i ts)) (words_at i cs) (fits_at i ts cs h l.fits) in
+      let at : a ≡ length p + j = omega arith in
+      ap (λ (t : List ℕ). raised m s t a k) eo
+      ∙ ap (λ (n : ℕ). raised m s (p ++ (T ++ z)) n k) at
+      ∙ raised_past m s p (T ++ z) j k
+      ∙ ap (λ (t : List ℕ). p ++ t) (raised_front m s T z j k (omega arith) ∙ ap (λ (t : List ℕ). t ++ z) e))

@@ -14,7 +14,7 @@ use Rattle.use_lists.specs.declared.Source.TheVariants.{Job, Added}
 use Rattle.use_lists.specs.declared.UseList.{UseList}
 use Rattle.use_lists.specs.Lists.{table_of, Within, part_of}
 use Rattle.virt_regs.specs.declared.OutLayout.{OutLayout}
-use Rattle.virt_regs.specs.Part.{part}
+use Rattle.rows.specs.Part.{part}
 use Rattle.virt_regs.specs.Encoding.{use_base, tables_end}
 use Rattle.vreg_uses.specs.Shown.{table_at, rows_in, Listed, shown_words}
 

@@ -7,7 +7,7 @@ use Rattle.set_part.specs.declared.SetPart.{SetPart}
 use Rattle.set_part.specs.Part.{PartOk}
 use Rattle.set_part.proofs.Bounds.{first_le_end}
 use Rattle.virt_regs.specs.declared.OutLayout.{OutLayout}
-use Rattle.virt_regs.specs.Part.{part}
+use Rattle.rows.specs.Part.{part}
 use Rattle.vreg_uses.specs.Shown.{part_list, Listed, shown_words}
 use Rattle.vreg_uses.specs.Laws.{part_shown, part_listed}
 

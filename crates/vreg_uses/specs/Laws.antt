@@ -15,19 +15,20 @@ use Rattle.definition.specs.Types.{Piece, State, inst}
 use Rattle.definition.specs.Place.{pieces_in, uses_in, uses_of, segs_of}
 use Rattle.uses.specs.Rows.{kind_of, use_row, uses_at}
 use Rattle.layout.specs.declared.Layout.{Layout}
-use Rattle.layout.specs.Layout as layout
 use Rattle.set_part.specs.declared.SetPart.{SetPart}
 use Rattle.use_lists.specs.declared.Source.TheVariants.{Added}
 use Rattle.use_lists.specs.declared.UseList.{UseList}
 use Rattle.use_lists.specs.Lists.{table_of}
 use Rattle.virt_regs.specs.declared.OutLayout.{OutLayout}
 use Rattle.virt_regs.specs.declared.PieceRow.{PieceRow}
-use Rattle.virt_regs.specs.Part.{part, part_get, part_cut, part_middle}
+use Rattle.rows.specs.Part.{part, part_get, part_cut, part_middle}
 use Rattle.virt_regs.specs.Encoding.{use_base, group_base, all_pieces, still, each_use, use_rows, Holds}
+use Rattle.virt_regs.specs.Held.{held_long, fit_uses}
 use Rattle.virt_regs.specs.Counting.{uses_append, count_pieces, count_uses, length_uses}
 use Rattle.virt_regs.specs.Reads.{no_piece, piece_at, first_use, piece_held}
 use Rattle.virt_regs.specs.View.{uses_held}
 use Rattle.vreg_uses.specs.Shown.{part_list, piece_list, table_at, Listed, shown_words}
+use Rattle.layout.specs.Layout as layout
 
 -- a use is read from the six words of its row
 reads_use : Reads 6 use_row
@@ -99,7 +100,7 @@ module _ (ol : OutLayout) (O : List ℕ) (st : State) (h : Holds ol O st) where
   -- its list lies in the result's use table
   pub piece_listed : (lay : Layout) (i : ℕ) → i < pieces_in st → Listed lay ol (piece_list O ol i)
   unfolding Listed
-  piece_listed lay i l = rw (piece_list_lem i l) (omega (arith, uses_in_lem i l, h.fit_uses))
+  piece_listed lay i l = rw (piece_list_lem i l) (omega (arith, uses_in_lem i l, fit_uses h))
 
   -- the use rows of piece i
   rows_here : (i : ℕ) → i < pieces_in st
@@ -117,11 +118,11 @@ module _ (ol : OutLayout) (O : List ℕ) (st : State) (h : Holds ol O st) where
       ap (λ (t : List Use). use_rows t) (around i l) ∙ rows_append each_use still tt xs (us ++ ys) ∙ ap (λ (t : List ℕ). use_rows xs ++ t) (rows_append each_use still tt us ys) in
       let whole : O ≡ (T ++ use_rows xs) ++ (use_rows us ++ (use_rows ys ++ (Z ++ rest))) =
       part_cut (use_base ol) (group_base ol) O (omega arith)
-      ∙ ap (λ (t : List ℕ). T ++ (t ++ rest)) (h.uses ∙ ap (λ (t : List ℕ). t ++ Z) rows)
+      ∙ ap (λ (t : List ℕ). T ++ (t ++ rest)) (Rattle.virt_regs.specs.Held.part_uses h ∙ ap (λ (t : List ℕ). t ++ Z) rows)
       ∙ simp append_assoc in
       let a : ℕ = use_base ol + length xs * 6 in
       let lt : length (T ++ use_rows xs) ≡ use_base ol + length xs * 6 =
-      length-append T (use_rows xs) ∙ (let lx = length_uses xs in let lo = length-take-le (use_base ol) O (omega (arith, h.long)) in omega arith) in
+      length-append T (use_rows xs) ∙ (let lx = length_uses xs in let lo = length-take-le (use_base ol) O (omega (arith, held_long h)) in omega arith) in
       let lb : length (use_rows us) ≡ use_base ol + length xs * 6 + length us * 6 - (use_base ol + length xs * 6) = length_uses us ∙ omega arith in
       ap (λ (t : List ℕ). part a (a + length us * 6) t) whole ∙ part_middle (T ++ use_rows xs) (use_rows us) (use_rows ys ++ (Z ++ rest)) a (a + length us * 6) lt lb
 

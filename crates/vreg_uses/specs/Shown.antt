@@ -7,7 +7,7 @@ use Rattle.use_lists.specs.declared.Source.TheVariants.{Job, Added}
 use Rattle.use_lists.specs.declared.UseList.{UseList}
 use Rattle.use_lists.specs.Lists.{table_of}
 use Rattle.virt_regs.specs.declared.OutLayout.{OutLayout}
-use Rattle.virt_regs.specs.Part.{part}
+use Rattle.rows.specs.Part.{part}
 use Rattle.virt_regs.specs.Encoding.{seg_base, use_base}
 use Rattle.virt_regs.specs.Reads.{piece_in}
 

@@ -12,8 +12,9 @@ use Rattle.definition.specs.Weights.{min_f}
 use Rattle.definition.specs.Admit.{register_at, members_at}
 use Rattle.definition.specs.Place.{least_weight}
 use Rattle.virt_regs.specs.declared.OutLayout.{OutLayout}
-use Rattle.virt_regs.specs.Part.{part, part_get}
+use Rattle.rows.specs.Part.{part, part_get}
 use Rattle.virt_regs.specs.Encoding.{seg_base, group_base, tables_end, place_word, Weighs, Holds}
+use Rattle.virt_regs.specs.Held.{fit_registers}
 use Rattle.virt_regs.specs.Reads.{member_held, member_lt, size_le, weight_held, weighs_held}
 use Rattle.vreg_put.specs.Written.{Written}
 
@@ -32,7 +33,7 @@ members_held ol O st g h l =
     record {
       size = size_le ol O st h g l;
       places = λ j k. member_held ol O st h g j l k;
-      there = λ j v e. omega (arith, there j v e, h.fit_registers);
+      there = λ j v e. omega (arith, there j v e, fit_registers h);
       weights = λ j v e. weight_held ol O st h v (there j v e);
       weighs = λ j v e. weighs_held ol O st h v (there j v e);
     }
@@ -58,9 +59,9 @@ members_kept ol O O' st g hr hg l m =
       weighs = m.weighs;
     }
 
-pub members_written : (ol : OutLayout) (O O' : List ℕ) (st : State) (g : VirtRegGroup) (p u : ℕ) (ps : List Piece) (us : List Use) → Written ol O p u ps us O' → g.0 < ol.groups
+pub members_written : (ol : OutLayout) (O O' : List ℕ) (st : State) (g : VirtRegGroup) (p u : ℕ) (ps : List Piece) (us : List Use) → Written ol O p u ps us O' → tables_end ol ≤ length O → g.0 < ol.groups
     → Members ol O st g → Members ol O' st g
-members_written ol O O' st g p u ps us w l m = members_kept ol O O' st g w.registers w.groups l m
+members_written ol O O' st g p u ps us w lo l m = members_kept ol O O' st g w.ahead (w.behind (group_base ol) (tables_end ol) (omega arith) (omega arith)) l m
 
 -- the least weight depends on the weights alone
 pub least_same : (st st' : State) → ((r : VirtReg) → (register_at st' r).weight ≡ (register_at st r).weight) → (i j : ℕ) (ms : List (Option VirtReg)) (w : Float)

@@ -3,7 +3,7 @@ use Rattle.std.specs.Prelude.{◌≡◌, refl, List, [], ◌∷◌, ◌++◌, ma
 use Rattle.std.proofs.Common.{sym, ap, ◌∙◌, add-zero, arith, length-append, take_at, drop_at, get_or-append-add}
 use Rattle.std.proofs.Math.ListN.{get_or-append}
 use Rattle.std.proofs.Math.Seq.{split_at}
-use Rattle.rows.specs.Parts.{splice, pad_get_or, get_d_past, get_or_splice_in}
+use Rattle.rows.specs.Parts.{splice, get_d_past, get_or_splice_in, length_splice, drop_splice}
 use Rattle.rows.specs.Rows.{rows_of, rows_append}
 use Rattle.rows.specs.RowsAt.{rows_at, rows_at_cons, rows_at_append, rows_at_ext, length_rows_at, map-rows-at}
 use Rattle.definition.specs.declared.Use.{Use}
@@ -18,13 +18,16 @@ use Rattle.live_insts.specs.Ranges.{range_of, range_at, range_insts}
 use Rattle.live_insts.specs.Laws.{live_insts_ranges}
 use Rattle.virt_regs.specs.declared.OutLayout.{OutLayout}
 use Rattle.virt_regs.specs.declared.PieceRow.{PieceRow}
-use Rattle.virt_regs.specs.Part.{part, length_part, part_get}
+use Rattle.rows.specs.Part.{part_get}
+use Rattle.rows.specs.Tables.{table_word}
 use Rattle.virt_regs.specs.Each.{Each}
-use Rattle.virt_regs.specs.Encoding.{seg_base, use_base, group_base, tables_end, piece_row, use_words, all_pieces, each_piece, each_use, used_by, still, piece_rows, use_rows, Holds}
+use Rattle.virt_regs.specs.Encoding.{tables, contents, seg_base, use_base, tables_end, piece_row, use_words, all_pieces, each_piece, each_use, used_by, still, piece_rows, use_rows, Holds}
 use Rattle.virt_regs.specs.Counting.{all_append, uses_append, count_uses, count_uses_of, length_pieces, length_uses}
+use Rattle.virt_regs.specs.Held.{held_long, fit_segments, fit_uses}
 use Rattle.virt_regs.specs.Reads.{first_piece, first_use, piece_in, segments_in, first_held, count_held, segments_held, pieces_in_lem}
 use Rattle.vreg_put.specs.Written.{Written}
 use Rattle.vreg_weight.specs.Typed.{TypedUse, use_back}
+use lib.Seq.{get_or-drop}
 
 -- the rows of pieces whose uses begin at use f
 unfoldable pub shown_rows : ℕ → List Piece → List PieceRow
@@ -98,10 +101,14 @@ shown_words ol O p u ps l fp fu t hp hu =
 
 -- ---- pieces that were written
 
-in_part : (a e i j : ℕ) (O T vs : List ℕ) → part a e O ≡ splice T i vs → length T ≡ e - a → i + length vs ≤ length T → j < length vs → get_or O (a + i + j) 0 ≡ get_or vs j 0
-in_part a e i j O T vs h lt l k =
-    let n : a + i + j ≡ a + (i + j) = omega arith in
-    ap (λ (m : ℕ). get_or O m 0) n ∙ sym (part_get a e (i + j) O (omega arith)) ∙ ap (λ (t : List ℕ). get_or t (i + j) 0) h ∙ get_or_splice_in T i vs l j 0 k
+get_or_splice_behind : (d : List ℕ) (i : ℕ) (vs : List ℕ) → i + length vs ≤ length d → (j z : ℕ) → i + length vs ≤ j → get_or (splice d i vs) j z ≡ get_or d j z
+get_or_splice_behind d i vs h j z l =
+    let e : j ≡ i + length vs + (j - (i + length vs)) = omega arith in
+    ap (λ (k : ℕ). get_or (splice d i vs) k z) e
+    ∙ sym (get_or-drop (i + length vs) (splice d i vs) (j - (i + length vs)) z)
+    ∙ ap (λ (t : List ℕ). get_or t (j - (i + length vs)) z) (drop_splice d i vs h)
+    ∙ get_or-drop (i + length vs) d (j - (i + length vs)) z
+    ∙ ap (λ (k : ℕ). get_or d k z) (sym e)
 
 pub shown_written : (ol : OutLayout) (O O' : List ℕ) (p u : ℕ) (ps : List Piece) → Written ol O p u ps (uses_of (segs_of ps)) O' → tables_end ol ≤ length O
     → p + length ps ≤ ol.segs → u + uses_of_pieces ps ≤ ol.uses → Each TypedUse (uses_of (segs_of ps)) → Shown ol O' p u ps
@@ -109,11 +116,14 @@ shown_written ol O O' p u ps w l fp fu t =
     let lp : length (piece_rows u ps) ≡ length ps * 7 = length_pieces u ps in
     let lu : length (use_rows (uses_of (segs_of ps))) ≡ length (uses_of (segs_of ps)) * 6 = length_uses (uses_of (segs_of ps)) in
     let nu : uses_of_pieces ps ≡ length (uses_of (segs_of ps)) = count_uses_of ps in
-    let ls : length (part (seg_base ol) (use_base ol) O) ≡ use_base ol - seg_base ol = length_part (seg_base ol) (use_base ol) O (omega arith) in
-    let lt : length (part (use_base ol) (group_base ol) O) ≡ group_base ol - use_base ol = length_part (use_base ol) (group_base ol) O (omega arith) in
+    let U : List ℕ = use_rows (uses_of (segs_of ps)) in
+    let B : List ℕ = splice O (use_base ol + u * 6) U in
+    let lb : length B ≡ length O = length_splice O (use_base ol + u * 6) U (omega arith) in
     shown_words ol O' p u ps (omega (arith, w.long)) fp fu t
-    (λ j k. in_part (seg_base ol) (use_base ol) (p * 7) j O' (part (seg_base ol) (use_base ol) O) (piece_rows u ps) w.segments ls (omega arith) (omega arith))
-    (λ j k. in_part (use_base ol) (group_base ol) (u * 6) j O' (part (use_base ol) (group_base ol) O) (use_rows (uses_of (segs_of ps))) w.uses lt (omega arith) (omega arith))
+    (λ j k. ap (λ (t : List ℕ). get_or t (seg_base ol + p * 7 + j) 0) w.is ∙ get_or_splice_in B (seg_base ol + p * 7) (piece_rows u ps) (omega arith) j 0 (omega arith))
+    (λ j k. ap (λ (t : List ℕ). get_or t (use_base ol + u * 6 + j) 0) w.is
+    ∙ get_or_splice_behind B (seg_base ol + p * 7) (piece_rows u ps) (omega arith) (use_base ol + u * 6 + j) 0 (omega arith)
+    ∙ get_or_splice_in O (use_base ol + u * 6) U (omega arith) j 0 (omega arith))
 
 -- ---- the pieces of a register that is held
 
@@ -140,7 +150,7 @@ shown_held ol O st v h l t =
     let n : length (uses_of (segs_of (all_pieces rs))) ≡ length A + (length B + length C) = ap length eu ∙ length-append A (B ++ C) ∙ ap (λ (m : ℕ). length A + m) (length-append B C) in
     let rows : use_rows (uses_of (segs_of (all_pieces rs))) ≡ use_rows A ++ (use_rows B ++ use_rows C) =
     ap (λ (x : List Use). use_rows x) eu ∙ rows_append each_use still tt A (B ++ C) ∙ ap (λ (x : List ℕ). use_rows A ++ x) (rows_append each_use still tt B C) in
-    let fit : length A + (length B + length C) ≤ ol.uses = omega (arith, h.fit_uses, count_uses st) in
+    let fit : length A + (length B + length C) ≤ ol.uses = omega (arith, fit_uses h, count_uses st) in
     let piece : (j : ℕ) → j < length r.pieces * 7 → get_or O (seg_base ol + length ps * 7 + j) 0 ≡ get_or (piece_rows (first_use st (length ps)) r.pieces) j 0 =
     λ j m.
     let a : get_or O (v.0 * 8 + 6) 0 ≡ length ps = first_held ol O st h v l in
@@ -154,13 +164,11 @@ shown_held ol O st v h l t =
     let s : use_base ol + first_use st (length ps) * 6 + j ≡ use_base ol + (length A * 6 + j) = omega arith in
     let all : length (use_rows (uses_of (segs_of (all_pieces rs)))) ≡ (length A + (length B + length C)) * 6 = length_uses _ ∙ ap (λ (i : ℕ). i * 6) n in
     ap (λ (i : ℕ). get_or O i 0) s
-    ∙ sym (part_get (use_base ol) (group_base ol) (length A * 6 + j) O (omega arith))
-    ∙ ap (λ (x : List ℕ). get_or x (length A * 6 + j) 0) h.uses
-    ∙ pad_get_or (ol.uses * 6) (use_rows (uses_of (segs_of (all_pieces rs)))) (length A * 6 + j) 0 (omega arith)
+    ∙ table_word (tables ol) (contents st) O h.tabled 2 (omega arith) (use_base ol + (length A * 6 + j)) (length A * 6 + j) refl (omega arith)
     ∙ ap (λ (x : List ℕ). get_or x (length A * 6 + j) 0) rows
     ∙ get_d_past (use_rows A) (use_rows B ++ use_rows C) (length A * 6 + j) j 0 (omega arith)
     ∙ get_or-append (use_rows B) (use_rows C) 0 j (omega arith) in
-    shown_words ol O (length ps) (first_use st (length ps)) r.pieces h.long (omega (arith, pieces_in_lem ol O st h v l, h.fit_segments)) (omega (arith, count_uses_of r.pieces)) t piece use_word
+    shown_words ol O (length ps) (first_use st (length ps)) r.pieces (held_long h) (omega (arith, pieces_in_lem ol O st h v l, fit_segments h)) (omega (arith, count_uses_of r.pieces)) t piece use_word
 
 -- ---- the first piece and the rest
 

@@ -1,6 +1,6 @@
 -- A part of a list of words, and words put into the list, seen from each part. Assumes nothing.
 use Rattle.std.specs.Prelude.{◌≡◌, List, [], ◌∷◌, ◌++◌, ℕ, ◌+◌, ◌-◌, ◌≤◌, ◌<◌}
-use Rattle.std.proofs.Common.{sym, ap, ◌∙◌, append_assoc, arith, drop-drop, length-take-le, take_at, drop_at, get_or-drop, get_or-take}
+use Rattle.std.proofs.Common.{sym, ap, ◌∙◌, subst, append_assoc, arith, drop-drop, length-take-le, take_at, drop_at, get_or-drop, get_or-take}
 use lib.ListN.{length, get_or, set, take, drop, replicate, length-append, length-take, length-drop, take-append-drop}
 use Rattle.std.proofs.lemmas.List.{take-append-le, drop-append-le}
 use Rattle.std.proofs.Math.Seq.{drop-append-add, take-append-add}
@@ -52,7 +52,7 @@ part_cut a e w h =
     sym (take-append-drop a w)
     ∙ ap (λ (x : List ℕ). take a w ++ x) (sym (take-append-drop (e - a) (drop a w)) ∙ ap (λ (x : List ℕ). take (e - a) (drop a w) ++ x) (drop-drop (e - a) a w ∙ ap (λ (n : ℕ). drop n w) k))
 
-splice_past : (p y vs : List ℕ) (a j : ℕ) → length p ≡ a → splice (p ++ y) (a + j) vs ≡ p ++ splice y j vs
+pub splice_past : (p y vs : List ℕ) (a j : ℕ) → length p ≡ a → splice (p ++ y) (a + j) vs ≡ p ++ splice y j vs
 unfolding splice
 splice_past p y vs a j e =
     let t : take (a + j) (p ++ y) ≡ p ++ take j y = ap (λ (n : ℕ). take (n + j) (p ++ y)) (sym e) ∙ take-append-add p y j in
@@ -60,9 +60,23 @@ splice_past p y vs a j e =
     let d : drop (a + j + length vs) (p ++ y) ≡ drop (j + length vs) y = ap (λ (n : ℕ). drop n (p ++ y)) k ∙ drop-append-add p y (j + length vs) in
     rw (t, d, append_assoc)
 
-splice_front : (y z vs : List ℕ) (j : ℕ) → j + length vs ≤ length y → splice (y ++ z) j vs ≡ splice y j vs ++ z
+pub splice_front : (y z vs : List ℕ) (j : ℕ) → j + length vs ≤ length y → splice (y ++ z) j vs ≡ splice y j vs ++ z
 unfolding splice
 splice_front y z vs j h = rw (take-append-le j y z (omega arith), drop-append-le (j + length vs) y z h) (simp append_assoc)
+
+-- words put in at two places that do not meet, in either order
+pub splice_swap : (t v w : List ℕ) (a b : ℕ) → a + length v ≤ b → b ≤ length t → splice (splice t a v) b w ≡ splice (splice t b w) a v
+splice_swap t v w a b h l =
+    let y : List ℕ = take b t in
+    let z : List ℕ = drop b t in
+    let ly : length y ≡ b = length-take-le b t l in
+    let n : length (splice y a v) ≡ b = length_splice y a v (omega arith) ∙ ly in
+    let k : b ≡ b + 0 = omega arith in
+    subst (λ (s : List ℕ). splice (splice s a v) b w ≡ splice (splice s b w) a v) (take-append-drop b t)
+    (ap (λ (s : List ℕ). splice s b w) (splice_front y z v a (omega arith))
+    ∙ ap (λ (i : ℕ). splice (splice y a v ++ z) i w) k
+    ∙ splice_past (splice y a v) z w b 0 n
+    ∙ sym (ap (λ (i : ℕ). splice (splice (y ++ z) i w) a v) k ∙ ap (λ (s : List ℕ). splice s a v) (splice_past y z w b 0 ly) ∙ splice_front y (splice z 0 w) v a (omega arith)))
 
 pub part_middle : (p y z : List ℕ) (a e : ℕ) → length p ≡ a → length y ≡ e - a → part a e (p ++ (y ++ z)) ≡ y
 unfolding part
