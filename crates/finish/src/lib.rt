@@ -29,6 +29,7 @@ use vreg_insert::{Gaps, open_gaps};
 use vreg_weight::{WeightBits, least_weight, weight_of_pieces};
 
 // Where the pieces are written: behind the rows in use, or in gaps that are opened for them.
+#[inline(always)]
 pub fn make_room(fr: &Frame, out: &mut [u8], c: &Counts, p: &Plan, new: &Rows) -> Gaps
     requires { Openable fr.now.ol (words_of out.old) c.now new.now p.now }
     ensures { (st : State) → Holds fr.now.ol (words_of out.old) st → c.now ≡ counts_of st → Opens fr.now.ol st (words_of out.old) c.now new.now result (words_of out.new) p.now }
@@ -47,6 +48,7 @@ pub fn make_room(fr: &Frame, out: &mut [u8], c: &Counts, p: &Plan, new: &Rows) -
 
 // The weight of all pieces that the register has then: of those that were written, by what was told of them, or, where
 // they stand among others, of all that are in the tables.
+#[inline(always)]
 pub fn weigh(
     fr: &Frame,
     out: &[u8],
@@ -73,6 +75,7 @@ pub fn weigh(
 
 // The rows of the register and of its group, and the class and weight of the group's members. The pieces stand where
 // the plan says, and w is the weight of all that the register has.
+#[inline(always)]
 pub fn finish(
     fr: &Frame,
     out: &mut [u8],
