@@ -1,5 +1,5 @@
 -- Each way through a step, for every state that the slices stand for. Assumes nothing.
-use mathlib.Core.Path.{◌≡◌}
+use mathlib.Core.Path.{◌≡◌, sym, subst}
 use mathlib.Core.List.{List}
 use Prim.Native.Nat.{ℕ, ◌+◌}
 use lib.ListN.{length}
@@ -28,20 +28,21 @@ use Rattle.constraints.specs.Held.{held_of}
 use Rattle.constraints.specs.Ready.{Stands}
 use Rattle.conflict_piece.specs.Conflict.{turned_rows_of}
 use Rattle.vreg_weight.specs.Fair.{Fair}
-use Rattle.std.specs.Prelude.{Result, Ok, Err}
+use Rattle.std.specs.Prelude.{Result, Ok, Err, Option, Some, None}
 use Rattle.place_end.specs.declared.NotPlaced.{NotPlaced}
 use Rattle.place_end.specs.declared.NotPlaced.TheVariants as not_placed
 use Rattle.place_end.specs.Ends.{Placed, Ends}
-use Rattle.place_part.specs.Asked.{new_pieces, Standing}
+use Rattle.place_part.specs.Asked.{new_pieces, Standing, Asked}
 use Rattle.place_laws.specs.Held.{HeldFits}
 use Rattle.build_state.specs.Fits.{StandsAs}
 use Rattle.steps.specs.Turns.{turned_once}
+use Rattle.build_part.specs.declared.Next.{Next}
 use Rattle.build_part.specs.declared.Step.{Step}
 use Rattle.build_part.specs.declared.Step.TheVariants.{On}
-use Rattle.build_part.specs.Steps.{StepReady, Moves, Stepped, StepTo}
-use Rattle.build_part.proofs.Parts.{OverBy, standing, whole_held, whole_fair, whole_to, whole_stepped, halt_to, halt_stepped}
+use Rattle.build_part.specs.Steps.{StepReady, Moves, NextIs, NextOr, Stepped, StepTo}
+use Rattle.build_part.proofs.Parts.{OverBy, over_err, standing, whole_asked, whole_held, whole_fair, whole_to, whole_stepped, halt_to, halt_stepped}
 use Rattle.build_part.proofs.Turns.{turn_stepped, turn_to}
-use Rattle.build_part.proofs.Cuts.{front_held, front_fair, cut_stepped, stop_stepped, cut_to, stop_to}
+use Rattle.build_part.proofs.Cuts.{place_asked, front_held, front_fair, cut_stepped, stop_stepped, cut_to, stop_to}
 
 -- what a step does to the work slice, and what it answers for every state that the slices stand for
 abbrev pub Steps : ℕ → ℕ → List ℕ → List ℕ → List ℕ → Layout → OutLayout → WorkLayout → SetPart → Counts → ℕ → RegClass → ValueSet → List ℕ → List ℕ → Result Step NotPlaced → Type 0
@@ -102,3 +103,38 @@ module _ {t w o n : ℕ} {W K O : List ℕ} {lay : Layout} {ol : OutLayout} {wl 
   pub step_halt : (z : Stop) → Moves W K O lay ol wl top sp (halt z) → (x : Result Step NotPlaced) → x ≡ Err (not_placed.Stopped z) → Steps t w W K O lay ol wl sp c n top vs O K x
   step_halt z m x e =
       (halt_stepped g.laid (not_placed.Stopped z) x e, λ st s. halt_to g.laid g.builds s top vs z (m st s.stands) x e)
+
+  -- the answer of next_part, once it is known
+  pub next_taken : (y : Result Next Stop) → NextOr W K O lay ol wl top sp y → (x : Next) → y ≡ Ok x → NextIs W K O lay ol wl top sp x.part x.held x.behind
+  unfolding NextOr
+  next_taken y a x e = subst (λ (z : Result Next Stop). NextOr W K O lay ol wl top sp z) e a
+
+  pub next_halts : (y : Result Next Stop) → NextOr W K O lay ol wl top sp y → (z : Stop) → y ≡ Err z → Moves W K O lay ol wl top sp (halt z)
+  unfolding NextOr
+  next_halts y a z e = subst (λ (x : Result Next Stop). NextOr W K O lay ol wl top sp x) e a
+
+  -- the part that is to be placed: what placing it asks, and the step if it is refused
+  module _ (q : SetPart) (h : Held) where
+    pub next_asked : (b : Option SetPart) → NextIs W K O lay ol wl top sp q h b → Asked t w o W K O lay ol wl q h c
+    unfolding NextIs
+    next_asked None x = subst (λ (y : SetPart). Asked t w o W K O lay ol wl y h c) (sym x.0) (whole_asked g.laid g.builds g.stands top h (x.1 g.state g.stands.stands))
+    next_asked (Some b) x = let m = x.moves g.state g.stands.stands in
+        place_asked g.laid g.state top x.at m g.builds g.stands h (x.holds g.state g.stands.stands g.laid.fair.fit m) q x.left
+
+    pub next_known : (b : Option SetPart) → NextIs W K O lay ol wl top sp q h b → (b' : Option SetPart) → b ≡ b' → NextIs W K O lay ol wl top sp q h b'
+    next_known b x b' e = subst (λ (y : Option SetPart). NextIs W K O lay ol wl top sp q h y) e x
+
+    module _ (r : Placed) (O' K' : List ℕ) (k : Places W K O lay ol wl c vs q h O' K' r) where
+      pub next_over : NextIs W K O lay ol wl top sp q h None → (x : Result Step NotPlaced) → OverBy r n x → Steps t w W K O lay ol wl sp c n top vs O' K' x
+      unfolding NextIs
+      next_over z x e = step_whole h z.1 r O' K' (subst (λ (y : SetPart). Places W K O lay ol wl c vs y h O' K' r) z.0 k) x e
+
+      pub next_on : (b : SetPart) → NextIs W K O lay ol wl top sp q h (Some b) → (c' : Counts) → r ≡ Ok c' → Steps t w W K O lay ol wl sp c n top vs O' K' (Ok (On b c' n))
+      unfolding NextIs
+      next_on b z c' e = step_cuts z.at z.moves q b h z.left z.right z.holds r O' K' k c' e
+
+      pub next_stops : (b : Option SetPart) → NextIs W K O lay ol wl top sp q h b → (v : NotPlaced) → r ≡ Err v → (x : Result Step NotPlaced) → x ≡ Err v
+          → Steps t w W K O lay ol wl sp c n top vs O' K' x
+      unfolding NextIs
+      next_stops None z v er x e = next_over z x (over_err _ _ _ _ er e)
+      next_stops (Some b) z v er x e = step_stops z.at z.moves q b h z.left z.right z.holds r O' K' k v er x e

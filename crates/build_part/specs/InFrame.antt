@@ -10,8 +10,11 @@ use Rattle.frame.specs.declared.lent.Frame.{Frame}
 use Rattle.set_part.specs.declared.SetPart.{SetPart}
 use Rattle.definition.specs.declared.RegClass.{RegClass}
 use Rattle.virt_regs.specs.declared.Counts.{Counts}
+use Rattle.constraints.specs.declared.Held.{Held}
 use Rattle.place_end.specs.declared.NotPlaced.{NotPlaced}
 use Rattle.definition.specs.Admit.{Move}
+use Rattle.definition.specs.declared.Stop.{Stop}
+use Rattle.build_part.specs.declared.Next.{Next}
 use Rattle.build_part.specs.declared.Step.{Step}
 use Rattle.build_part.specs.declared.StepsEnd.{StepsEnd}
 use Rattle.build_part.specs.Steps as steps
@@ -24,6 +27,14 @@ StepReady fr work out = steps.StepReady (word_count fr.job.bytes.now) (word_coun
 -- what the scans lead to
 abbrev pub Moves : Frame → List ℕ → List ℕ → RegClass → SetPart → Move → Type 0
 Moves fr work out = steps.Moves (words_in fr.job) (words_of work) (words_of out) fr.job.lay fr.ol fr.wl
+
+-- the part that is to be placed, or the stop
+abbrev pub NextOr : Frame → List ℕ → List ℕ → RegClass → SetPart → Result Next Stop → Type 0
+NextOr fr work out = steps.NextOr (words_in fr.job) (words_of work) (words_of out) fr.job.lay fr.ol fr.wl
+
+-- the scan up to a use, and what it comes to
+abbrev pub Passes : Frame → List ℕ → List ℕ → RegClass → SetPart → ℕ → Held → Type 0
+Passes fr work out = steps.Passes (words_in fr.job) (words_of work) (words_of out) fr.job.lay fr.ol fr.wl
 
 -- what turning uses of a part leaves
 abbrev pub Turning : Frame → List ℕ → List ℕ → List ℕ → RegClass → SetPart → ℕ → ℕ → Type 0

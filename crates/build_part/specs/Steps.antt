@@ -1,28 +1,37 @@
 -- What a step over a working part leaves, and what all steps leave. Assumes nothing.
-use Rattle.std.specs.Prelude.{◌≡◌, List, ℕ, ◌≤◌, ◌<◌, Result, Ok, Err, IfOk}
+use Rattle.std.specs.Prelude.{◌≡◌, List, ℕ, ◌≤◌, ◌<◌, Result, Ok, Err, IfOk, Option, Some, None}
+use Rattle.definition.specs.declared.Inst.{Inst}
 use Rattle.definition.specs.declared.RegClass.{RegClass}
+use Rattle.definition.specs.declared.Stop.{Stop}
 use Rattle.definition.specs.declared.ValueSet.{ValueSet}
 use Rattle.definition.specs.Types.{Job, State, Out, done, refused}
-use Rattle.definition.specs.Admit.{Move, move}
+use Rattle.definition.specs.Cuts.{left_cut}
+use Rattle.definition.specs.Admit.{Move, whole, cut, halt, move, scan, through, fresh}
 use Rattle.definition.specs.Place.{uses_of}
 use Rattle.definition.specs.Build.{Built}
+use Rattle.definition.proofs.Fits.{SegsFit}
 use Rattle.definition.proofs.Fuel.{run}
 use Rattle.layout.specs.declared.Layout.{Layout}
 use Rattle.job.specs.Job.{job_of}
 use Rattle.set_part.specs.declared.SetPart.{SetPart}
-use Rattle.set_part.specs.Part.{part_segs}
+use Rattle.set_part.specs.Part.{part_segs, marked_use}
+use Rattle.set_cuts.specs.Cut.{cut_part}
 use Rattle.virt_regs.specs.declared.OutLayout.{OutLayout}
 use Rattle.virt_regs.specs.declared.Counts.{Counts}
 use Rattle.virt_regs.specs.Encoding.{room_of}
 use Rattle.work_layout.specs.declared.WorkLayout.{WorkLayout}
+use Rattle.constraints.specs.declared.Held.{Held}
+use Rattle.constraints.specs.Held.{held_of}
 use Rattle.constraints.specs.Ready.{Stands}
 use Rattle.conflict_piece.specs.Conflict.{turned_rows_of, RowsOk}
 use Rattle.place_end.specs.declared.NotPlaced.{NotPlaced}
 use Rattle.place_end.specs.Ends.{end_of}
 use Rattle.build_state.specs.Builds.{Builds}
 use Rattle.build_state.specs.Fits.{StandsAs}
+use Rattle.scans.specs.Answers.{Passed}
 use Rattle.steps.specs.Laid.{uses_left, Laid}
 use Rattle.steps.specs.Built.{Changed}
+use Rattle.build_part.specs.declared.Next.{Next}
 use Rattle.build_part.specs.declared.StepsEnd.{StepsEnd}
 use Rattle.build_part.specs.declared.Step.{Step}
 use Rattle.build_part.specs.declared.Step.TheVariants.{On, Over}
@@ -59,6 +68,30 @@ pub record StepReady (t w o : ℕ) (W K O : List ℕ) (lay : Layout) (ol : OutLa
 -- the scans over the part's uses lead to m, for every state that the slices stand for
 abbrev pub Moves : List ℕ → List ℕ → List ℕ → Layout → OutLayout → WorkLayout → RegClass → SetPart → Move → Type 0
 Moves W K O lay ol wl top sp m = (st : State) → Stands ol O W K lay wl st → move (job_of W lay) st top (uses_of (part_segs K wl.marks W lay sp)) ≡ m
+
+-- sp is cut: the part q is the side before the cut, b the side behind it, and the scan over q comes to what h holds
+pub record CutInto (W K O : List ℕ) (lay : Layout) (ol : OutLayout) (wl : WorkLayout) (top : RegClass) (sp q : SetPart) (h : Held) (b : SetPart) : Type 0 where
+  pub at : Inst
+  pub moves : Moves W K O lay ol wl top sp (cut at)
+  pub left : q ≡ (cut_part (job_of W lay).hints W lay at sp).left
+  pub right : b ≡ (cut_part (job_of W lay).hints W lay at sp).right
+  pub holds : (st : State) → Stands ol O W K lay wl st → SegsFit 0 (part_segs K wl.marks W lay sp)
+      → move (job_of W lay) st top (uses_of (part_segs K wl.marks W lay sp)) ≡ cut at
+      → scan (job_of W lay) st (uses_of (left_cut (job_of W lay).hints at (part_segs K wl.marks W lay sp))) (fresh top) ≡ through (held_of h)
+
+-- the part q is to be placed as h says: it is all of sp, or sp is cut and the other side stays
+unfoldable pub NextIs : List ℕ → List ℕ → List ℕ → Layout → OutLayout → WorkLayout → RegClass → SetPart → SetPart → Held → Option SetPart → Type 0
+NextIs W K O lay ol wl top sp q h None = (q ≡ sp) × Moves W K O lay ol wl top sp (whole (held_of h))
+NextIs W K O lay ol wl top sp q h (Some b) = CutInto W K O lay ol wl top sp q h b
+
+-- the same of an answer, or the scans lead to its stop
+unfoldable pub NextOr : List ℕ → List ℕ → List ℕ → Layout → OutLayout → WorkLayout → RegClass → SetPart → Result Next Stop → Type 0
+NextOr W K O lay ol wl top sp (Ok x) = NextIs W K O lay ol wl top sp x.part x.held x.behind
+NextOr W K O lay ol wl top sp (Err s) = Moves W K O lay ol wl top sp (halt s)
+
+-- the scan from the part's first use goes through up to use number e and comes to what h holds, for every such state
+abbrev pub Passes : List ℕ → List ℕ → List ℕ → Layout → OutLayout → WorkLayout → RegClass → SetPart → ℕ → Held → Type 0
+Passes W K O lay ol wl top sp e h = (st : State) → Stands ol O W K lay wl st → Passed (job_of W lay) st (marked_use K wl.marks W lay) top sp.first e h
 
 -- the part q that is left, behind m turned rows, lies within sp, and a class use less is left
 pub record Onward (t w : ℕ) (W K K' : List ℕ) (lay : Layout) (wl : WorkLayout) (sp : SetPart) (n : ℕ) (q : SetPart) (m : ℕ) : Type 0 where

@@ -1,11 +1,10 @@
 // The steps over the working part of a set (builder.rs `compute_constraints`): uses are turned, cuts are made and the parts before them placed, until all is placed or there is a stop.
 #![tactic(auto)]
 
-ghost use Rattle.std.specs.Prelude.{◌≡◌, ℕ, ◌+◌, IfOk};
+ghost use Rattle.std.specs.Prelude.{◌≡◌, ℕ, IfOk};
 ghost use Rattle.words.specs.Words.{words_of};
 ghost use Rattle.layout.specs.JobWords.{words_in};
 ghost use Rattle.definition.specs.Types.{State};
-ghost use Rattle.definition.specs.Admit.{cut};
 ghost use Rattle.definition.proofs.Fuel.{run};
 ghost use Rattle.job.specs.Job.{job_in};
 ghost use Rattle.virt_regs.specs.Encoding.{room_of};
@@ -18,7 +17,7 @@ ghost use Rattle.conflict_piece.specs.InFrame.{turned_rows_of, RowsOk};
 ghost use Rattle.build_state.specs.InFrame.{StandsAs, Builds};
 ghost use Rattle.steps.specs.InFrame.{Laid};
 ghost use Rattle.constraints.specs.InFrame.{Stands};
-ghost use Rattle.build_part.specs.InFrame.{StepReady, Moves, Turning, Stepped, BuiltFit};
+ghost use Rattle.build_part.specs.InFrame.{StepReady, Moves, Passes, NextOr, Turning, Stepped, BuiltFit};
 
 use constraints::Held;
 use definition::{Inst, RegClass, Stop, ValueSet};
@@ -46,11 +45,22 @@ pub enum Settled {
     Halt(Stop),
 }
 
-// Uses of a part are turned, `turned` in all then, and this is the step behind them.
+// Uses of a part are turned, `turned` in all then, and this is the step behind them. The scans that led to it went on from
+// the part's first use to use number `end`, holding `passed`.
 #[derive(Clone, Copy)]
 pub struct TurnsEnd {
     pub step: Settled,
     pub turned: usize,
+    pub passed: Held,
+    pub end: usize,
+}
+
+// The part that is placed next, with what its uses hold, and the part behind the cut, if there is a cut.
+#[derive(Clone, Copy)]
+pub struct Next {
+    pub part: SetPart,
+    pub held: Held,
+    pub behind: Option<SetPart>,
 }
 
 // One step: the steps go on with a part, behind `turned` turned uses, or all are done.
@@ -89,6 +99,7 @@ fn turn_uses(
     requires { Laid fr.now work.old sp n × Builds fr.now out.now × ((st : State) × Stands fr.now out.now work.old st) }
     ensures turning { Turning fr.now work.old work.new out.now top sp n result.turned }
     ensures moves { Moves fr.now work.new out.now top sp (settled_of result.step) }
+    ensures passes { Passes fr.now work.new out.now top sp result.end result.passed }
 {
     let first = sp.first;
     let mut held = scans::fresh_held(top);
@@ -97,7 +108,14 @@ fn turn_uses(
     loop {
         let m = scans::move_from(fr, out, work, top, first, sp.end, held, at);
         let k = match settle(m.step) {
-            Ok(last) => return TurnsEnd { step: last, turned },
+            Ok(last) => {
+                return TurnsEnd {
+                    step: last,
+                    turned,
+                    passed: m.held,
+                    end: m.end,
+                };
+            }
             Err(k) => k,
         };
         turn_one(fr, work, sp, k.saturating_sub(first), turned);
@@ -112,35 +130,40 @@ fn turn_uses(
     }
 }
 
-// A part is cut at p, and the part before the cut is placed.
-fn step_cut(
+// The part that a step places: the whole, or the part before a cut. Else the stop.
+fn next_part(
     fr: &Frame,
-    out: &mut [u8],
-    work: &mut [u8],
-    set: ValueSet,
+    out: &[u8],
+    work: &[u8],
     top: RegClass,
     sp: SetPart,
-    p: Inst,
-    c: Counts,
-    n: usize,
-) -> Result<Step, NotPlaced>
-    requires { StepReady fr.now work.old out.old sp c n
-        × Moves fr.now work.old out.old top sp (cut p) }
-    ensures stepped { Stepped fr.now work.old work.new sp n result }
-    ensures step_to { (st : State) → StandsAs fr.now out.old work.old c st
-        → StepTo (words_in fr.now.job) fr.now.job.lay fr.now.ol fr.now.wl set top (words_of out.new) (words_of work.new) result
-        (run (job_in fr.now.job) (room_of fr.now.ol) set top st (part_segs fr.now work.old sp) (turned_rows_of fr.now work.old 0 n)) }
+    t: &TurnsEnd,
+) -> Result<Next, Stop>
+    requires { ((n : ℕ) × Laid fr.now work.now sp n) × Builds fr.now out.now × ((st : State) × Stands fr.now out.now work.now st)
+        × Moves fr.now work.now out.now top sp (settled_of t.now.step)
+        × Passes fr.now work.now out.now top sp t.now.end t.now.passed }
+    ensures { NextOr fr.now work.now out.now top sp result }
 {
-    let f = cut_front(fr, out, work, top, sp, p);
-    let left = f.left;
-    let held = f.held;
-    let counts = place_part(fr, out, work, left, set, held, c)?;
-    let step = Step::On {
-        part: f.right,
-        counts,
-        turned: n,
-    };
-    Ok(step)
+    match t.step {
+        Settled::Whole(held) => {
+            let behind = None;
+            Ok(Next {
+                part: sp,
+                held,
+                behind,
+            })
+        }
+        Settled::Cut(p) => {
+            let f = cut_front(fr, out, work, top, sp, p, &t.passed, t.end);
+            let behind = Some(f.right);
+            Ok(Next {
+                part: f.left,
+                held: f.held,
+                behind,
+            })
+        }
+        Settled::Halt(s) => Err(s),
+    }
 }
 
 // The uses to be turned, and the step behind them. Not inlined, so that a level of the recursion below takes little stack.
@@ -163,13 +186,18 @@ fn one_step(
 {
     let t = turn_uses(fr, out, work, top, sp, n);
     let turned = t.turned;
-    match t.step {
-        Settled::Whole(held) => {
-            let counts = place_part(fr, out, work, sp, set, held, c)?;
-            Ok(Step::Over(StepsEnd { counts, turned }))
-        }
-        Settled::Cut(p) => step_cut(fr, out, work, set, top, sp, p, c, turned),
-        Settled::Halt(s) => Err(NotPlaced::Stopped(s)),
+    let next = match next_part(fr, out, work, top, sp, &t) {
+        Ok(next) => next,
+        Err(s) => return Err(NotPlaced::Stopped(s)),
+    };
+    let counts = place_part(fr, out, work, next.part, set, &next.held, c)?;
+    match next.behind {
+        Some(part) => Ok(Step::On {
+            part,
+            counts,
+            turned,
+        }),
+        None => Ok(Step::Over(StepsEnd { counts, turned })),
     }
 }
 

@@ -51,22 +51,22 @@ pub fn place_part(
     work: &mut [u8],
     sp: SetPart,
     set: ValueSet,
-    held: Held,
+    held: &Held,
     c: Counts,
 ) -> Result<Counts, NotPlaced>
-    requires { Asked fr.now work.old out.old sp held c }
-    ensures { (st : State) → Standing fr.now out.old work.old c st → HeldFits (job_in fr.now.job) st held
+    requires { Asked fr.now work.old out.old sp held.now c }
+    ensures { (st : State) → Standing fr.now out.old work.old c st → HeldFits (job_in fr.now.job) st held.now
         → Fair (job_in fr.now.job) 4096 (new_pieces fr.now work.old sp)
-        → Ends fr.now work.old out.new work.new result (place (job_in fr.now.job) (room_of fr.now.ol) set (held_of held) (new_pieces fr.now work.old sp) st) }
+        → Ends fr.now work.old out.new work.new result (place (job_in fr.now.job) (room_of fr.now.ol) set (held_of held.now) (new_pieces fr.now work.old sp) st) }
 {
-    let free = map_new(fr, work, sp, &held, c.groups);
+    let free = map_new(fr, work, sp, held, c.groups);
     let new = Measures {
         pieces: sp.last + 1 - sp.seg,
         uses: sp.end - sp.first,
         from: sp.from,
         to: sp.to,
     };
-    let p = decide(fr, out, &c, &held, &new, free);
+    let p = decide(fr, out, &c, held, &new, free);
     placed(&p)?;
     let rows = Rows {
         pieces: new.pieces,

@@ -43,6 +43,9 @@ module _ (W : List ℕ) (lay : Layout) (p : Inst) (sp : SetPart) (c : Parts) (ok
   left_ok : PartOk W lay c.left
   left_ok = subst (λ (x : Parts). PartOk W lay x.left) (sym parts_are) (cut_sides (job_of W lay).hints W lay p sp ok lo hi).left_side
 
+  left_first : c.left.first ≡ sp.first
+  left_first = ap (λ (x : Parts). x.left.first) parts_are ∙ (cut_sides (job_of W lay).hints W lay p sp ok lo hi).first
+
   pub front_range : (c.left.first ≤ c.left.end) × (c.left.end ≤ lay.uses.n) × (0 < lay.segments.n)
   front_range = (first_le_end W lay c.left left_ok, left_ok.fits, omega (arith, ok.within))
 
@@ -57,6 +60,20 @@ module _ (W : List ℕ) (lay : Layout) (p : Inst) (sp : SetPart) (c : Parts) (ok
       ∙ ap uses_of (sym (cut_left (job_of W lay).hints W lay p sp ok lo hi K marks)) in
       cut_through (job_of W lay) st top (part_segs K marks W lay sp) 0 p f m c.left.first r
       (er ∙ ap (λ (x : types.Held). scan (job_of W lay) st (tab (marked_use K marks W lay) c.left.first (c.left.end - c.left.first)) x) eh ∙ ap (λ (x : List Use). scan (job_of W lay) st x (fresh top)) us)
+
+  -- where the front ends at use number e, what the uses up to e hold is what the front holds
+  pub front_passed : (K : List ℕ) (marks : ℕ) (st : State) (top : RegClass) (e : ℕ) (h : Held) → c.left.end ≡ e
+      → scan (job_of W lay) st (tab (marked_use K marks W lay) sp.first (e - sp.first)) (fresh top) ≡ through (held_of h)
+      → scan (job_of W lay) st (uses_of (left_cut (job_of W lay).hints p (part_segs K marks W lay sp))) (fresh top) ≡ through (held_of h)
+  front_passed K marks st top e h ee s =
+      let us : tab (marked_use K marks W lay) c.left.first (c.left.end - c.left.first) ≡ uses_of (left_cut (job_of W lay).hints p (part_segs K marks W lay sp)) =
+      sym (part_scanned K marks W lay c.left left_ok)
+      ∙ ap (λ (x : Parts). uses_of (part_segs K marks W lay x.left)) parts_are
+      ∙ ap uses_of (sym (cut_left (job_of W lay).hints W lay p sp ok lo hi K marks)) in
+      ap (λ (x : List Use). scan (job_of W lay) st x (fresh top)) (sym us)
+      ∙ ap (λ (k : ℕ). scan (job_of W lay) st (tab (marked_use K marks W lay) k (c.left.end - k)) (fresh top)) left_first
+      ∙ ap (λ (k : ℕ). scan (job_of W lay) st (tab (marked_use K marks W lay) sp.first (k - sp.first)) (fresh top)) ee
+      ∙ s
 
 -- the uses of a part lie within the job's
 pub part_range : (W : List ℕ) (lay : Layout) (sp : SetPart) → PartOk W lay sp → (sp.first ≤ sp.end) × (sp.end ≤ lay.uses.n) × (0 < lay.segments.n)

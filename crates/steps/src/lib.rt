@@ -19,7 +19,8 @@ ghost use Rattle.virt_regs.specs.Encoding.{tables_end};
 ghost use Rattle.constraints.specs.Held.{held_of};
 ghost use Rattle.turned.specs.Turned.{turned_row};
 ghost use Rattle.steps.specs.Turns.{turned_words, turned_once};
-ghost use Rattle.frame.specs.InFrame.{part_segs, PartOk};
+ghost use Rattle.scans.specs.Answers.{Passed};
+ghost use Rattle.frame.specs.InFrame.{marked_use, part_segs, PartOk};
 ghost use Rattle.constraints.specs.InFrame.{Ready, Stands};
 ghost use Rattle.steps.specs.InFrame.{TurnRoom};
 
@@ -60,12 +61,23 @@ pub struct Front {
     pub held: Held,
 }
 
-// A part cut at p, and the scan over the part before it, which goes through.
-pub fn cut_front(fr: &Frame, out: &[u8], work: &[u8], top: RegClass, sp: SetPart, p: Inst) -> Front
+// A part cut at p, and what is held of the uses before the cut. Where these end at use number `end`, what the uses up to it
+// hold is known: `passed`. Else they are scanned, which goes through.
+pub fn cut_front(
+    fr: &Frame,
+    out: &[u8],
+    work: &[u8],
+    top: RegClass,
+    sp: SetPart,
+    p: Inst,
+    passed: &Held,
+    end: usize,
+) -> Front
     requires { Ready fr.now work.now × (tables_end fr.now.ol ≤ word_count out.now) × PartOk fr.now sp
         × (sp.«from».0 < 4 * p.0) × (4 * p.0 < sp.to.0) × (chained not_after (rows_at hint_at (words_in fr.now.job) fr.now.job.lay.hints.at 3 fr.now.job.lay.hints.n) ≡ true) }
     ensures parts { (result.left ≡ (cut_part (job_in fr.now.job).hints (words_in fr.now.job) fr.now.job.lay p sp).left) × (result.right ≡ (cut_part (job_in fr.now.job).hints (words_in fr.now.job) fr.now.job.lay p sp).right) }
     ensures top_held { (st : State) → Stands fr.now out.now work.now st
+        → Passed (job_in fr.now.job) st (marked_use fr.now work.now) top sp.first end passed.now
         → SegsFit 0 (part_segs fr.now work.now sp)
         → move (job_in fr.now.job) st top (uses_of (part_segs fr.now work.now sp)) ≡ cut p
         → scan (job_in fr.now.job) st (uses_of (left_cut (job_in fr.now.job).hints p (part_segs fr.now work.now sp))) (fresh top) ≡ through (held_of result.held) }
@@ -74,6 +86,10 @@ pub fn cut_front(fr: &Frame, out: &[u8], work: &[u8], top: RegClass, sp: SetPart
     let parts = set_cuts::cut_part(job, sp, p);
     let left = parts.left;
     let right = parts.right;
+    if left.end == end {
+        let held = *passed;
+        return Front { left, right, held };
+    }
     let first = scans::fresh_held(top);
     let r = scans::scan_uses(fr, out, work, first, left.first, left.end);
     let held = r.held;

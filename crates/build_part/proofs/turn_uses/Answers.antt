@@ -41,6 +41,9 @@ returns-in-Ok-clause-moves c st h =
     let i = c.loop-last.invariant in
     moves_settled _ _ _ _ _ i.1.laid.ok st _ _ (c.move_from-m.ensures.moves st h (i.4 st h)).0 _ _ (c.settle.ensures _) c.in-Ok.is
 
+pub returns-in-Ok-clause-passes : goal.returns-in-Ok-clause-passes
+returns-in-Ok-clause-passes c st h = (c.move_from-m.ensures.moves st h (c.loop-last.invariant.4 st h)).1
+
 pub turn_one-requires : goal.turn_one-requires
 turn_one-requires c =
     let i = c.loop-last.invariant in
