@@ -13,16 +13,16 @@ use Rattle.definition.specs.Types.{Job, State, Out, done, refused, number_of}
 use Rattle.definition.specs.Place.{◌>>=◌, empty}
 use Rattle.definition.specs.Build.{Result, build, result_of}
 use Rattle.definition.specs.Entry.{entry, answer}
-use Rattle.layout.specs.declared.Layout.{Layout}
-use Rattle.layout.specs.Layout.{seg_at}
+use Rattle.job.specs.declared.Layout.{Layout}
+use Rattle.job.specs.Layout.{seg_at}
 use Rattle.job.specs.Job.{raw_job, job_of}
 use Rattle.virt_regs.specs.declared.OutLayout.{OutLayout}
 use Rattle.virt_regs.specs.declared.Counts.{Counts}
 use Rattle.virt_regs.specs.Encoding.{tables_end, room_of, counts_of, Holds}
 use Rattle.virt_regs.specs.Held.{fit_registers, fit_groups}
 use Rattle.virt_regs.specs.Reads.{holds_mapping}
-use Rattle.work_layout.specs.declared.WorkLayout.{WorkLayout}
-use Rattle.work_layout.specs.Regions.{max_work}
+use Rattle.job.specs.declared.work.WorkLayout.{WorkLayout}
+use Rattle.job.specs.Regions.{max_work}
 use Rattle.entry.specs.Accepted.{Accepted, Prepared}
 use Rattle.entry.proofs.Numbers.{answer_built, answer_refused}
 use Rattle.std.specs.Prelude.{Ok, Err}

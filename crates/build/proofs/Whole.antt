@@ -6,7 +6,7 @@ use Prim.Native.Nat.{ℕ, ◌+◌, ◌-◌, ◌*◌, ◌/◌, ◌≤◌}
 use native.Mathlib.Omega.{arith}
 use lib.ListN.{length, take, drop, replicate, replicate-append-replicate, length-append, length-replicate}
 use lib.Seq.{length-take-le}
-use Rattle.rows.specs.Parts.{pad, drop_replicate}
+use Rattle.words.specs.Parts.{pad, drop_replicate}
 use Rattle.words.specs.Words.{words_of, bytes_of}
 use Rattle.words.specs.Laws.{words_append}
 use Rattle.definition.specs.declared.Refusal.TheVariants.{NotARecord}
@@ -15,7 +15,7 @@ use Rattle.definition.specs.Build.{Result}
 use Rattle.definition.specs.Entry.{answer}
 use Rattle.job.specs.Job.{raw_job}
 use Rattle.std.specs.Prelude.{Option, Some, None, is_some}
-use Rattle.layout.specs.declared.Layout.{Layout}
+use Rattle.job.specs.declared.Layout.{Layout}
 use Rattle.job_shape.specs.Shape.{layout_of, shape_ok, Formed}
 use Rattle.job_shape.specs.Answer.{binary_answer}
 use Rattle.virt_regs.specs.declared.OutLayout.{OutLayout}

@@ -8,7 +8,7 @@ ghost use Rattle.definition.specs.Entry.{answer};
 ghost use Rattle.job.specs.Job.{raw_job, raw_in};
 ghost use Rattle.job_shape.specs.Answer.{binary_answer};
 ghost use Rattle.virt_regs.specs.Encoding.{room_of};
-ghost use Rattle.work_layout.specs.Regions.{max_work};
+ghost use Rattle.job.specs.Regions.{max_work};
 ghost use Rattle.entry.specs.Accepted.{Accepted, Prepared};
 ghost use Rattle.build_answer.specs.Answered.{out_layout_of, Answered};
 ghost use Rattle.build.specs.Ends.{end_number, built_end, Cleared};
@@ -17,11 +17,11 @@ use build_answer::{BuildEnd, out_layout, refuse, tables_bytes};
 use build_sets::build_sets;
 use definition::Refusal;
 use entry::{Entered, enter_prepared};
+use job::Job;
 use job_shape::{ShapedJob, find_layout};
-use layout::Job;
 use place_end::NotPlaced;
-use spans::clear;
 use virt_regs::{Counts, OutLayout};
+use words::span::clear;
 
 // The number of why the sets are not built, which C gets: 8 for a stop, 9 for a full table.
 fn end_number(e: NotPlaced) -> u32

@@ -5,14 +5,14 @@ use lib.ListN.{get_or}
 use lib.Dec.{T}
 use lib.Ieee.{binary32, of_bits, fits}
 use lib.Ieee.Bits.{of_bits-fits}
-use Rattle.rows.specs.Tab.{tab}
-use Rattle.rows.specs.RowsAt.{rows_at}
+use Rattle.words.specs.Tab.{tab}
+use Rattle.words.specs.RowsAt.{rows_at}
 use Rattle.words.specs.Words.{words_of}
 use Rattle.definition.proofs.Places.{All}
 use Rattle.reginfo.specs.Rows.{class_row, classes_at}
 use Rattle.function.specs.Blocks.{block_row}
-use Rattle.layout.specs.Layout.{options_row}
-use Rattle.layout.specs.declared.Layout.{Layout}
+use Rattle.job.specs.Layout.{options_row}
+use Rattle.job.specs.declared.Layout.{Layout}
 use Rattle.job.specs.Job.{job_by, raw_job}
 use Rattle.job_shape.specs.Shape.{layout_of}
 use Rattle.job_shape.specs.Answer.{binary_job}

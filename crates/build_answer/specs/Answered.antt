@@ -1,6 +1,6 @@
 -- What a build leaves in the lent result tables, byte for byte, and answers. Assumes nothing.
 use Rattle.std.specs.Prelude.{◌≡◌, min, List, ℕ, ◌+◌, ◌-◌, ◌*◌, ◌/◌, ◌≤◌, ◌<◌, length, replicate}
-use Rattle.rows.specs.Parts.{pad}
+use Rattle.words.specs.Parts.{pad}
 use Rattle.words.specs.Words.{words_of, bytes_of}
 use Rattle.definition.specs.Types.{State, Out, done, refused, number_of}
 use Rattle.definition.specs.Place.{empty, set_registers, set_groups}
@@ -11,7 +11,7 @@ use Rattle.virt_regs.specs.View.{registers_in, groups_in}
 use Rattle.build_answer.specs.declared.BuildEnd.{BuildEnd}
 use mathlib.Core.List.{[], ◌∷◌}
 use lib.ListN.{get_or}
-use Rattle.rows.specs.Tables.{Table, whole}
+use Rattle.words.specs.Tables.{Table, whole}
 
 -- ---- the tables in a lent slice of n words, cut by the numbers of rows that the caller names: where the slice is too short, the tables have fewer rows
 

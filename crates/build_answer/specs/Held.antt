@@ -3,7 +3,7 @@ use Rattle.std.specs.Prelude.{◌≡◌, List, [], ◌++◌, ℕ, ◌+◌, ◌-�
 use Rattle.std.proofs.Common.{sym, ap, subst, ◌∙◌, arith, take_at}
 use Rattle.std.proofs.lemmas.List.{replicate-append-replicate, length-replicate}
 use Rattle.std.proofs.Math.ListN.{get_or-append}
-use Rattle.rows.specs.Parts.{pad, drop_replicate}
+use Rattle.words.specs.Parts.{pad, drop_replicate}
 use Rattle.words.specs.Words.{words_of, bytes_of}
 use Rattle.words.specs.Laws.{length_words, words_replicate, words_append, bytes_words}
 use Rattle.definition.specs.declared.Refusal.{Refusal}
@@ -15,7 +15,7 @@ use Rattle.virt_regs.specs.Encoding.{tables_end, Holds, tables, contents}
 use Rattle.virt_regs.specs.Reads.{holds_none, holds_mapping}
 use Rattle.build_answer.specs.declared.BuildEnd.{BuildEnd}
 use Rattle.build_answer.specs.Answered.{out_layout_of, Cut, result_words, bytes_left, end_left, state_of, Answered}
-use Rattle.rows.specs.Tables.{tabled_all, tabled_front}
+use Rattle.words.specs.Tables.{tabled_all, tabled_front}
 
 -- ---- the words
 

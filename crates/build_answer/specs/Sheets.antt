@@ -1,7 +1,7 @@
 -- What the answer to a job sheet leaves in the lent result tables, byte for byte, and ends with. Assumes nothing.
 use Rattle.std.specs.Prelude.{◌≡◌, refl, List, ℕ, length, replicate}
 use Rattle.std.proofs.Common.{sym, ap, ◌∙◌, arith}
-use Rattle.rows.specs.Parts.{pad}
+use Rattle.words.specs.Parts.{pad}
 use Rattle.words.specs.Words.{words_of, bytes_of}
 use Rattle.definition.specs.Types.{Out, done, refused}
 use Rattle.definition.specs.Build.{Result}

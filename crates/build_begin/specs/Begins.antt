@@ -2,17 +2,17 @@
 use Rattle.std.specs.Prelude.{ℕ, ◌+◌, ◌^◌, ◌≤◌, ◌<◌, ◌≡◌, true, List}
 use Rattle.std.proofs.Common.{arith, ◌∙◌}
 use Rattle.std.proofs.Math.Path.{sym}
-use Rattle.rows.specs.RowsAt.{rows_at}
+use Rattle.words.specs.RowsAt.{rows_at}
 use Rattle.words.specs.Words.{word_count, words_of}
 use Rattle.definition.specs.Entry.{chained, not_after, entry, entry_tests}
 use Rattle.definition.proofs.Entries.{lowest_none}
 use Rattle.hints.specs.Hints.{hint_at}
-use Rattle.layout.specs.declared.Layout.{Layout}
+use Rattle.job.specs.declared.Layout.{Layout}
 use Rattle.job.specs.Job.{job_of}
 use Rattle.set_part.specs.Part.{CountsRise}
-use Rattle.work_layout.specs.declared.WorkLayout.{WorkLayout}
-use Rattle.work_layout.specs.Regions.{max_work}
-use Rattle.work_layout.proofs.Parts.{heads_are}
+use Rattle.job.specs.declared.work.WorkLayout.{WorkLayout}
+use Rattle.job.specs.Regions.{max_work}
+use Rattle.job.proofs.Parts.{heads_are}
 use Rattle.entry.specs.Accepted.{Accepted, Prepared}
 use Rattle.entry.proofs.Rows.{index_room, job_none, job_insts, use_passed}
 use Rattle.virt_regs.specs.declared.OutLayout.{OutLayout}

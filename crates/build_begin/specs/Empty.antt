@@ -1,17 +1,17 @@
 -- The state that a build begins with: what it is, and that cleared tables and a prepared work slice stand for it. Assumes nothing.
 use Rattle.std.specs.Prelude.{ℕ, zero, suc, ◌≤◌, ◌<◌, ◌≡◌, refl, List, [], length, get_or, replicate}
 use Rattle.std.proofs.Common.{arith}
-use Rattle.rows.specs.Rows.{rows_of}
+use Rattle.words.specs.AnyRows.{rows_of}
 use Rattle.definition.specs.Types.{Job}
 use Rattle.definition.specs.Admit.{mapped_at}
 use Rattle.definition.specs.Place.{uses_of, empty}
-use Rattle.layout.specs.declared.Layout.{Layout}
-use Rattle.operands.proofs.Rows.{long}
+use Rattle.job.specs.declared.Layout.{Layout}
+use Rattle.values.proofs.Rows.{long}
 use Rattle.virt_regs.specs.declared.OutLayout.{OutLayout}
 use Rattle.virt_regs.specs.Each.{Each}
-use Rattle.rows.specs.Tables.{cleared_to}
+use Rattle.words.specs.Tables.{cleared_to}
 use Rattle.virt_regs.specs.Encoding.{tables, contents, tables_end, all_pieces, counts_of, Holds}
-use Rattle.work_layout.specs.declared.WorkLayout.{WorkLayout}
+use Rattle.job.specs.declared.work.WorkLayout.{WorkLayout}
 use Rattle.entry.specs.Accepted.{Prepared}
 use Rattle.constraints.specs.Ready.{operands_in, Mapping}
 use Rattle.build_state.specs.Fits.{StandsAs}

@@ -7,14 +7,14 @@ use Rattle.definition.specs.Types.{Segment}
 use Rattle.definition.specs.Uses.{is_class_use}
 use Rattle.definition.specs.Place.{uses_of}
 use Rattle.definition.specs.Build.{one, class_uses, runs, same_set}
-use Rattle.layout.specs.declared.Layout.{Layout}
-use Rattle.layout.specs.Layout.{seg_at, next_use}
+use Rattle.job.specs.declared.Layout.{Layout}
+use Rattle.job.specs.Layout.{seg_at, next_use}
 use Rattle.job.specs.Job.{job_of}
 use Rattle.set_part.specs.Part.{PartOk, part_segs, whole_part}
 use Rattle.set_part.proofs.Bounds.{first_le_end}
 use Rattle.set_part.proofs.Uses.{part_count}
 use Rattle.set_part.proofs.Whole as whole
-use Rattle.work_layout.specs.declared.WorkLayout.{WorkLayout}
+use Rattle.job.specs.declared.work.WorkLayout.{WorkLayout}
 use Rattle.steps.specs.Laid.{SegsFair, uses_left, Laid}
 use Rattle.steps.specs.Built.{Changed}
 use Rattle.build_begin.specs.Begun.{Begun, Onward, KeptFrom, kept_changed, kept_then, onward_kept}

@@ -4,7 +4,7 @@ use Rattle.std.proofs.Common.{arith, sym, subst, ◌∙◌, ltb-true}
 use Rattle.std.proofs.Math.Path.{ap}
 use Rattle.std.proofs.Math.Option.{none}
 use mathlib.Core.List.{List, [], ◌∷◌}
-use Rattle.rows.specs.RowsAt.{length_rows_at}
+use Rattle.words.specs.RowsAt.{length_rows_at}
 use Rattle.definition.specs.declared.Value.{Value}
 use Rattle.definition.specs.Types.{Segment, Job, Room, State, Out, done}
 use Rattle.definition.specs.RegInfo.{set_of, top_of}
@@ -14,9 +14,9 @@ use Rattle.definition.specs.Entry.{entry, segment_ok, segment_tests}
 use Rattle.definition.proofs.Places.{All}
 use Rattle.definition.proofs.Entries.{conj_all}
 use Rattle.definition.proofs.Fuel.{run}
-use Rattle.coalescing.specs.Rows.{value_row, values_at}
-use Rattle.layout.specs.declared.Layout.{Layout}
-use Rattle.layout.specs.Layout.{seg_at, segment_of}
+use Rattle.values.specs.ValueRows.{value_row, values_at}
+use Rattle.job.specs.declared.Layout.{Layout}
+use Rattle.job.specs.Layout.{seg_at, segment_of}
 use Rattle.job.specs.Job.{job_by, job_of}
 use Rattle.set_runs.specs.Sets.{segs_from, all_segs, first_seg, seg_value}
 use Rattle.build_begin.specs.Rules.{segments_passed}

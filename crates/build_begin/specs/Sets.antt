@@ -5,7 +5,7 @@ use Rattle.std.proofs.Common.{sym, subst, ◌∙◌}
 use Rattle.std.proofs.Math.Path.{ap}
 use Rattle.std.proofs.Math.Option.{none}
 use mathlib.Core.List.{List, [], ◌∷◌, ◌++◌}
-use Rattle.rows.specs.Tab.{tab, tab_done, tab_append}
+use Rattle.words.specs.Tab.{tab, tab_done, tab_append}
 use Rattle.definition.specs.Types.{Segment, Job}
 use Rattle.definition.specs.RegInfo.{set_of}
 use Rattle.definition.specs.Build.{runs, same_set}
@@ -16,8 +16,8 @@ use Rattle.definition.proofs.Fits.{SegsFit}
 use Rattle.definition.proofs.Rises.{Rise, runs_rise}
 use Rattle.definition.proofs.Admission.{UseFits, SegFits}
 use Rattle.uses.specs.Rows.{use_row}
-use Rattle.layout.specs.declared.Layout.{Layout}
-use Rattle.layout.specs.Layout.{segment_of}
+use Rattle.job.specs.declared.Layout.{Layout}
+use Rattle.job.specs.Layout.{segment_of}
 use Rattle.job.specs.Job.{job_of}
 use Rattle.virt_regs.specs.Each.{Each, each_front, each_back}
 use Rattle.vreg_weight.specs.Sorted.{fit_sorted}

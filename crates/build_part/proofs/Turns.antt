@@ -12,7 +12,7 @@ use Rattle.definition.specs.Place.{uses_of}
 use Rattle.definition.specs.Build.{turn_at}
 use Rattle.definition.proofs.Moves.{ClassAt, move_turn}
 use Rattle.definition.proofs.Fuel.{run}
-use Rattle.layout.specs.declared.Layout.{Layout}
+use Rattle.job.specs.declared.Layout.{Layout}
 use Rattle.job.specs.Job.{job_of}
 use Rattle.set_part.specs.declared.SetPart.{SetPart}
 use Rattle.set_part.specs.Part.{PartOk, part_segs}
@@ -21,7 +21,7 @@ use Rattle.turned.specs.Turned.{turned_row}
 use Rattle.virt_regs.specs.declared.Counts.{Counts}
 use Rattle.virt_regs.specs.declared.OutLayout.{OutLayout}
 use Rattle.virt_regs.specs.Encoding.{room_of}
-use Rattle.work_layout.specs.declared.WorkLayout.{WorkLayout}
+use Rattle.job.specs.declared.work.WorkLayout.{WorkLayout}
 use Rattle.conflict_piece.specs.Conflict.{turned_rows_of}
 use Rattle.build_state.specs.Fits.{StandsAs}
 use Rattle.steps.specs.Turns.{turned_once, TurnRoom}

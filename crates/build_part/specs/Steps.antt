@@ -11,7 +11,7 @@ use Rattle.definition.specs.Place.{uses_of}
 use Rattle.definition.specs.Build.{Built}
 use Rattle.definition.proofs.Fits.{SegsFit}
 use Rattle.definition.proofs.Fuel.{run}
-use Rattle.layout.specs.declared.Layout.{Layout}
+use Rattle.job.specs.declared.Layout.{Layout}
 use Rattle.job.specs.Job.{job_of}
 use Rattle.set_part.specs.declared.SetPart.{SetPart}
 use Rattle.set_part.specs.Part.{part_segs, marked_use}
@@ -19,7 +19,7 @@ use Rattle.set_cuts.specs.Cut.{cut_part}
 use Rattle.virt_regs.specs.declared.OutLayout.{OutLayout}
 use Rattle.virt_regs.specs.declared.Counts.{Counts}
 use Rattle.virt_regs.specs.Encoding.{room_of}
-use Rattle.work_layout.specs.declared.WorkLayout.{WorkLayout}
+use Rattle.job.specs.declared.work.WorkLayout.{WorkLayout}
 use Rattle.constraints.specs.declared.Held.{Held}
 use Rattle.constraints.specs.Held.{held_of}
 use Rattle.constraints.specs.Ready.{Stands}

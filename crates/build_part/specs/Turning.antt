@@ -5,13 +5,13 @@ use Rattle.definition.specs.declared.ValueSet.{ValueSet}
 use Rattle.definition.specs.Types.{State}
 use Rattle.definition.specs.Admit.{Move, whole, turn, cut, halt}
 use Rattle.definition.proofs.Fuel.{run}
-use Rattle.layout.specs.declared.Layout.{Layout}
+use Rattle.job.specs.declared.Layout.{Layout}
 use Rattle.job.specs.Job.{job_of}
 use Rattle.set_part.specs.declared.SetPart.{SetPart}
 use Rattle.set_part.specs.Part.{part_segs}
 use Rattle.virt_regs.specs.declared.OutLayout.{OutLayout}
 use Rattle.virt_regs.specs.Encoding.{room_of}
-use Rattle.work_layout.specs.declared.WorkLayout.{WorkLayout}
+use Rattle.job.specs.declared.work.WorkLayout.{WorkLayout}
 use Rattle.constraints.specs.Held.{held_of}
 use Rattle.constraints.specs.Ready.{Stands}
 use Rattle.conflict_piece.specs.Conflict.{turned_rows_of}

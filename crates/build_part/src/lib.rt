@@ -3,7 +3,7 @@
 
 ghost use Rattle.std.specs.Prelude.{◌≡◌, ℕ, IfOk};
 ghost use Rattle.words.specs.Words.{words_of};
-ghost use Rattle.layout.specs.JobWords.{words_in};
+ghost use Rattle.job.specs.JobWords.{words_in};
 ghost use Rattle.definition.specs.Types.{State};
 ghost use Rattle.definition.proofs.Fuel.{run};
 ghost use Rattle.job.specs.Job.{job_in};
@@ -22,7 +22,7 @@ ghost use Rattle.build_part.specs.InFrame.{StepReady, Moves, Passes, NextOr, Tur
 use constraints::Held;
 use definition::{Inst, RegClass, Stop, ValueSet};
 use frame::Frame;
-use layout::Job;
+use job::Job;
 use place_end::NotPlaced;
 use place_part::place_part;
 use scans::Move;

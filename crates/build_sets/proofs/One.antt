@@ -10,15 +10,15 @@ use Rattle.definition.specs.RegInfo.{set_of, top_of}
 use Rattle.definition.specs.Place.{◌>>=◌}
 use Rattle.definition.specs.Build.{Built, conflicts, runs, same_inst, build_set}
 use Rattle.definition.proofs.Fuel.{run}
-use Rattle.layout.specs.declared.Layout.{Layout}
-use Rattle.layout.specs.Layout.{seg_at, next_use}
+use Rattle.job.specs.declared.Layout.{Layout}
+use Rattle.job.specs.Layout.{seg_at, next_use}
 use Rattle.job.specs.Job.{job_of}
 use Rattle.set_part.specs.declared.SetPart.{SetPart}
 use Rattle.set_part.specs.Part.{part_segs, whole_part}
 use Rattle.virt_regs.specs.declared.OutLayout.{OutLayout}
 use Rattle.virt_regs.specs.declared.Counts.{Counts}
 use Rattle.virt_regs.specs.Encoding.{room_of}
-use Rattle.work_layout.specs.declared.WorkLayout.{WorkLayout}
+use Rattle.job.specs.declared.work.WorkLayout.{WorkLayout}
 use Rattle.constraints.specs.Ready.{Ready}
 use Rattle.part_maps.specs.Maps.{MapApart}
 use Rattle.conflict_piece.specs.Conflict.{turned_rows_of, RowsOk}

@@ -2,7 +2,7 @@
 -- nothing.
 use Rattle.std.specs.Prelude.{ℕ, List}
 use Rattle.words.specs.Words.{word_count, words_of}
-use Rattle.layout.specs.JobWords.{words_in}
+use Rattle.job.specs.JobWords.{words_in}
 use Rattle.frame.specs.declared.lent.Frame.{Frame}
 use Rattle.virt_regs.specs.declared.Counts.{Counts}
 use Rattle.build_sets.specs.Sets as sets

@@ -35,11 +35,11 @@
 
 ghost use Rattle.std.specs.Prelude.{◌<◌};
 ghost use Rattle.words.specs.Words.{word_count, words_of};
-ghost use Rattle.layout.specs.JobWords.{words_in};
+ghost use Rattle.job.specs.JobWords.{words_in};
 ghost use Rattle.definition.specs.Types.{State};
 ghost use Rattle.definition.specs.Place.{empty};
 ghost use Rattle.definition.specs.Build.{build_set};
-ghost use Rattle.layout.specs.Layout.{seg_at};
+ghost use Rattle.job.specs.Layout.{seg_at};
 ghost use Rattle.job.specs.Job.{job_in, job_of};
 ghost use Rattle.virt_regs.specs.Encoding.{room_of};
 ghost use Rattle.set_runs.specs.Sets.{segs_from};
@@ -54,12 +54,12 @@ ghost use Rattle.build_sets.specs.Sets.{SetsReady};
 use build_part::build_part;
 use conflicts::conflicts;
 use frame::{Frame, frame_of};
-use layout::{Job, Layout};
+use job::work::WorkLayout;
+use job::{Job, Layout};
 use place_end::NotPlaced;
 use set_part::whole_part;
 use set_runs::{set_at, set_end, top_at};
 use virt_regs::{Counts, OutLayout};
-use work_layout::WorkLayout;
 
 // A set, segments a to b - 1: the steps over all of it, then its conflict registers.
 pub fn build_set(

@@ -5,7 +5,7 @@ use Rattle.definition.specs.RegInfo.{class_at}
 use Rattle.definition.proofs.Admission.{Sizes, UseFits}
 use Rattle.definition.proofs.Classes.{Masks}
 use Rattle.uses.specs.Rows.{use_row}
-use Rattle.layout.specs.declared.Layout.{Layout}
+use Rattle.job.specs.declared.Layout.{Layout}
 use Rattle.job.specs.Job.{job_of}
 use Rattle.virt_regs.specs.declared.OutLayout.{OutLayout}
 use Rattle.virt_regs.specs.Encoding.{tables_end}

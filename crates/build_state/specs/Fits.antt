@@ -8,11 +8,11 @@ use Rattle.definition.specs.Types.{Job, State}
 use Rattle.definition.specs.Admit.{members_at, mapped_at, register_at}
 use Rattle.definition.proofs.Places.{Groups}
 use Rattle.definition.proofs.Admission.{asked, size_of}
-use Rattle.layout.specs.declared.Layout.{Layout}
+use Rattle.job.specs.declared.Layout.{Layout}
 use Rattle.virt_regs.specs.declared.OutLayout.{OutLayout}
 use Rattle.virt_regs.specs.declared.Counts.{Counts}
 use Rattle.virt_regs.specs.Encoding.{counts_of}
-use Rattle.work_layout.specs.declared.WorkLayout.{WorkLayout}
+use Rattle.job.specs.declared.work.WorkLayout.{WorkLayout}
 use Rattle.constraints.specs.Ready.{Stands}
 use Rattle.place_end.specs.Ends.{Sane}
 

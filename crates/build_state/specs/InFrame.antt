@@ -2,7 +2,7 @@
 -- and Builds have it of words and layouts. Assumes nothing.
 use Rattle.std.specs.Prelude.{ℕ, List}
 use Rattle.words.specs.Words.{word_count, words_of}
-use Rattle.layout.specs.JobWords.{words_in}
+use Rattle.job.specs.JobWords.{words_in}
 use Rattle.job.specs.Job.{job_in}
 use Rattle.frame.specs.declared.lent.Frame.{Frame}
 use Rattle.definition.specs.Types.{State}

@@ -11,7 +11,7 @@ use Rattle.definition.specs.declared.UseKind.TheVariants.{ConstraintConflict, Bl
 use Rattle.definition.specs.Types.{cls}
 use Rattle.definition.specs.Build.{turned_use}
 use Rattle.uses.specs.Rows.{pick_k, use_row, kind_of}
-use Rattle.layout.specs.declared.Layout.{Layout}
+use Rattle.job.specs.declared.Layout.{Layout}
 use Rattle.set_part.specs.Part.{marked_use}
 use Rattle.constraints.specs.Asks.{ask_of}
 use Rattle.class_walk.specs.declared.Asked.{Asked}

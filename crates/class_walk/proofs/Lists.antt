@@ -4,7 +4,7 @@ use mathlib.Core.List.{[], ◌∷◌, ◌++◌, reverse, reverse-append}
 use Prim.Native.Nat.{ℕ, ◌+◌, ◌-◌, ◌≤◌, ◌<◌}
 use native.Mathlib.Omega.{arith}
 use lib.ListN.{length}
-use Rattle.rows.specs.Tab.{tab, down, tab_more, tab_done, tab_snoc, tab_append, tab_ext, down_reverse, length_down}
+use Rattle.words.specs.Tab.{tab, down, tab_more, tab_done, tab_snoc, tab_append, tab_ext, down_reverse, length_down}
 use Rattle.definition.specs.declared.Use.{Use}
 
 module _ (f : ℕ → Use) where

@@ -2,9 +2,9 @@
 -- and whatever else is held. Assumes nothing.
 use Rattle.std.specs.Prelude.{ℕ, ◌-◌, ◌≤◌, ◌<◌, ◌≡◌, true, List, reverse, Option, Some, None}
 use Rattle.std.proofs.Math.Option as maybe
-use Rattle.rows.specs.Tab.{tab}
-use Rattle.layout.specs.declared.job.Job as lent
-use Rattle.layout.specs.JobWords.{words_in}
+use Rattle.words.specs.Tab.{tab}
+use Rattle.job.specs.declared.job.Job as lent
+use Rattle.job.specs.JobWords.{words_in}
 use Rattle.definition.specs.declared.RegClass.{RegClass}
 use Rattle.definition.specs.declared.ClassData.{ClassData}
 use Rattle.definition.specs.declared.Use.{Use}

@@ -10,7 +10,7 @@ ghost use Rattle.class_walk.specs.Walks.{book, asked_of, IsMasked, Narrows, Meet
 
 use definition::RegClass;
 use frame::Frame;
-use layout::Job;
+use job::Job;
 
 // A class, and the mask of its subclasses.
 #[derive(Clone, Copy)]

@@ -9,7 +9,7 @@ use Prim.Native.Nat.{ℕ, zero, suc, ◌+◌, ◌-◌, ◌*◌, ◌≤◌, ◌<�
 use native.Mathlib.Omega.{arith}
 use lib.Dec.{eqb}
 use lib.ListN.{length, get_or, length-append}
-use Rattle.rows.specs.Tab.{tab, length_tab}
+use Rattle.words.specs.Tab.{tab, length_tab}
 use Rattle.definition.specs.declared.Value.{Value}
 use Rattle.definition.specs.declared.Inst.{Inst}
 use Rattle.definition.specs.declared.Use.{Use}
@@ -18,7 +18,7 @@ use Rattle.definition.specs.Lines.{hint_in}
 use Rattle.definition.specs.Build.{opening, conflict_piece}
 use Rattle.definition.specs.Place.{uses_of, segs_of, uses_of_pieces}
 use Rattle.uses.specs.Rows.{use_row}
-use Rattle.layout.specs.declared.Layout.{Layout}
+use Rattle.job.specs.declared.Layout.{Layout}
 use Rattle.set_part.specs.Part.{marked_use}
 use Rattle.turned.specs.declared.TurnedRow.{TurnedRow}
 use Rattle.turned.specs.Turned.{row_turned}

@@ -7,15 +7,15 @@ use Prim.Native.Nat.{ℕ, ◌+◌, ◌-◌, ◌*◌, ◌/◌, ◌≤◌, ◌<◌
 use native.Mathlib.Omega.{arith}
 use lib.Dec.{eqb}
 use lib.ListN.{length, get_or}
-use Rattle.rows.specs.Tab.{length_tab, tab_more, tab_done}
+use Rattle.words.specs.Tab.{length_tab, tab_more, tab_done}
 use Rattle.words.specs.Words.{word_count, words_of}
 use Rattle.words.specs.Laws.{length_words}
 use Rattle.definition.specs.Types.{State, Turned, val}
-use Rattle.operands.proofs.Rows.{long}
+use Rattle.values.proofs.Rows.{long}
 use Rattle.uses.specs.Rows.{use_row}
-use Rattle.layout.specs.declared.Layout.{Layout}
+use Rattle.job.specs.declared.Layout.{Layout}
 use Rattle.virt_regs.specs.declared.OutLayout.{OutLayout}
-use Rattle.work_layout.specs.declared.WorkLayout.{WorkLayout}
+use Rattle.job.specs.declared.work.WorkLayout.{WorkLayout}
 use Rattle.constraints.specs.Ready.{Ready, Stands}
 use Rattle.constraints.proofs.Kept as kept
 use Rattle.conflict_piece.specs.Conflict.{row_use, turned_row_at, turned_rows_of, RowsOk}

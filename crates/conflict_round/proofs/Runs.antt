@@ -15,12 +15,12 @@ use Rattle.std.specs.Iterator.{ChecksAll}
 use Rattle.std.specs.List.{list_all, range_with_len}
 use Rattle.std.specs.declared.ops.Range.{Range}
 use denote.Param.Members.{Mut}
-use Rattle.rows.specs.Tab.{tab}
+use Rattle.words.specs.Tab.{tab}
 use Rattle.definition.specs.declared.Value.{Value}
 use Rattle.definition.specs.declared.Use.{Use}
 use Rattle.definition.specs.Types.{Turned, val}
 use Rattle.definition.specs.Build.{all_of, runs, same_inst}
-use Rattle.layout.specs.declared.Layout.{Layout}
+use Rattle.job.specs.declared.Layout.{Layout}
 use Rattle.conflict_piece.specs.Conflict.{row_use, turned_row_at, turned_rows_of}
 use Rattle.set_runs.specs.Runs.{Running, running_stop, running_end}
 use Rattle.conflict_round.proofs.Kept.{row_use_lem}

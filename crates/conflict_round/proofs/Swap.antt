@@ -10,8 +10,8 @@ use lib.Dec.{eqb, ltb}
 use lib.ListN.{length, get_or}
 use lib.Seq.{get_or-drop}
 use borrow.Author.Tests.{ltb-true, ltb-false, eqb-true, eqb-false}
-use Rattle.rows.specs.Parts.{splice, length_splice, get_or_splice_before, get_or_splice_in, drop_splice}
-use Rattle.layout.specs.declared.Layout.{Layout}
+use Rattle.words.specs.Parts.{splice, length_splice, get_or_splice_before, get_or_splice_in, drop_splice}
+use Rattle.job.specs.declared.Layout.{Layout}
 use Rattle.conflict_round.specs.declared.RowWords.{RowWords}
 use Rattle.conflict_piece.specs.Conflict.{RowsOk}
 use Rattle.conflict_round.specs.Rounds.{row_words, four_of, swap_rows, Elsewhere}

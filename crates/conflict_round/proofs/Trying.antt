@@ -6,7 +6,7 @@ use Prim.Native.Nat.{ℕ, zero, suc, ◌+◌, ◌-◌, ◌*◌, ◌≤◌, ◌<�
 use native.Mathlib.Numerals.{add-one}
 use native.Mathlib.Omega.{arith}
 use lib.ListN.{length, get_or}
-use Rattle.rows.specs.Tab.{tab, length_tab, tab_more, tab_snoc, tab_ext}
+use Rattle.words.specs.Tab.{tab, length_tab, tab_more, tab_snoc, tab_ext}
 use Rattle.definition.specs.declared.RegClass.{RegClass}
 use Rattle.definition.specs.declared.Use.{Use}
 use Rattle.definition.specs.Types.{Job, State, Turned}
@@ -14,12 +14,12 @@ use Rattle.definition.specs.Types as types
 use Rattle.definition.specs.Admit.{fresh, admit}
 use Rattle.definition.specs.Build.{last_first, last_first', try}
 use Rattle.definition.specs.Build as build
-use Rattle.layout.specs.declared.Layout.{Layout}
+use Rattle.job.specs.declared.Layout.{Layout}
 use Rattle.job.specs.Job.{job_of}
 use Rattle.constraints.specs.declared.Held.{Held}
 use Rattle.std.specs.Prelude.{Some, None}
 use Rattle.std.specs.Prelude as code
-use Rattle.work_layout.specs.declared.WorkLayout.{WorkLayout}
+use Rattle.job.specs.declared.work.WorkLayout.{WorkLayout}
 use Rattle.constraints.specs.Held.{held_of, admission_of}
 use Rattle.constraints.specs.Ready.{Backed, Ready}
 use Rattle.constraints.proofs.Admitted.{answer_yes, answer_no}

@@ -1,14 +1,14 @@
 -- A round over rows of turned uses, in place. Assumes nothing.
 use Rattle.std.specs.Prelude.{ℕ, ◌+◌, ◌*◌, ◌≤◌, ◌<◌, ◌≡◌, List, [], ◌∷◌, length, get_or}
-use Rattle.rows.specs.Parts.{splice}
+use Rattle.words.specs.Parts.{splice}
 use Rattle.definition.specs.declared.RegClass.{RegClass}
 use Rattle.definition.specs.Types.{Job, State, Turned}
 use Rattle.definition.specs.Types as types
 use Rattle.definition.specs.Admit.{fresh}
 use Rattle.definition.specs.Build.{try}
 use Rattle.definition.specs.Build as build
-use Rattle.layout.specs.declared.Layout.{Layout}
-use Rattle.work_layout.specs.declared.WorkLayout.{WorkLayout}
+use Rattle.job.specs.declared.Layout.{Layout}
+use Rattle.job.specs.declared.work.WorkLayout.{WorkLayout}
 use Rattle.constraints.specs.Held.{held_of}
 use Rattle.conflict_round.specs.declared.Round.{Round}
 use Rattle.conflict_round.specs.declared.RowWords.{RowWords}

@@ -3,7 +3,7 @@
 
 ghost use Rattle.std.specs.Prelude.{◌≡◌, List, ◌∷◌, ℕ, ◌+◌, ◌*◌, ◌≤◌, ◌<◌, get_or};
 ghost use Rattle.words.specs.Words.{word_count, words_of};
-ghost use Rattle.layout.specs.JobWords.{words_in};
+ghost use Rattle.job.specs.JobWords.{words_in};
 ghost use Rattle.definition.specs.Types.{State};
 ghost use Rattle.definition.specs.Admit.{admit};
 ghost use Rattle.definition.specs.Build.{all_of, runs, same_inst};
@@ -19,7 +19,7 @@ ghost use Rattle.conflict_piece.specs.InFrame.{row_use, turned_rows_of, RowsOk};
 use constraints::Held;
 use definition::RegClass;
 use frame::Frame;
-use layout::Layout;
+use job::Layout;
 
 // The four words of a row: value, use number, whether it has a parameter (0 or 1), the parameter.
 // No array of four: the definitions of a round name the words.

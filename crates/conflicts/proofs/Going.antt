@@ -8,12 +8,12 @@ use Rattle.definition.specs.declared.ValueSet.{ValueSet}
 use Rattle.definition.specs.Types.{Job, State, Turned, Out, done, refused}
 use Rattle.definition.specs.Place.{◌>>=◌}
 use Rattle.definition.specs.Build.{at_inst, conflicts, runs, same_inst}
-use Rattle.layout.specs.declared.Layout.{Layout}
+use Rattle.job.specs.declared.Layout.{Layout}
 use Rattle.job.specs.Job.{job_of}
 use Rattle.virt_regs.specs.declared.OutLayout.{OutLayout}
 use Rattle.virt_regs.specs.declared.Counts.{Counts}
 use Rattle.virt_regs.specs.Encoding.{room_of}
-use Rattle.work_layout.specs.declared.WorkLayout.{WorkLayout}
+use Rattle.job.specs.declared.work.WorkLayout.{WorkLayout}
 use Rattle.conflict_piece.specs.Conflict.{turned_rows_of}
 use Rattle.conflict_round.proofs.Kept.{rows_none, rows_part}
 use Rattle.std.specs.Prelude.{Ok, Err}

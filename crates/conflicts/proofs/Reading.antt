@@ -17,10 +17,10 @@ use Rattle.definition.specs.declared.ValueSet.{ValueSet}
 use Rattle.definition.specs.Types.{Job, Room, State, Turned, Out, refused, val}
 use Rattle.definition.specs.Entry.{insts_of}
 use Rattle.definition.specs.Build.{all_of, at_inst, rounds}
-use Rattle.layout.specs.declared.Layout.{Layout}
+use Rattle.job.specs.declared.Layout.{Layout}
 use Rattle.job.specs.Job.{job_by, job_of}
 use Rattle.virt_regs.specs.declared.OutLayout.{OutLayout}
-use Rattle.work_layout.specs.declared.WorkLayout.{WorkLayout}
+use Rattle.job.specs.declared.work.WorkLayout.{WorkLayout}
 use Rattle.constraints.specs.Ready.{Ready}
 use Rattle.conflict_piece.specs.Conflict.{row_use, turned_row_at, turned_rows_of, param_by}
 use Rattle.conflict_round.proofs.Kept.{rows_more, rows_long}

@@ -8,12 +8,12 @@ use Rattle.definition.specs.declared.UseKind.TheVariants.{ConstraintConflict}
 use Rattle.definition.specs.declared.ValueSet.{ValueSet}
 use Rattle.definition.specs.Types.{Job, Room, State, Turned, Out, done}
 use Rattle.definition.specs.Build.{rounds}
-use Rattle.layout.specs.declared.Layout.{Layout}
+use Rattle.job.specs.declared.Layout.{Layout}
 use Rattle.job.specs.Job.{job_of}
 use Rattle.virt_regs.specs.declared.OutLayout.{OutLayout}
 use Rattle.virt_regs.specs.declared.Counts.{Counts}
 use Rattle.virt_regs.specs.Encoding.{room_of}
-use Rattle.work_layout.specs.declared.WorkLayout.{WorkLayout}
+use Rattle.job.specs.declared.work.WorkLayout.{WorkLayout}
 use Rattle.conflict_piece.specs.Conflict.{turned_rows_of, RowsOk, param_by}
 use Rattle.conflict_round.proofs.Kept.{rows_none}
 use Rattle.std.specs.Prelude.{Result, Ok, Err}

@@ -3,7 +3,7 @@
 use Rattle.std.specs.Prelude.{ℕ, List, Result}
 use Rattle.definition.specs.Types.{Out, State, Turned, Room}
 use Rattle.words.specs.Words.{word_count, words_of}
-use Rattle.layout.specs.JobWords.{words_in}
+use Rattle.job.specs.JobWords.{words_in}
 use Rattle.job.specs.Job.{job_in}
 use Rattle.frame.specs.declared.lent.Frame.{Frame}
 use Rattle.definition.specs.declared.ValueSet.{ValueSet}

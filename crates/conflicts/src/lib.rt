@@ -4,7 +4,7 @@
 ghost use Rattle.std.specs.Prelude.{◌≡◌, IfOk, cond, ℕ, ◌+◌, ◌-◌, ◌*◌, ◌≤◌, ◌<◌, eqb, get_or};
 ghost use Rattle.std.proofs.Math.Option.{none, some};
 ghost use Rattle.words.specs.Words.{word_count, words_of};
-ghost use Rattle.layout.specs.JobWords.{words_in};
+ghost use Rattle.job.specs.JobWords.{words_in};
 ghost use Rattle.definition.specs.Types.{State, Turned};
 ghost use Rattle.definition.specs.Entry.{insts_of};
 ghost use Rattle.definition.specs.Build as build;

@@ -8,8 +8,8 @@ use native.Mathlib.Omega.{arith}
 use lib.Dec.{eqb, ltb}
 use lib.ListN.{length, get_or}
 use borrow.Author.Tests.{ltb-true, ltb-false, leb-true, lt-ltb, le-ltb}
-use Rattle.rows.specs.Tab.{tab, length_tab, get_or_tab}
-use Rattle.rows.specs.RowsAt.{rows_at, length_rows_at, get_or_rows_at}
+use Rattle.words.specs.Tab.{tab, length_tab, get_or_tab}
+use Rattle.words.specs.RowsAt.{rows_at, length_rows_at, get_or_rows_at}
 use Rattle.definition.specs.declared.Inst.{Inst}
 use Rattle.definition.specs.declared.Value.{Value}
 use Rattle.definition.specs.declared.RegClass.{RegClass}
@@ -21,22 +21,22 @@ use Rattle.definition.specs.Types.{Segment, Job, val, point}
 use Rattle.definition.specs.Admit.{no_use}
 use Rattle.definition.specs.Entry.{conj, every, some_is, apart, same_place, insts_of, insts, limit_tests, limits_ok, vgroup_tests, vgroup_ok, operand_tests, operand_ok, function_tests, function_ok, group_use_tests, group_use_ok, kind_ok, use_tests, use_ok, uses_ok}
 use Rattle.definition.proofs.Entries.{and_both}
-use Rattle.coalescing.specs.Rows.{vgroup_row}
-use Rattle.coalescing.proofs.Members.{groups_long, group_row_at}
+use Rattle.values.specs.ValueRows.{vgroup_row}
+use Rattle.values.proofs.Members.{groups_long, group_row_at}
 use Rattle.function.specs.Blocks.{block_row, blocks_at, Starts}
-use Rattle.operands.specs.Rows.{no_operand, op_at, is_at}
-use Rattle.operands.specs.Chains.{Under, Chained}
-use Rattle.operands.specs.Chains as chains
-use Rattle.operands.proofs.Rows.{long}
-use Rattle.operands.proofs.Twice.{never}
-use Rattle.operands.proofs.Only.{under_of}
+use Rattle.values.specs.OperandRows.{no_operand, op_at, is_at}
+use Rattle.values.specs.Chains.{Under, Chained}
+use Rattle.values.specs.Chains as chains
+use Rattle.values.proofs.Rows.{long}
+use Rattle.values.proofs.Twice.{never}
+use Rattle.values.proofs.Only.{under_of}
 use Rattle.uses.specs.Rows.{use_row}
-use Rattle.layout.specs.declared.Layout.{Layout}
-use Rattle.layout.specs.Layout.{Fits, seg_row, seg_at, next_use, job_uses, segment_of}
+use Rattle.job.specs.declared.Layout.{Layout}
+use Rattle.job.specs.Layout.{Fits, seg_row, seg_at, next_use, job_uses, segment_of}
 use Rattle.job.specs.Job.{job_by, job_of}
-use Rattle.work_layout.specs.declared.WorkLayout.{WorkLayout}
+use Rattle.job.specs.declared.work.WorkLayout.{WorkLayout}
 use Rattle.constraints.specs.Asks.{ask_of}
-use Rattle.work_layout.specs.Regions.{chains_in}
+use Rattle.job.specs.Regions.{chains_in}
 use Rattle.constraints.specs.Ready.{operands_in, HasOperand, BackedAsk, Backed, Ready}
 use Rattle.constraints.proofs.Operand.{job_blocks, job_vgroups, job_operands}
 

@@ -17,18 +17,18 @@ use Rattle.definition.specs.Types.{Mapped, State, inst}
 use Rattle.definition.specs.Admit.{mapped_at}
 use Rattle.definition.specs.Entry.{apart, same_place}
 use Rattle.definition.proofs.Entries.{and_both}
-use Rattle.rows.specs.RowsAt.{length_rows_at}
+use Rattle.words.specs.RowsAt.{length_rows_at}
 use Rattle.function.specs.Blocks.{block_row, blocks_at, Starts}
 use Rattle.std.specs.Prelude.{Some}
-use Rattle.operands.specs.Rows.{op_at, is_at, last_place}
-use Rattle.operands.proofs.Rows.{long}
-use Rattle.operands.proofs.Store.{chained_kept}
-use Rattle.operands.proofs.Only.{found_only}
-use Rattle.layout.specs.declared.Layout.{Layout}
+use Rattle.values.specs.OperandRows.{op_at, is_at, last_place}
+use Rattle.values.proofs.Rows.{long}
+use Rattle.values.proofs.Store.{chained_kept}
+use Rattle.values.proofs.Only.{found_only}
+use Rattle.job.specs.declared.Layout.{Layout}
 use Rattle.virt_regs.specs.declared.OutLayout.{OutLayout}
 use Rattle.virt_regs.specs.Encoding.{group_word}
-use Rattle.work_layout.specs.declared.WorkLayout.{WorkLayout}
-use Rattle.work_layout.specs.Regions.{chains_in}
+use Rattle.job.specs.declared.work.WorkLayout.{WorkLayout}
+use Rattle.job.specs.Regions.{chains_in}
 use Rattle.constraints.specs.Ready.{operands_in, Mapping, Ready, Stands}
 
 -- n words from word `at` on are the same in L as in K

@@ -16,20 +16,20 @@ use Rattle.definition.specs.Admit.{mapped_at, vgroup_at, sets_of, sets_at}
 use Rattle.definition.specs.Entry.{some_is, apart, same_place}
 use Rattle.definition.proofs.Entries.{and_both}
 use Rattle.function.specs.Blocks.{blocks_at}
-use Rattle.coalescing.specs.Rows.{values_at, vgroup_row, vgroups_at}
-use Rattle.coalescing.proofs.Members.{group_row_at}
+use Rattle.values.specs.ValueRows.{values_at, vgroup_row, vgroups_at}
+use Rattle.values.proofs.Members.{group_row_at}
 use Rattle.std.specs.Prelude.{Option, Some, None}
-use Rattle.operands.specs.Rows.{operand_row, op_at, is_at, last_place, vgroup_found}
-use Rattle.operands.specs.Chains.{Under}
-use Rattle.operands.proofs.Rows.{long, row_at}
-use Rattle.operands.proofs.Only.{found_at, none_at, vgroup_found_lem}
-use Rattle.operands.proofs.Twice.{never}
-use Rattle.layout.specs.declared.Layout.{Layout}
+use Rattle.values.specs.OperandRows.{operand_row, op_at, is_at, last_place, vgroup_found}
+use Rattle.values.specs.Chains.{Under}
+use Rattle.values.proofs.Rows.{long, row_at}
+use Rattle.values.proofs.Only.{found_at, none_at, vgroup_found_lem}
+use Rattle.values.proofs.Twice.{never}
+use Rattle.job.specs.declared.Layout.{Layout}
 use Rattle.job.specs.Job.{job_by, job_of}
 use Rattle.virt_regs.specs.Encoding.{group_word}
 use Rattle.members.specs.Places.{option_of}
 use Rattle.members.proofs.Places.{group_same}
-use Rattle.work_layout.specs.declared.WorkLayout.{WorkLayout}
+use Rattle.job.specs.declared.work.WorkLayout.{WorkLayout}
 use Rattle.constraints.specs.declared.OperandGroup.{OperandGroup}
 use Rattle.constraints.specs.Ready.{operands_in, HasOperand, OperandIs, Says, Said}
 

@@ -7,21 +7,21 @@ use Rattle.definition.specs.Types.{Job, State, Mapped}
 use Rattle.definition.specs.Admit.{mapped_at, sets_of, sets_at}
 use Rattle.definition.specs.Entry.{some_is, apart, same_place, insts_of}
 use Rattle.function.specs.Blocks.{blocks_at, Starts}
-use Rattle.coalescing.specs.Rows.{vgroup_row, vgroups_at}
-use Rattle.operands.specs.Rows.{operands_at, op_at, is_at}
-use Rattle.operands.specs.Chains.{Under, Chained}
-use Rattle.operands.specs.Chains as chains
+use Rattle.values.specs.ValueRows.{vgroup_row, vgroups_at}
+use Rattle.values.specs.OperandRows.{operands_at, op_at, is_at}
+use Rattle.values.specs.Chains.{Under, Chained}
+use Rattle.values.specs.Chains as chains
 use Rattle.uses.specs.Rows.{use_row}
-use Rattle.layout.specs.declared.Layout.{Layout}
-use Rattle.layout.specs.Layout.{Fits}
+use Rattle.job.specs.declared.Layout.{Layout}
+use Rattle.job.specs.Layout.{Fits}
 use Rattle.job.specs.Job.{job_of}
 use Rattle.virt_regs.specs.declared.OutLayout.{OutLayout}
 use Rattle.virt_regs.specs.Encoding.{group_word, Holds}
 use Rattle.members.specs.Places.{option_of}
 use Rattle.constraints.specs.declared.Ask.{Ask}
 use Rattle.constraints.specs.declared.Ask.TheVariants.{Any, Class, Group}
-use Rattle.work_layout.specs.declared.WorkLayout.{WorkLayout}
-use Rattle.work_layout.specs.Regions.{chains_in}
+use Rattle.job.specs.declared.work.WorkLayout.{WorkLayout}
+use Rattle.job.specs.Regions.{chains_in}
 use Rattle.constraints.specs.declared.OperandGroup.{OperandGroup}
 use Rattle.constraints.specs.Asks.{ask_of}
 

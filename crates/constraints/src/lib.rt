@@ -3,11 +3,11 @@
 
 ghost use Rattle.std.specs.Prelude.{◌≡◌, true, ◌+◌, ◌*◌, ◌≤◌, ◌<◌};
 ghost use Rattle.words.specs.Words.{word_count, words_of};
-ghost use Rattle.layout.specs.JobWords.{words_in};
+ghost use Rattle.job.specs.JobWords.{words_in};
 ghost use Rattle.definition.specs.Types.{State};
 ghost use Rattle.definition.specs.Admit.{mapping_fits, group_fits, admit_class, admit_group};
 ghost use Rattle.definition.specs.Admit as admission;
-ghost use Rattle.operands.specs.Rows.{last_place};
+ghost use Rattle.values.specs.OperandRows.{last_place};
 ghost use Rattle.job.specs.Job.{job_in};
 ghost use Rattle.virt_regs.specs.Encoding.{tables_end, Holds};
 ghost use Rattle.members.specs.Places.{option_of};
@@ -18,8 +18,8 @@ ghost use Rattle.constraints.specs.InFrame.{Ready, Stands, OperandIs, Said};
 
 use definition::{Inst, RegClass, Use, UseKind, ValueSet, VirtReg, VirtRegGroup};
 use frame::Frame;
-use layout::Job;
-use operands::Index;
+use job::Job;
+use values::operands::Index;
 
 // What the group uses before hold: their index, the group that their operands are mapped to, and the value sets of its members.
 #[derive(Clone, Copy)]
@@ -92,7 +92,7 @@ pub fn ask_of(kind: UseKind) -> Ask
 fn admit_class(job: &Job, held: Held, c: RegClass) -> Option<Held>
     ensures { admission_of result ≡ admit_class (job_in job.now) (held_of held) c }
 {
-    let class = reginfo::common_subclass(&job::classes(job), held.class, c)?;
+    let class = reginfo::common_subclass(&job::rows::classes(job), held.class, c)?;
     Some(Held { class, ..held })
 }
 
@@ -111,7 +111,7 @@ fn group_fits(before: Option<HeldGroup>, index: u32, g: OperandGroup) -> bool
         return true;
     };
     let same = held.index == index;
-    same && mapping_fits(held.mapped, g.mapped) && coalescing::same_sets(held.sets, g.sets)
+    same && mapping_fits(held.mapped, g.mapped) && values::same_sets(held.sets, g.sets)
 }
 
 // What operand k says.
@@ -123,14 +123,14 @@ fn operand_group(fr: &Frame, work: &[u8], k: usize) -> OperandGroup
     let wl = &fr.wl;
     let lay = &job.lay;
     let at = lay.operands.at;
-    let o = operands::operand_at(job.bytes, at + k * 4);
+    let o = values::operands::operand_at(job.bytes, at + k * 4);
     let g = o.vgroup.0 as usize;
     let row = lay.vgroups.at + g * 9;
     let mapping = wl.mapping;
     let w = words::word_at(work, mapping + k);
     OperandGroup {
         mapped: members::number_in(w).map(VirtRegGroup),
-        sets: coalescing::value_sets(&job::values(job), row),
+        sets: values::value_sets(&job::rows::values(job), row),
     }
 }
 
@@ -141,7 +141,7 @@ pub fn find_operand(fr: &Frame, work: &[u8], p: Inst, slot: u32) -> Option<usize
         fr.now.job.lay.operands.n p.0 slot }
 {
     let job = &fr.job;
-    let chains = work_layout::chains_in(&job.lay, fr.wl);
+    let chains = job::work::chains_in(&job.lay, fr.wl);
     if chains.insts <= p.0 as usize {
         return None;
     }
@@ -150,7 +150,7 @@ pub fn find_operand(fr: &Frame, work: &[u8], p: Inst, slot: u32) -> Option<usize
         work,
         chains,
     };
-    operands::find_operand(&index, p, slot)
+    values::operands::find_operand(&index, p, slot)
 }
 
 // What the operand at an instruction and slot says. An accepted job has an operand for each of its group uses.
@@ -204,7 +204,7 @@ fn admit_group(
     ensures { (st : State) → Stands fr.now out.now work.now st → HasOperand (job_in fr.now.job) p u.slot → admission_of result ≡ admit_group (job_in fr.now.job) st (held_of held) p u.slot u.class u.index }
 {
     let g = find_group(fr, work, p, u.slot)?;
-    let k = reginfo::common_subclass(&job::classes(&fr.job), held.class, u.class)?;
+    let k = reginfo::common_subclass(&job::rows::classes(&fr.job), held.class, u.class)?;
     admit_into(fr, out, held, k, u.index, g)
 }
 

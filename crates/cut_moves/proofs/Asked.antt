@@ -15,20 +15,20 @@ use Rattle.definition.specs.declared.BlockData.{BlockData}
 use Rattle.definition.specs.Types.{inst}
 use Rattle.definition.specs.Entry.{insts_of, every, block_ok, plain, side_of}
 use Rattle.definition.specs.CutMoves.{Moves, with_frequency, infinity, pattern_of}
-use Rattle.rows.specs.Parts.{splice, length_splice}
-use Rattle.rows.specs.Moves.{stores_4}
-use Rattle.rows.specs.RowsAt.{rows_at_cons, rows_at_ext, get_or_rows_at}
+use Rattle.words.specs.Parts.{splice, length_splice}
+use Rattle.words.specs.Moves.{stores_4}
+use Rattle.words.specs.RowsAt.{rows_at_cons, rows_at_ext, get_or_rows_at}
 use Rattle.words.specs.Words.{words_of, bytes_of, put_word}
 use Rattle.words.specs.Laws.{length_words, word_set, words_small}
-use Rattle.floats.proofs.Bits.{bits_back, plain_test}
+use Rattle.weights.proofs.Bits.{bits_back, plain_test}
 use Rattle.function.specs.Blocks.{block_row, blocks_at, block_at, no_block}
 use Rattle.function.specs.BlockLaws.{block_plain, each_passes}
 use Rattle.find_cut.specs.Answer.{blocks_in, side_named, readable, cut_of, cut_answer}
 use Rattle.find_cut.proofs.Tests.{Passed, passing, count as blocks-many}
 use Rattle.find_cut.proofs.Answers.{answered, Admitted, accepted}
 use Rattle.find_cut.specs.declared.Cut.{Cut}
-use Rattle.cut_margins.specs.Promised.{Fair}
-use Rattle.cut_margins.proofs.Changed.{insts_kept, fair_changed}
+use Rattle.split_placement.specs.Promised.{Fair}
+use Rattle.split_placement.proofs.Changed.{insts_kept, fair_changed}
 use Rattle.cut_moves.specs.Promised.{word_in, with_word, Asked}
 use Rattle.cut_moves.proofs.Same.{pattern_at}
 

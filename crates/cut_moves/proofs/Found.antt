@@ -13,15 +13,15 @@ use Rattle.definition.specs.Types.{inst}
 use Rattle.definition.specs.Entry.{insts_of, every, block_ok}
 use Rattle.definition.specs.CutMoves.{infinity, chosen_of, edge_of, move_of, moves_from}
 use Rattle.definition.specs.CutMoves.{steps_of, sorted, moves_among, cut_moves}
-use Rattle.rows.specs.Parts.{splice, pad}
-use Rattle.rows.specs.RowsAt.{rows_at}
-use Rattle.block_starts.specs.declared.table.BlockStarts.{BlockStarts}
-use Rattle.block_starts.specs.Table.{Encodes}
-use Rattle.merge_sort.specs.Rows.{row_of, row_words, key_of}
-use Rattle.merge_sort.specs.Merges.{length_sorted}
+use Rattle.words.specs.Parts.{splice, pad}
+use Rattle.words.specs.RowsAt.{rows_at}
+use Rattle.function.specs.declared.starts.table.BlockStarts.{BlockStarts}
+use Rattle.function.specs.Table.{Encodes}
+use Rattle.cut_moves.specs.Rows.{row_of, row_words, key_of}
+use Rattle.cut_moves.specs.Merges.{length_sorted}
 use Rattle.split_placement.proofs.Chosen.{Judges, first_judges}
 use Rattle.split_placement.specs.Places.{bits_in}
-use Rattle.cut_margins.proofs.Edge.{edge_above}
+use Rattle.split_placement.proofs.Edge.{edge_above}
 use Rattle.cut_moves.specs.Answer.{move_words}
 use Rattle.cut_moves.proofs.Rows.{moves_more, step_long}
 use Rattle.cut_moves.proofs.Same.{Open, open_there, open_finite, table_chosen, moves_by_table}

@@ -7,3 +7,6 @@ pub mod Whole
 pub mod Read
 pub mod Asked
 pub mod Promise
+pub mod Tables
+pub mod Loops
+pub mod Halves

@@ -15,10 +15,10 @@ use Rattle.definition.specs.Types.{Out, done, inst}
 use Rattle.definition.specs.CutMoves.{Moves, infinity, pattern_of, cut_moves}
 use Rattle.find_cut.specs.Answer.{blocks_in, side_named, readable, cut_answer}
 use Rattle.find_cut.proofs.Tests.{Passed, count as blocks-many}
-use Rattle.cut_margins.specs.Promised.{Fair, Named, Movable, Fewest, InOrder, Off, target, apart, move_at}
-use Rattle.cut_margins.proofs.Table.{open_blocks}
-use Rattle.cut_margins.proofs.Moved.{moves_open}
-use Rattle.cut_margins.proofs.Promises.{moves_listed, moves_fewest, moves_sorted, moves_first}
+use Rattle.split_placement.specs.Promised.{Fair, Named, Movable, Fewest, InOrder, Off, target, apart, move_at}
+use Rattle.split_placement.proofs.Table.{open_blocks}
+use Rattle.split_placement.proofs.Moved.{moves_open}
+use Rattle.split_placement.proofs.Promises.{moves_listed, moves_fewest, moves_sorted, moves_first}
 use Rattle.cut_moves.specs.Answer.{moves_at, end_of, list_of, moves_end, list_left}
 use Rattle.cut_moves.specs.Promised.{word_in, with_word, Asked, moves_read}
 use Rattle.cut_moves.proofs.Numbers.{Free, was_zero}

@@ -12,12 +12,12 @@ use Rattle.definition.specs.declared.Way.{Way}
 use Rattle.definition.specs.declared.Way.TheVariants.{Up, Down}
 use Rattle.definition.specs.Types.{done}
 use Rattle.definition.specs.CutMoves.{way_number}
-use Rattle.rows.specs.Parts.{pad}
-use Rattle.rows.specs.RowsAt.{rows_at, map-rows-at}
+use Rattle.words.specs.Parts.{pad}
+use Rattle.words.specs.RowsAt.{rows_at, map-rows-at}
 use Rattle.words.specs.Words.{words_of, bytes_of}
 use Rattle.words.specs.Laws.{words_append, words_bytes, length_bytes}
-use Rattle.merge_sort.specs.Rows.{Row, row_of, row_words}
-use Rattle.merge_sort.proofs.Tables.{length_row_words, rows_read}
+use Rattle.cut_moves.specs.Rows.{Row, row_of, row_words}
+use Rattle.cut_moves.proofs.Tables.{length_row_words, rows_read}
 use Rattle.cut_moves.specs.Answer.{move_words, list_of}
 use Rattle.cut_moves.specs.Promised.{move_read, moves_read}
 use Rattle.cut_moves.proofs.Lists.{to_row, move_rows, move_words_rows, length_rows}

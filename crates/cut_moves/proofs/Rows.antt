@@ -17,10 +17,10 @@ use borrow.Author.Tests.{eq-eqb, ne_eqb}
 use Rattle.definition.specs.declared.CutMove.{CutMove}
 use Rattle.definition.specs.declared.Side.{Side}
 use Rattle.definition.specs.CutMoves.{move_of, moves_from, steps_of, way_number}
-use Rattle.rows.specs.Parts.{splice, splice_none, pad, pad_splice, pad_none}
-use Rattle.cut_margins.specs.Margins.{Chosen}
-use Rattle.cut_margins.specs.Table.{steps_in}
-use Rattle.cut_margins.proofs.Listed.{Row, up, down, row_block, move_row_lem, step}
+use Rattle.words.specs.Parts.{splice, splice_none, pad, pad_splice, pad_none}
+use Rattle.split_placement.specs.Margins.{Chosen}
+use Rattle.split_placement.specs.Table.{steps_in}
+use Rattle.split_placement.proofs.Listed.{Row, up, down, row_block, move_row_lem, step}
 use Rattle.cut_moves.specs.Answer.{move_words, move_row}
 
 pub move_words_append : (ms ns : List CutMove) → move_words (ms ++ ns) ≡ move_words ms ++ move_words ns

@@ -17,16 +17,16 @@ use Rattle.definition.specs.Types.{inst}
 use Rattle.definition.specs.Entry.{insts_of, every, block_ok}
 use Rattle.definition.specs.CutMoves.{infinity, pattern_of, first_open, last_open, tie, chosen_of, edge_of, move_of}
 use Rattle.definition.specs.CutMoves.{up_of, down_of, moves_from, steps_of, sorted, moves_among, cut_moves}
-use Rattle.floats.proofs.Bits.{bits_back}
+use Rattle.weights.proofs.Bits.{bits_back}
 use Rattle.function.specs.Blocks.{block_at}
-use Rattle.block_starts.specs.declared.table.BlockStarts.{BlockStarts}
-use Rattle.block_starts.specs.Table.{Encodes}
+use Rattle.function.specs.declared.starts.table.BlockStarts.{BlockStarts}
+use Rattle.function.specs.Table.{Encodes}
 use Rattle.split_placement.specs.Places.{bits_in}
-use Rattle.cut_margins.specs.Margins.{Chosen, chosen_once}
-use Rattle.cut_margins.specs.Promised.{Fair}
-use Rattle.cut_margins.proofs.Choice.{chosen_of_lem, chosen_ext}
-use Rattle.cut_margins.proofs.Table.{open_blocks}
-use Rattle.cut_margins.proofs.Listed.{step}
+use Rattle.split_placement.specs.Margins.{Chosen, chosen_once}
+use Rattle.split_placement.specs.Promised.{Fair}
+use Rattle.split_placement.proofs.Choice.{chosen_of_lem, chosen_ext}
+use Rattle.split_placement.proofs.Table.{open_blocks}
+use Rattle.split_placement.proofs.Listed.{step}
 use Rattle.cut_moves.proofs.Rows.{moves_more}
 
 -- ---- the patterns in the table

@@ -12,7 +12,7 @@ use Rattle.std.specs.Prelude.{Err}
 use Rattle.definition.specs.declared.Refusal.{Refusal}
 use Rattle.definition.specs.Types.{done, refused, inst, number_of}
 use Rattle.definition.specs.CutMoves.{cut_moves}
-use Rattle.rows.specs.Parts.{pad}
+use Rattle.words.specs.Parts.{pad}
 use Rattle.words.specs.Words.{word_count, words_of}
 use Rattle.words.specs.Laws.{length_words, words_replicate, words_take, count_whole}
 use Rattle.find_cut.specs.Answer.{blocks_in}

@@ -8,7 +8,7 @@ use Rattle.definition.specs.declared.Side.{Side}
 use Rattle.definition.specs.Types.{Out, done, refused, inst, number_of}
 use Rattle.definition.specs.Entry.{lowest_of, insts_of, every, block_ok}
 use Rattle.definition.specs.CutMoves.{moves_tests, find_moves, way_number}
-use Rattle.rows.specs.Parts.{pad}
+use Rattle.words.specs.Parts.{pad}
 use Rattle.words.specs.Words.{bytes_of}
 use Rattle.find_cut.specs.Answer.{blocks_in, side_named, readable, unless}
 use Rattle.cut_moves.specs.declared.MovesEnd.{MovesEnd}

@@ -2,8 +2,8 @@
 -- Assumes nothing.
 use Rattle.std.specs.Prelude.{ℕ, ◌≡◌, refl, List, [], ◌∷◌, map}
 use Rattle.std.specs.Float.Ieee.{of_bits}
-use Rattle.rows.specs.Parts.{pad}
-use Rattle.rows.specs.RowsAt.{rows_at}
+use Rattle.words.specs.Parts.{pad}
+use Rattle.words.specs.RowsAt.{rows_at}
 use Rattle.words.specs.Words.{words_of, bytes_of}
 use Rattle.function.specs.Blocks.{block_row}
 use Rattle.cut_moves.specs.declared.MovesEnd.{MovesEnd}

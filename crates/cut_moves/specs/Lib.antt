@@ -1,3 +1,5 @@
 pub mod Answer
 pub mod Promised
 pub mod Cases
+pub mod Rows
+pub mod Merges

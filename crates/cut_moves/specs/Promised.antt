@@ -3,8 +3,8 @@
 use Rattle.std.specs.Prelude.{ℕ, ◌+◌, ◌*◌, ◌≡◌, cond, List, [], ◌∷◌, eqb, get_or}
 use Rattle.definition.specs.declared.CutMove.{CutMove}
 use Rattle.definition.specs.declared.Way.TheVariants.{Up, Down}
-use Rattle.rows.specs.Parts.{splice}
-use Rattle.rows.specs.RowsAt.{rows_at}
+use Rattle.words.specs.Parts.{splice}
+use Rattle.words.specs.RowsAt.{rows_at}
 use Rattle.words.specs.Words.{words_of, bytes_of}
 use Rattle.find_cut.specs.Answer.{cut_answer}
 

@@ -7,16 +7,18 @@ ghost use Rattle.definition.specs.Types.{inst};
 ghost use Rattle.definition.specs.Entry.{insts_of, every, block_ok};
 ghost use Rattle.definition.specs.CutMoves.{infinity, moves_from, cut_moves};
 ghost use Rattle.definition.specs.declared.Way.TheVariants.{Up, Down};
-ghost use Rattle.rows.specs.Parts.{splice, pad};
+ghost use Rattle.words.specs.Parts.{splice, pad};
 ghost use Rattle.words.specs.Words.{word_count, words_of};
 ghost use Rattle.function.specs.Blocks.{blocks_at};
-ghost use Rattle.cut_margins.specs.Margins.{Chosen};
+ghost use Rattle.split_placement.specs.Margins.{Chosen};
 ghost use Rattle.split_placement.specs.Places.{bits_in};
 ghost use Rattle.cut_moves.specs.Answer.{move_words, move_row, moves_admission, moves_end, list_left};
 
-use block_starts::BlockStarts;
+pub mod sort;
+
 use definition::{Block, Inst, Refusal, Side, Way};
-use word_rows::Rows;
+use function::starts::BlockStarts;
+use words::rows::Rows;
 
 // Number 0 and how many blocks could move the cut; or the refusal's number, and 0. No Result, since C gets it.
 #[repr(C)]
@@ -85,7 +87,7 @@ fn put_moves(
 {
     let mut k: u32 = 0;
     for i in from.0..to.0 + 1 {
-        let steps = cut_margins::steps(t, side, c, e, Block(i));
+        let steps = split_placement::margins::steps(t, side, c, e, Block(i));
         k = put_move(list, k, Block(i), c, steps);
     }
     k
@@ -118,7 +120,7 @@ fn put_sorted(
         at: 0,
         n: n as usize,
     };
-    block_starts::put_starts(&rows, work, 0);
+    function::starts::put_starts(&rows, work, 0);
     let t = BlockStarts {
         words: work,
         at: 0,
@@ -126,10 +128,10 @@ fn put_sorted(
     };
     let from = split_placement::judging(&t, Inst(after + 1), side);
     let to = split_placement::judging(&t, Inst(before), side);
-    let c = cut_margins::chosen(&t, from, to, side);
-    let e = cut_margins::edge_of(&t, from, to, side, c);
+    let c = split_placement::margins::chosen(&t, from, to, side);
+    let e = split_placement::margins::edge_of(&t, from, to, side, c);
     let count = put_moves(list, &t, from, to, side, c, e);
-    merge_sort::sort(list, work, 0, count as usize);
+    crate::sort::sort(list, work, 0, count as usize);
     count
 }
 
@@ -150,7 +152,7 @@ pub fn find_cut_moves(
     ensures list_after { list.new
         ≡ list_left blocks.now after before side (length list.old) }
 {
-    spans::clear(list);
+    words::span::clear(list);
     match admitted(blocks, after, before, side, list.len() / 12) {
         Err(refusal) => MovesEnd {
             number: refusal.number(),

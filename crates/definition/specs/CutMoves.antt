@@ -1,6 +1,6 @@
 -- Change request 12, "What would move this cut": the blocks whose frequency by itself could move a cut, each with its
 -- way and its fewest f32 steps. What is asked is `Moves`; what is answered is `cut_moves`, which computes. That each
--- says the other are `moves_listed`, `moves_fewest`, `moves_sorted` and `moves_first` of crates/cut_margins.
+-- says the other are `moves_listed`, `moves_fewest`, `moves_sorted` and `moves_first` of crates/split_placement.
 -- Assumes nothing.
 use Rattle.std.specs.Prelude.{ℕ, zero, suc, ◌+◌, ◌-◌, ◌≡◌, Bool, true, false, not, ◌&&◌, cond, leb, ltb, eqb, length}
 use Rattle.std.proofs.Math.Option.{Option, none, some}

@@ -3,8 +3,8 @@ use Rattle.std.specs.Prelude as code
 use Rattle.std.specs.Int.{from_bool}
 use Rattle.std.specs.Prelude.{◌≡◌, refl, Bool, true, false, cond, List, [], ◌∷◌, ◌++◌, ℕ, ◌+◌, ◌-◌, ◌*◌, ◌≤◌, ◌<◌, map, length, get_or, None, Some}
 use Rattle.std.proofs.Common.{sym, ap, ◌∙◌, subst, arith, add-zero, length-append}
-use Rattle.rows.specs.Tab.{tab, length_tab}
-use Rattle.rows.specs.Parts.{splice}
+use Rattle.words.specs.Tab.{tab, length_tab}
+use Rattle.words.specs.Parts.{splice}
 use Rattle.definition.specs.declared.BlockData.{BlockData}
 use Rattle.definition.specs.declared.Inst.{Inst}
 use Rattle.definition.specs.declared.Remat.{Remat}
@@ -16,8 +16,8 @@ use Rattle.definition.specs.RegInfo.{value_at}
 use Rattle.definition.specs.Build.{opening, conflict_piece}
 use Rattle.definition.specs.Entry.{insts_of}
 use Rattle.definition.specs.Place.{uses_of, segs_of, uses_of_pieces, total}
-use Rattle.layout.specs.declared.Layout.{Layout}
-use Rattle.live_insts.specs.Ranges.{new_insts, range_of}
+use Rattle.job.specs.declared.Layout.{Layout}
+use Rattle.live_range.specs.Ranges.{new_insts, range_of}
 use Rattle.uses.specs.Rows.{use_row}
 use Rattle.virt_regs.specs.declared.OutLayout.{OutLayout}
 use Rattle.virt_regs.specs.declared.PieceRow.{PieceRow}

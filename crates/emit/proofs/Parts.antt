@@ -3,7 +3,7 @@ use Rattle.std.specs.Prelude.{◌≡◌, refl, Bool, true, false, List, [], ◌�
 use Rattle.std.proofs.Common.{sym, ap, ◌∙◌, subst, arith, ltb-true, ltb-false}
 use Rattle.std.specs.Float.{binary32}
 use Rattle.std.specs.Float.Ieee.{to_bits, of_bits}
-use Rattle.rows.specs.Tab.{tab, length_tab, tab_snoc}
+use Rattle.words.specs.Tab.{tab, length_tab, tab_snoc}
 use Rattle.definition.specs.declared.ClassData.{ClassData}
 use Rattle.definition.specs.declared.RegClass.{RegClass}
 use Rattle.definition.specs.declared.Use.{Use}
@@ -14,11 +14,11 @@ use Rattle.definition.specs.LiveRange.{next_inst, touched, live_insts}
 use Rattle.definition.specs.Weights.{sum_segs, weight_of}
 use Rattle.definition.specs.Build.{as_own}
 use Rattle.definition.specs.Place.{uses_of, segs_of, uses_of_pieces}
-use Rattle.spill_weight.specs.Costs.{weight_from}
-use Rattle.spill_weight.proofs.Sums.{weight_from_lem}
-use Rattle.layout.specs.declared.Layout.{Layout}
-use Rattle.layout.specs.Layout.{options_row}
-use Rattle.live_insts.specs.Ranges.{range_of, new_insts}
+use Rattle.weights.specs.Costs.{weight_from}
+use Rattle.weights.proofs.Sums.{weight_from_lem}
+use Rattle.job.specs.declared.Layout.{Layout}
+use Rattle.job.specs.Layout.{options_row}
+use Rattle.live_range.specs.Ranges.{range_of, new_insts}
 use Rattle.job.specs.Job.{job_by, job_of}
 use Rattle.set_part.specs.declared.SetPart.{SetPart}
 use Rattle.set_part.specs.declared.PartSeg.{PartSeg}

@@ -1,8 +1,8 @@
 -- One piece more: its row, its uses, and the tally with it. Assumes nothing.
 use Rattle.std.specs.Prelude.{◌≡◌, refl, Bool, true, false, ◌||◌, List, [], ◌∷◌, ◌++◌, ℕ, ◌+◌, ◌-◌, ◌*◌, ◌≤◌, ◌<◌, max, length, Float}
 use Rattle.std.proofs.Common.{length-append, sym, ap, ◌∙◌, subst, arith, append-nil}
-use Rattle.rows.specs.Tab.{tab}
-use Rattle.rows.specs.Parts.{splice}
+use Rattle.words.specs.Tab.{tab}
+use Rattle.words.specs.Parts.{splice}
 use Rattle.definition.specs.declared.Remat.{Remat}
 use Rattle.definition.specs.declared.Use.{Use}
 use Rattle.definition.specs.Types.{Job, Piece}
@@ -11,7 +11,7 @@ use Rattle.definition.specs.LiveRange.{next_inst, inst_of, touched, live_insts}
 use Rattle.definition.specs.Lines.{hint_in}
 use Rattle.definition.specs.Weights.{sum_uses, sum_segs}
 use Rattle.definition.specs.Place.{uses_of, segs_of, uses_of_pieces}
-use Rattle.live_insts.specs.Ranges.{range_of, new_insts}
+use Rattle.live_range.specs.Ranges.{range_of, new_insts}
 use Rattle.set_part.specs.declared.PartSeg.{PartSeg}
 use Rattle.set_part.specs.Part.{seg_by}
 use Rattle.virt_regs.specs.declared.OutLayout.{OutLayout}

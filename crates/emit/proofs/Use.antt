@@ -3,7 +3,7 @@ use Rattle.std.specs.Prelude.{◌≡◌, refl, Bool, false, List, [], ◌∷◌,
 use Rattle.std.proofs.Common.{sym, ap, ◌∙◌, ne_eqb}
 use Rattle.std.specs.Float.{binary32}
 use Rattle.std.specs.Float.Ieee.{of_bits}
-use Rattle.rows.specs.Tab.{tab}
+use Rattle.words.specs.Tab.{tab}
 use Rattle.definition.specs.declared.BlockData.{BlockData}
 use Rattle.definition.specs.declared.Inst.{Inst}
 use Rattle.definition.specs.declared.Options.{Options}
@@ -18,11 +18,11 @@ use Rattle.definition.specs.SplitPlacement.{freq_at}
 use Rattle.definition.specs.Weights.{scaled, add_cost}
 use Rattle.definition.specs.Lines.{numbers_of}
 use Rattle.definition.specs.Build.{turned_use}
-use Rattle.spill_weight.specs.Costs.{fixed_cost}
-use Rattle.spill_weight.specs.declared.plain.Plain.{Plain}
+use Rattle.weights.specs.Costs.{fixed_cost}
+use Rattle.weights.specs.declared.plain.Plain.{Plain}
 use Rattle.function.specs.Blocks.{Starts, block_of}
 use Rattle.function.specs.BlockLaws.{block_holds, starts_frequency}
-use Rattle.layout.specs.declared.Layout.{Layout}
+use Rattle.job.specs.declared.Layout.{Layout}
 use Rattle.set_part.specs.Part.{marked_use}
 use Rattle.uses.specs.Rows.{use_row}
 use Rattle.use_costs.proofs.Reading.{near_here}

@@ -2,13 +2,13 @@
 use Rattle.std.specs.Prelude.{◌≡◌, refl, List, [], ◌∷◌, ◌++◌, ℕ, ◌+◌, ◌-◌, ◌*◌, ◌≤◌, ◌<◌, length, Float}
 use Rattle.std.proofs.Common.{sym, ap, ◌∙◌, subst, arith, append-nil, length-append}
 use mathlib.Core.List.{append_assoc}
-use Rattle.rows.specs.Tab.{tab, length_tab, tab_snoc}
-use Rattle.rows.specs.Parts.{splice}
+use Rattle.words.specs.Tab.{tab, length_tab, tab_snoc}
+use Rattle.words.specs.Parts.{splice}
 use Rattle.definition.specs.declared.Remat.{Remat}
 use Rattle.definition.specs.declared.Use.{Use}
 use Rattle.definition.specs.Types.{Job}
 use Rattle.definition.specs.Weights.{sum_uses}
-use Rattle.spill_weight.proofs.Sums.{uses_append}
+use Rattle.weights.proofs.Sums.{uses_append}
 use Rattle.virt_regs.specs.declared.OutLayout.{OutLayout}
 use Rattle.virt_regs.specs.Encoding.{use_base, tables_end, use_words}
 use Rattle.vreg_put.specs.Written.{Written, written_use}

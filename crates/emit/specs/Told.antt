@@ -16,8 +16,8 @@ use Rattle.definition.specs.SplitPlacement.{freq_at}
 use Rattle.definition.specs.Weights.{scaled, add_cost, sum_uses, sum_segs}
 use Rattle.definition.specs.Place.{uses_of, segs_of, uses_of_pieces}
 use Rattle.uses.specs.Rows.{kind_of, reg}
-use Rattle.live_insts.specs.declared.LiveRangeSegment.{LiveRangeSegment}
-use Rattle.live_insts.specs.Ranges.{new_insts}
+use Rattle.live_range.specs.declared.insts.LiveRangeSegment.{LiveRangeSegment}
+use Rattle.live_range.specs.Ranges.{new_insts}
 use Rattle.set_part.specs.declared.PartSeg.{PartSeg}
 use Rattle.set_part.specs.Part.{seg_by}
 use Rattle.virt_regs.specs.declared.OutLayout.{OutLayout}

@@ -5,11 +5,11 @@
 
 ghost use Rattle.std.specs.Prelude.{◌≡◌, false, List, [], ◌∷◌, ℕ, ◌+◌, ◌-◌, ◌*◌, ◌≤◌, ◌<◌};
 ghost use Rattle.std.proofs.Math.Option.{Option};
-ghost use Rattle.rows.specs.Tab.{tab};
-ghost use Rattle.rows.specs.Parts.{splice};
+ghost use Rattle.words.specs.Tab.{tab};
+ghost use Rattle.words.specs.Parts.{splice};
 ghost use Rattle.words.specs.Words.{word_count, words_of};
-ghost use Rattle.layout.specs.JobWords.{words_in};
-ghost use Rattle.layout.specs.declared.Layout as spec_layout;
+ghost use Rattle.job.specs.JobWords.{words_in};
+ghost use Rattle.job.specs.declared.Layout as spec_layout;
 ghost use Rattle.definition.specs.declared.BlockData.{BlockData};
 ghost use Rattle.definition.specs.declared.Use as spec_use;
 ghost use Rattle.definition.specs.Types.{Segment};
@@ -22,7 +22,7 @@ ghost use Rattle.job.specs.Job.{job_in};
 ghost use Rattle.uses.specs.Rows.{use_row};
 ghost use Rattle.set_part.specs.Part as part;
 ghost use Rattle.use_costs.specs.Book.{SmallBook};
-ghost use Rattle.live_insts.specs.Ranges.{new_insts};
+ghost use Rattle.live_range.specs.Ranges.{new_insts};
 ghost use Rattle.virt_regs.specs.Encoding.{use_base, tables_end, use_words};
 ghost use Rattle.vreg_weight.specs.Weighed.{Inside, BitsOf};
 ghost use Rattle.vreg_weight.specs.Fair.{Fair};
@@ -38,18 +38,18 @@ ghost use Rattle.emit.specs.InWalk.{tables_in, blocks_in, use_in, turned_in, Use
 mod near;
 mod tally;
 
-use block_starts::{BlockStarts, start_at};
 use conflict_piece::{First, conflict_row};
 use definition::{Block, Inst, PhysReg, RegClass, Remat};
 use frame::Frame;
-use layout::Job;
-use live_insts::LiveRangeSegment;
+use function::starts::{BlockStarts, start_at};
+use job::Job;
+use live_range::insts::LiveRangeSegment;
 pub use near::Near;
 use part_pieces::piece_row;
 use set_part::{PartSeg, SetPart};
-use spill_weight::{Cost, Plain, Sum, fixed_cost};
 pub use tally::{Costs, Tally};
 use vreg_weight::{Weighing, WeightBits};
+use weights::{Cost, Plain, Sum, fixed_cost};
 use words::word_at;
 
 // The words of a use's row, from its kind's number, its instruction and four fields: fields modulo their UseKind types,
@@ -160,7 +160,7 @@ fn near_at(by: &Weighing, pos: Inst) -> Near
         at: by.fr.wl.starts,
         n: by.fr.job.lay.blocks.n as u32,
     };
-    let b = block_starts::block_of(&t, pos);
+    let b = function::starts::block_of(&t, pos);
     Near {
         low: start_at(&t, b),
         high: start_at(&t, Block(b.0 + 1)),
@@ -194,7 +194,7 @@ fn emit_use(by: &Weighing, remat: Remat, x: [u32; 6], out: &mut [u8], to: usize,
     let cost = row_cost(&by.fr.job, x[0], x[2], x[3]);
     let near = nearer(by, s.near, Inst(x[1]));
     words::put_row(out, to, x);
-    let total = spill_weight::add_use(s.total, by.options, remat, cost, near.freq);
+    let total = weights::add_use(s.total, by.options, remat, cost, near.freq);
     Costs { total, near }
 }
 
@@ -290,7 +290,7 @@ fn count_piece(t: Tally, s: LiveRangeSegment, hint: bool, costs: Costs) -> Tally
 {
     Tally {
         costs,
-        insts: t.insts + live_insts::new_insts(t.counted, s),
+        insts: t.insts + live_range::insts::new_insts(t.counted, s),
         counted: live_range::next_inst(s.to),
         hint: t.hint || hint,
     }
@@ -352,7 +352,7 @@ pub fn emit_part(
 {
     let job = &fr.job;
     let lay = &job.lay;
-    let options = layout::options_at(job.bytes, lay.opts);
+    let options = job::options_at(job.bytes, lay.opts);
     let by = Weighing { fr, work, options };
     let mut t = no_pieces(near);
     for i in sp.seg..sp.last + 1 {
@@ -389,7 +389,7 @@ pub fn emit_conflict(
 {
     let job = &fr.job;
     let lay = &job.lay;
-    let options = layout::options_at(job.bytes, lay.opts);
+    let options = job::options_at(job.bytes, lay.opts);
     let by = Weighing { fr, work, options };
     let k = usize::from(x.param.is_some());
     let row = conflict_row(x.value, x.pos, x.param, u, k + (b - a));
@@ -414,7 +414,7 @@ pub fn weight_of(job: &Job, c: RegClass, total: Sum, insts: u32) -> WeightBits
     let lay = &job.lay;
     let k = word_at(job.bytes, lay.opts);
     let data = use_costs::class_data(job, c);
-    let w = spill_weight::weight(total, insts, k, data.spillslots);
-    let value = floats::bits_of(w);
+    let w = weights::weight(total, insts, k, data.spillslots);
+    let value = weights::floats::bits_of(w);
     WeightBits { value }
 }

@@ -1,6 +1,6 @@
 // The block of the last use.
 use definition::Inst;
-use spill_weight::Plain;
+use weights::Plain;
 
 // Every instruction from `low` up to `high` runs with frequency `freq`; none, where no use came before. That this is so
 // of a job is a clause.

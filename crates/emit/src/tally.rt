@@ -1,7 +1,7 @@
 // What a walk has told so far.
 use super::Near;
 use definition::Inst;
-use spill_weight::Sum;
+use weights::Sum;
 
 // The sum of costs, and the block of the last use.
 #[derive(Clone, Copy)]

@@ -9,14 +9,14 @@ use mathlib.Core.List.{List}
 use lib.Dec.{leb, eqb}
 use lib.ListN.{get_or}
 use borrow.Author.Tests.{lt-ltb, le-ltb, leb-true, eqb-true}
-use Rattle.rows.specs.Tab.{tab}
-use Rattle.rows.specs.RowsAt.{rows_at}
+use Rattle.words.specs.Tab.{tab}
+use Rattle.words.specs.RowsAt.{rows_at}
 use Rattle.definition.proofs.Entries.{and_both}
-use Rattle.layout.specs.declared.Layout.{Layout}
-use Rattle.layout.specs.Layout.{seg_row, seg_at, next_use}
+use Rattle.job.specs.declared.Layout.{Layout}
+use Rattle.job.specs.Layout.{seg_row, seg_at, next_use}
 use Rattle.job_shape.specs.Shape.{rises, use_counts, counts_ok}
 use Rattle.job_shape.proofs.Rising.{begins_at}
-use Rattle.entry_uses.specs.Tests.{Rising}
+use Rattle.entry_uses.specs.ListTests.{Rising}
 
 module _ (W : List ℕ) (lay : Layout) where
   abbrev pub first_at : ℕ → ℕ

@@ -9,7 +9,7 @@ use lib.Dec.{leb, ltb}
 use Rattle.std.specs.Prelude.{Result, Ok, Err, IfOk, IsErrAnd}
 use lib.ListN.{length, get_or}
 use borrow.Author.Tests.{not-false}
-use Rattle.rows.specs.RowsAt.{rows_at}
+use Rattle.words.specs.RowsAt.{rows_at}
 use Rattle.words.specs.Words.{words_of}
 use Rattle.definition.specs.declared.Operand.{Operand}
 use Rattle.definition.specs.declared.Refusal.{Refusal}
@@ -20,12 +20,12 @@ use Rattle.definition.proofs.Entries.{and_both, lowest_none}
 use Rattle.entry_function.proofs.Tables.{raw_insts}
 use Rattle.function.specs.Blocks.{blocks_at}
 use Rattle.hints.specs.Hints.{hint_at}
-use Rattle.operands.specs.declared.Chains.{Chains}
-use Rattle.operands.specs.Rows.{operands_at}
-use Rattle.operands.specs.Chains.{Under, Chained, operands_of}
-use Rattle.operands.proofs.Only.{under_of}
-use Rattle.layout.specs.declared.Layout.{Layout}
-use Rattle.layout.specs.Layout.{Fits}
+use Rattle.values.specs.declared.operands.Chains.{Chains}
+use Rattle.values.specs.OperandRows.{operands_at}
+use Rattle.values.specs.Chains.{Under, Chained, operands_of}
+use Rattle.values.proofs.Only.{under_of}
+use Rattle.job.specs.declared.Layout.{Layout}
+use Rattle.job.specs.Layout.{Fits}
 use Rattle.job.specs.Job.{raw_job}
 use Rattle.job_shape.specs.Shape.{Shaped}
 use Rattle.job_shape.proofs.Tests.{passed}
@@ -35,11 +35,11 @@ use Rattle.entry_book.proofs.Book.{book_bytes}
 use Rattle.entry_function.specs.Counts.{Indexes}
 use Rattle.entry_function.proofs.Tables.{raw_operands, raw_hints, limits_within}
 use Rattle.entry_function.proofs.Passed.{passed_apart, passed_operands}
-use Rattle.entry_kinds.specs.Tests.{Ready}
+use Rattle.entry_uses.specs.KindTests.{Ready}
 use Rattle.entry_uses.proofs.Typed.{raw_is_job}
-use Rattle.work_layout.specs.declared.WorkLayout.{WorkLayout}
-use Rattle.work_layout.specs.Regions.{max_work, Regions, chains_in}
-use Rattle.work_layout.proofs.Parts.{heads_are}
+use Rattle.job.specs.declared.work.WorkLayout.{WorkLayout}
+use Rattle.job.specs.Regions.{max_work, Regions, chains_in}
+use Rattle.job.proofs.Parts.{heads_are}
 use Rattle.entry.specs.Number.{refusal_in}
 use Rattle.entry.specs.Accepted.{Accepted}
 use Rattle.entry.proofs.Counts.{rising}

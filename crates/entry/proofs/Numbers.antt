@@ -10,7 +10,7 @@ use Rattle.definition.specs.Types.{Job, Room, refused, number_of}
 use Rattle.definition.specs.Entry.{limits_ok, book_ok, lowest_of, entry, answer_to, answer}
 use Rattle.definition.specs.Build.{build}
 use Rattle.words.specs.Words.{words_of}
-use Rattle.layout.specs.declared.Layout.{Layout}
+use Rattle.job.specs.declared.Layout.{Layout}
 use Rattle.job.specs.Job.{raw_job}
 use Rattle.job_shape.specs.Shape.{layout_of, shape_ok}
 use Rattle.job_shape.specs.Answer.{binary_job, answer_if, binary_answer}

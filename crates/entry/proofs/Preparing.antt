@@ -6,24 +6,24 @@ use mathlib.Core.Bool.{true}
 use mathlib.Core.List.{List}
 use lib.ListN.{length, get_or, replicate, length-replicate, get_or-replicate}
 use lib.Ieee.{binary32, of_bits}
-use Rattle.rows.specs.Parts.{splice, length_splice, get_or_splice_before, get_or_splice_in}
-use Rattle.rows.specs.RowsAt.{length_rows_at}
+use Rattle.words.specs.Parts.{splice, length_splice, get_or_splice_before, get_or_splice_in}
+use Rattle.words.specs.RowsAt.{length_rows_at}
 use Rattle.words.specs.Words.{words_of}
 use Rattle.words.specs.Laws.{words_small}
 use Rattle.definition.specs.declared.BlockData.{BlockData}
 use Rattle.definition.specs.Entry.{every, block_ok, function_ok, function_tests, entry_tests, entry}
 use Rattle.definition.proofs.Entries.{conj_all, lowest_none}
 use Rattle.function.specs.Blocks.{block_row, blocks_at, start_words, Starts}
-use Rattle.block_starts.proofs.Made.{length_start_words, starts_made}
-use Rattle.operands.proofs.Rows.{long}
-use Rattle.operands.proofs.Store.{chained_kept}
-use Rattle.operands.specs.Rows.{operands_at}
-use Rattle.layout.specs.declared.Layout.{Layout}
+use Rattle.function.proofs.Made.{length_start_words, starts_made}
+use Rattle.values.proofs.Rows.{long}
+use Rattle.values.proofs.Store.{chained_kept}
+use Rattle.values.specs.OperandRows.{operands_at}
+use Rattle.job.specs.declared.Layout.{Layout}
 use Rattle.job.specs.Job.{raw_job}
 use Rattle.entry_function.proofs.Tables.{raw_blocks}
-use Rattle.work_layout.specs.declared.WorkLayout.{WorkLayout}
-use Rattle.work_layout.specs.Regions.{max_work, Regions, chains_in}
-use Rattle.work_layout.proofs.Parts.{heads_are}
+use Rattle.job.specs.declared.work.WorkLayout.{WorkLayout}
+use Rattle.job.specs.Regions.{max_work, Regions, chains_in}
+use Rattle.job.proofs.Parts.{heads_are}
 use Rattle.entry.specs.Accepted.{Accepted, Prepared, prepared}
 
 -- the blocks of an accepted job pass

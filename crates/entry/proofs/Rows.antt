@@ -9,8 +9,8 @@ use mathlib.Core.List.{List, [], ◌∷◌}
 use lib.Dec.{ltb, eqb}
 use lib.ListN.{length, get_or}
 use borrow.Author.Tests.{ltb-true, ltb-false, eqb-true}
-use Rattle.rows.specs.Tab.{tab}
-use Rattle.rows.specs.RowsAt.{rows_at}
+use Rattle.words.specs.Tab.{tab}
+use Rattle.words.specs.RowsAt.{rows_at}
 use Rattle.words.specs.Words.{word_count, words_of}
 use Rattle.definition.specs.declared.Inst.{Inst}
 use Rattle.definition.specs.declared.Value.{Value}
@@ -20,23 +20,23 @@ use Rattle.definition.specs.Types.{Job}
 use Rattle.definition.specs.Entry.{conj, every, some_is, insts_of, insts, group_use_tests, group_use_ok, use_tests, use_ok, uses_ok, function_ok, entry_tests, entry}
 use Rattle.definition.proofs.Entries.{and_both, lowest_none}
 use Rattle.function.specs.Blocks.{blocks_at}
-use Rattle.coalescing.specs.Rows.{vgroup_row}
-use Rattle.operands.specs.Rows.{operands_at, op_at, is_at}
-use Rattle.operands.specs.Chains.{Under}
-use Rattle.operands.specs.Chains as chains
+use Rattle.values.specs.ValueRows.{vgroup_row}
+use Rattle.values.specs.OperandRows.{operands_at, op_at, is_at}
+use Rattle.values.specs.Chains.{Under}
+use Rattle.values.specs.Chains as chains
 use Rattle.uses.specs.Rows.{use_row}
-use Rattle.layout.specs.declared.Layout.{Layout}
-use Rattle.layout.specs.Layout.{seg_at, next_use, job_uses, segment_of}
+use Rattle.job.specs.declared.Layout.{Layout}
+use Rattle.job.specs.Layout.{seg_at, next_use, job_uses, segment_of}
 use Rattle.job.specs.Job.{job_by, raw_job, job_of}
 use Rattle.job_shape.specs.Shape.{use_counts, rises, counts_ok}
 use Rattle.job_shape.proofs.Rising.{begins_none}
 use Rattle.entry_function.proofs.Scans.{each_at, conj_at}
 use Rattle.entry_function.proofs.Tables.{raw_operands, operands_count, vgroups_count, members_row}
 use Rattle.entry_function.proofs.Passed.{operand_fits, members_few}
-use Rattle.entry_uses.specs.Tests.{Rising}
-use Rattle.work_layout.specs.declared.WorkLayout.{WorkLayout}
-use Rattle.work_layout.specs.Regions.{max_work, chains_in}
-use Rattle.work_layout.proofs.Parts.{heads_are}
+use Rattle.entry_uses.specs.ListTests.{Rising}
+use Rattle.job.specs.declared.work.WorkLayout.{WorkLayout}
+use Rattle.job.specs.Regions.{max_work, chains_in}
+use Rattle.job.proofs.Parts.{heads_are}
 use Rattle.entry.specs.Accepted.{Accepted}
 use Rattle.entry.specs.Owner.{Owner}
 use Rattle.entry.proofs.Counts.{first_at, first_is, next_last, next_more}

@@ -1,22 +1,22 @@
 -- What entry leaves of an accepted job. Assumes nothing.
 use Rattle.std.specs.Prelude.{ℕ, ◌+◌, ◌<◌, ◌≡◌, true, List, get_or, replicate}
 use Rattle.std.proofs.Math.Option.{none}
-use Rattle.rows.specs.Parts.{splice}
-use Rattle.rows.specs.RowsAt.{rows_at}
+use Rattle.words.specs.Parts.{splice}
+use Rattle.words.specs.RowsAt.{rows_at}
 use Rattle.words.specs.Words.{words_of}
 use Rattle.definition.specs.Entry.{insts_of, apart, same_place, chained, not_after, entry}
 use Rattle.function.specs.Blocks.{blocks_at, start_words, Starts}
 use Rattle.hints.specs.Hints.{hint_at}
-use Rattle.operands.specs.Rows.{operands_at}
-use Rattle.operands.specs.Chains.{Under, Chained}
-use Rattle.layout.specs.declared.Layout.{Layout}
+use Rattle.values.specs.OperandRows.{operands_at}
+use Rattle.values.specs.Chains.{Under, Chained}
+use Rattle.job.specs.declared.Layout.{Layout}
 use Rattle.job.specs.Job.{raw_job, job_of}
 use Rattle.job_shape.specs.Shape.{Shaped}
 use Rattle.entry_book.specs.Limits.{Limited}
 use Rattle.entry_book.specs.Book.{Booked}
-use Rattle.entry_uses.specs.Tests.{Rising}
-use Rattle.work_layout.specs.declared.WorkLayout.{WorkLayout}
-use Rattle.work_layout.specs.Regions.{max_work, Regions, chains_in}
+use Rattle.entry_uses.specs.ListTests.{Rising}
+use Rattle.job.specs.declared.work.WorkLayout.{WorkLayout}
+use Rattle.job.specs.Regions.{max_work, Regions, chains_in}
 
 -- The job of the bytes s is accepted, and the work words K hold the index of its operands by its n instructions.
 pub record Accepted (s K : List ℕ) (lay : Layout) (wl : WorkLayout) (n : ℕ) : Type 0 where

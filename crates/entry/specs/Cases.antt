@@ -1,15 +1,15 @@
 -- Entry numbers of slices, by computation. Assumes nothing.
 use Rattle.std.specs.Prelude.{ℕ, ◌≡◌, refl, List, [], ◌∷◌, ◌++◌, set}
 use Rattle.std.specs.Float.Ieee.{of_bits}
-use Rattle.rows.specs.RowsAt.{rows_at}
+use Rattle.words.specs.RowsAt.{rows_at}
 use Rattle.words.specs.Words.{words_of, bytes_of}
 use Rattle.reginfo.specs.Rows.{bank_row, memory_row, class_row, classes_at}
 use Rattle.function.specs.Blocks.{block_row}
-use Rattle.coalescing.specs.Rows.{value_row, values_at, vgroup_row, vgroups_at}
-use Rattle.operands.specs.Rows.{operand_row, operands_at}
+use Rattle.values.specs.ValueRows.{value_row, values_at, vgroup_row, vgroups_at}
+use Rattle.values.specs.OperandRows.{operand_row, operands_at}
 use Rattle.hints.specs.Hints.{hint_at}
 use Rattle.uses.specs.Rows.{raw_kind, raw_row}
-use Rattle.layout.specs.Layout.{options_row, segment_of}
+use Rattle.job.specs.Layout.{options_row, segment_of}
 use Rattle.job.specs.Job.{job_by, raw_job}
 use Rattle.entry.specs.Number.{entry_number}
 

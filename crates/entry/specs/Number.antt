@@ -5,7 +5,7 @@ use Rattle.definition.specs.declared.Refusal.{Refusal}
 use Rattle.definition.specs.declared.Refusal.TheVariants.{NotARecord, BadFunction, BadHint, BadSegment, BadUse}
 use Rattle.definition.specs.Types.{Job, number_of}
 use Rattle.definition.specs.Entry.{every, function_ok, hints_ok, segments_ok, uses_ok, entry}
-use Rattle.layout.specs.declared.Layout.{Layout}
+use Rattle.job.specs.declared.Layout.{Layout}
 use Rattle.job.specs.Job.{raw_job}
 use Rattle.job_shape.specs.Shape.{shape_ok}
 use Rattle.job_shape.specs.Answer.{binary_job}

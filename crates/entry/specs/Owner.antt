@@ -1,7 +1,7 @@
 -- The segment that a use belongs to. Assumes nothing.
 use Rattle.std.specs.Prelude.{ℕ, ◌≤◌, ◌<◌, List}
-use Rattle.layout.specs.declared.Layout.{Layout}
-use Rattle.layout.specs.Layout.{seg_at, next_use}
+use Rattle.job.specs.declared.Layout.{Layout}
+use Rattle.job.specs.Layout.{seg_at, next_use}
 
 -- use number u is one of segment `seg`
 pub record Owner (W : List ℕ) (lay : Layout) (u : ℕ) : Type 0 where

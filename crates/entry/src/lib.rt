@@ -3,26 +3,26 @@
 
 ghost use Rattle.std.specs.Prelude.{◌≡◌, true, ℕ, ◌+◌, ◌*◌, ◌≤◌, ◌<◌, IfOk, get_or};
 ghost use Rattle.words.specs.Words.{word_count, words_of};
-ghost use Rattle.layout.specs.JobWords.{words_in};
+ghost use Rattle.job.specs.JobWords.{words_in};
 ghost use Rattle.definition.specs.Entry.{insts_of, limits_ok, lowest_of, entry};
 ghost use Rattle.function.specs.Blocks.{blocks_at};
-ghost use Rattle.operands.specs.Chains.{Chained, operands_of};
+ghost use Rattle.values.specs.Chains.{Chained, operands_of};
 ghost use Rattle.job.specs.Job.{raw_in};
 ghost use Rattle.entry_function.specs.Counts.{Indexes};
-ghost use Rattle.entry_uses.specs.Tests.{Rising};
-ghost use Rattle.work_layout.specs.Regions.{max_work};
+ghost use Rattle.entry_uses.specs.ListTests.{Rising};
+ghost use Rattle.job.specs.Regions.{max_work};
 ghost use Rattle.entry.specs.Number.{refusal_in, list_tests, table_tests};
 ghost use Rattle.entry.specs.Accepted.{Accepted, Prepared, prepared};
 
 use definition::Refusal;
 use entry_function::Counted;
-use entry_kinds::Indexed;
-use entry_uses::Bounded;
+use entry_uses::kind::Indexed;
+use entry_uses::lists::Bounded;
+use job::work::WorkLayout;
+use job::{Layout, Table};
 use job_shape::ShapedJob;
-use layout::{Layout, Table};
-use operands::Chains;
-use word_rows::Rows;
-use work_layout::WorkLayout;
+use values::operands::Chains;
+use words::rows::Rows;
 
 // Of a job that passes: its layout, the parts of the work slice and the number of instructions.
 #[derive(Clone, Copy)]
@@ -41,13 +41,13 @@ fn test_lists(bounded: &Bounded) -> Result<(), Refusal>
         job: indexed.job,
         insts: indexed.chains.insts,
     };
-    if !entry_hints::hints_ok(&counted) {
+    if !entry_ranges::hint::hints_ok(&counted) {
         return Err(Refusal::BadHint);
     }
-    if !entry_segments::segments_ok(&counted) {
+    if !entry_ranges::segment::segments_ok(&counted) {
         return Err(Refusal::BadSegment);
     }
-    if !entry_uses::uses_ok(bounded) {
+    if !entry_uses::lists::uses_ok(bounded) {
         return Err(Refusal::BadUse);
     }
     Ok(())
@@ -102,9 +102,9 @@ pub fn enter(shaped: &ShapedJob, work: &mut [u8]) -> Result<Entered, Refusal>
         return Err(Refusal::BadBook);
     }
     let insts = insts_in(job.bytes, lay.blocks) as usize;
-    let wl = work_layout::work_layout(lay, insts);
+    let wl = job::work::work_layout(lay, insts);
     let counted = Counted { job: *job, insts };
-    test_tables(&counted, work, work_layout::chains_in(lay, wl))?;
+    test_tables(&counted, work, job::work::chains_in(lay, wl))?;
     Ok(Entered {
         lay: job.lay,
         wl,
@@ -122,14 +122,14 @@ pub fn prepare(job: &[u8], e: Entered, work: &mut [u8])
 {
     let lay = &e.lay;
     let wl = e.wl;
-    spans::clear_words(work, wl.mapping, lay.operands.n);
+    words::span::clear_words(work, wl.mapping, lay.operands.n);
     let blocks = Rows {
         words: job,
         at: lay.blocks.at,
         n: lay.blocks.n,
     };
-    block_starts::put_starts(&blocks, work, wl.starts);
-    spans::clear_words(work, wl.marks, lay.uses.n);
+    function::starts::put_starts(&blocks, work, wl.starts);
+    words::span::clear_words(work, wl.marks, lay.uses.n);
 }
 
 // The tests, and the work slice of a job that passes them.

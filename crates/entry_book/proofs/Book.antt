@@ -9,8 +9,8 @@ use lib.Dec.{ltb}
 use lib.ListN.{length, get_or}
 use lib.Ieee.{binary32, of_bits}
 use borrow.Author.Tests.{leb-true}
-use Rattle.floats.proofs.Bits.{small_test}
-use Rattle.rows.specs.RowsAt.{rows_at, length_rows_at}
+use Rattle.weights.proofs.Bits.{small_test}
+use Rattle.words.specs.RowsAt.{rows_at, length_rows_at}
 use Rattle.words.specs.Words.{words_of}
 use Rattle.words.specs.Laws.{words_small}
 use Rattle.definition.specs.declared.RegClass.{RegClass}
@@ -19,9 +19,9 @@ use Rattle.definition.specs.declared.ClassData.{ClassData}
 use Rattle.definition.specs.Entry.{conj, every, small, class_ok, class_tests, book_ok}
 use Rattle.definition.proofs.Entries.{conj_all}
 use Rattle.reginfo.specs.Rows.{bank_row, class_row, classes_at}
-use Rattle.coalescing.specs.Rows.{value_row, values_at}
-use Rattle.layout.specs.declared.Layout.{Layout}
-use Rattle.layout.specs.Layout.{options_row}
+use Rattle.values.specs.ValueRows.{value_row, values_at}
+use Rattle.job.specs.declared.Layout.{Layout}
+use Rattle.job.specs.Layout.{options_row}
 use Rattle.job.specs.Job.{job_by, raw_job}
 use Rattle.job_shape.specs.Shape.{word_in, all_below}
 use Rattle.job_shape.proofs.Every.{every_row, every_same}

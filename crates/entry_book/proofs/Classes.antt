@@ -6,7 +6,7 @@ use mathlib.Core.List.{List, [], ◌∷◌}
 use lib.Dec.{leb, ltb}
 use lib.ListN.{get_or}
 use lib.Ieee.{binary32, of_bits}
-use Rattle.rows.specs.RowsAt.{length_rows_at}
+use Rattle.words.specs.RowsAt.{length_rows_at}
 use Rattle.definition.specs.declared.ClassData.{ClassData}
 use Rattle.definition.specs.Entry.{conj, small, sized, class_ok}
 use Rattle.reginfo.specs.Rows.{class_row, classes_at}

@@ -11,8 +11,8 @@ use Rattle.definition.specs.Limits.{max_insts, max_blocks, max_values, max_vgrou
 use Rattle.definition.specs.Entry.{conj, insts_of, insts, limits_ok}
 use Rattle.definition.proofs.Entries.{and_both, conj_all}
 use Rattle.function.specs.Blocks.{blocks_at}
-use Rattle.layout.specs.declared.Layout.{Layout}
-use Rattle.layout.specs.Layout.{options_row}
+use Rattle.job.specs.declared.Layout.{Layout}
+use Rattle.job.specs.Layout.{options_row}
 use Rattle.job.specs.Job.{job_by, raw_job}
 use Rattle.job_shape.specs.Shape.{counts_ok}
 use Rattle.job_shape.proofs.Laws.{Counted, raw_counted}

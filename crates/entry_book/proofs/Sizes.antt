@@ -9,7 +9,7 @@ use lib.Dec.{eqb, ltb}
 use lib.Pow.{pow_pos}
 use lib.ListN.{get_or}
 use borrow.Author.Tests.{eq-eqb, ne_eqb, ltb-true, ltb-false}
-use Rattle.rows.specs.RowsAt.{rows_at, rows_at_start, rows_at_more, rows_at_done}
+use Rattle.words.specs.RowsAt.{rows_at, rows_at_start, rows_at_more, rows_at_done}
 use Rattle.definition.specs.declared.ClassData.{ClassData}
 use Rattle.definition.specs.Entry.{sized}
 use Rattle.reginfo.specs.Rows.{class_row, classes_at}

@@ -3,7 +3,7 @@ use Rattle.std.specs.Prelude.{ℕ, ◌≤◌, Bool, List, [], ◌∷◌, leb, ge
 use Rattle.definition.specs.Limits.{max_insts, max_blocks, max_values, max_vgroups, max_operands, max_hints, max_segments, max_uses, max_classes, max_banks, max_regs, max_adjust}
 use Rattle.definition.specs.Entry.{insts_of}
 use Rattle.function.specs.Blocks.{blocks_at}
-use Rattle.layout.specs.declared.Layout.{Layout}
+use Rattle.job.specs.declared.Layout.{Layout}
 
 -- in the order of the definition's tests
 abbrev pub function_counts : Layout → List Bool

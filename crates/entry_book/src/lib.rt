@@ -3,15 +3,15 @@
 
 ghost use Rattle.std.specs.Prelude.{◌≡◌, ◌&&◌, ◌||◌, ◌+◌, ◌*◌, ◌%◌, ◌^◌, ◌≤◌, ◌<◌, ltb, eqb, get_or};
 ghost use Rattle.words.specs.Words.{word_count, words_of};
-ghost use Rattle.layout.specs.JobWords.{words_in};
+ghost use Rattle.job.specs.JobWords.{words_in};
 ghost use Rattle.reginfo.specs.Rows.{class_row, classes_at};
 ghost use Rattle.definition.specs.Entry.{conj, every, sized, class_ok, limits_ok, book_ok};
 ghost use Rattle.job.specs.Job.{raw_in};
 ghost use Rattle.entry_book.specs.Limits.{function_counts, other_counts, Limited};
 ghost use Rattle.entry_book.specs.Book.{scale_tests};
 
+use job::{Job, Layout};
 use job_shape::ShapedJob;
-use layout::{Job, Layout};
 
 // The counts of all tables, in the order of the definition's tests.
 #[tactic(auto, unfolding(definition::specs::Entry::conj))]
@@ -39,7 +39,8 @@ pub fn limits_ok(shaped: &ShapedJob) -> bool
     if !counts_ok(lay) {
         return false;
     }
-    words::word_at(job.bytes, lay.opts) <= 65535 && function::count_insts(&job::blocks(job)) <= 4096
+    words::word_at(job.bytes, lay.opts) <= 65535
+        && function::count_insts(&job::rows::blocks(job)) <= 4096
 }
 
 // Whether a mask has no bit from bit n on.
@@ -81,7 +82,7 @@ fn class_ok(job: &Job, i: usize) -> bool
     let mask = words::word_at(job.bytes, i);
     let size = words::word_at(job.bytes, i + 2);
     mask_known(mask, job.lay.classes.n)
-        && floats::is_small(words::word_at(job.bytes, i + 1))
+        && weights::floats::is_small(words::word_at(job.bytes, i + 1))
         && 1 <= size
         && size <= 8
         && (size < 2 || sizes_agree(job, mask, size))
@@ -101,9 +102,9 @@ fn scales_ok(job: &[u8], i: usize) -> bool
     requires { i + 4 ≤ word_count job.now }
     ensures { result ≡ conj (scale_tests (words_of job.now) i) }
 {
-    floats::is_small(words::word_at(job, i + 1))
-        && floats::is_small(words::word_at(job, i + 2))
-        && floats::is_small(words::word_at(job, i + 3))
+    weights::floats::is_small(words::word_at(job, i + 1))
+        && weights::floats::is_small(words::word_at(job, i + 2))
+        && weights::floats::is_small(words::word_at(job, i + 3))
 }
 
 // Test 3: the register book and the scales.

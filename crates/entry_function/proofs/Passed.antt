@@ -12,7 +12,7 @@ use Rattle.definition.specs.declared.Operand.{Operand}
 use Rattle.definition.specs.Types.{Job}
 use Rattle.definition.specs.Entry.{every, vgroup_ok, vgroup_tests, vgroup_values, operand_ok, operand_tests, insts, apart, same_place, function_ok, function_tests}
 use Rattle.definition.proofs.Entries.{and_both}
-use Rattle.operands.specs.Rows.{no_operand, op_at}
+use Rattle.values.specs.OperandRows.{no_operand, op_at}
 use Rattle.entry_function.proofs.Scans.{conj_at}
 
 every_at : {A : Type 0} (f : A → Bool) (xs : List A) (k : ℕ) (d : A) → every f xs ≡ true → k < length xs → f (get_or xs k d) ≡ true

@@ -5,7 +5,7 @@ use mathlib.Core.Path.{◌≡◌}
 use mathlib.Core.Bool.{Bool, true}
 use mathlib.Core.List.{List, [], ◌∷◌}
 use lib.ListN.{length, get_or}
-use Rattle.rows.specs.Tab.{tab}
+use Rattle.words.specs.Tab.{tab}
 use Rattle.definition.specs.Entry.{conj, every}
 use Rattle.definition.proofs.Entries.{and_both}
 

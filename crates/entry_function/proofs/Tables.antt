@@ -6,8 +6,8 @@ use mathlib.Core.Bool.{Bool, true}
 use mathlib.Core.List.{List, []}
 use lib.ListN.{length, get_or}
 use borrow.Author.Tests.{leb-true}
-use Rattle.rows.specs.Tab.{tab, length_tab}
-use Rattle.rows.specs.RowsAt.{rows_at, length_rows_at, get_or_rows_at}
+use Rattle.words.specs.Tab.{tab, length_tab}
+use Rattle.words.specs.RowsAt.{rows_at, length_rows_at, get_or_rows_at}
 use Rattle.definition.specs.declared.RegClass.{RegClass}
 use Rattle.definition.specs.declared.ValueGroup.{ValueGroup}
 use Rattle.definition.specs.declared.ClassData.{ClassData}
@@ -17,15 +17,15 @@ use Rattle.definition.specs.RegInfo.{no_class, class_at}
 use Rattle.definition.specs.Entry.{insts_of, insts, limit_tests, limits_ok, vgroup_values}
 use Rattle.reginfo.specs.Rows.{class_row, classes_at, bank_row, memory_row}
 use Rattle.function.specs.Blocks.{block_row, blocks_at}
-use Rattle.coalescing.specs.Rows.{values_at, vgroup_row, vgroups_at}
-use Rattle.operands.specs.Rows.{operands_at}
-use Rattle.operands.proofs.Rows as operand_rows
-use Rattle.coalescing.proofs.Values.{values_long}
-use Rattle.coalescing.proofs.Members.{groups_long, group_row_at}
+use Rattle.values.specs.ValueRows.{values_at, vgroup_row, vgroups_at}
+use Rattle.values.specs.OperandRows.{operands_at}
+use Rattle.values.proofs.Rows as operand_rows
+use Rattle.values.proofs.Values.{values_long}
+use Rattle.values.proofs.Members.{groups_long, group_row_at}
 use Rattle.hints.specs.Hints.{hint_at}
 use Rattle.uses.specs.Rows.{raw_row}
-use Rattle.layout.specs.declared.Layout.{Layout}
-use Rattle.layout.specs.Layout.{segment_of}
+use Rattle.job.specs.declared.Layout.{Layout}
+use Rattle.job.specs.Layout.{segment_of}
 use Rattle.job.specs.Job.{job_by, raw_job}
 use Rattle.entry_function.specs.Counts.{Within}
 use Rattle.entry_function.proofs.Scans.{conj_at}

@@ -7,7 +7,7 @@ use mathlib.Core.List.{List, [], ◌∷◌}
 use lib.Dec.{eqb}
 use lib.ListN.{length, get_or}
 use borrow.Author.Tests.{lt-ltb, le-ltb, le-leb, lt-leb, not-true, not-false}
-use Rattle.rows.specs.Tab.{tab, tab_ext}
+use Rattle.words.specs.Tab.{tab, tab_ext}
 use Rattle.definition.specs.declared.ValueSet.{ValueSet}
 use Rattle.definition.specs.declared.Value.{Value}
 use Rattle.definition.specs.declared.Operand.{Operand}
@@ -15,14 +15,14 @@ use Rattle.definition.specs.Types.{Job, val}
 use Rattle.definition.specs.RegInfo.{set_of}
 use Rattle.definition.specs.Entry.{conj, every, insts, block_ok, leader_ok, vgroup_ok, operand_ok, apart, same_place, function_ok}
 use Rattle.function.specs.Blocks.{blocks_at}
-use Rattle.coalescing.specs.Rows.{value_row, values_at, vgroup_row, vgroups_at}
-use Rattle.operands.specs.declared.Chains.{Chains}
-use Rattle.operands.specs.Rows.{operand_row, operands_at}
-use Rattle.operands.specs.Chains.{operands_of, Under}
-use Rattle.operands.specs.Chains as operands
-use Rattle.operands.proofs.Only.{under_of}
-use Rattle.layout.specs.declared.Layout.{Layout}
-use Rattle.layout.specs.Layout as layout
+use Rattle.values.specs.ValueRows.{value_row, values_at, vgroup_row, vgroups_at}
+use Rattle.values.specs.declared.operands.Chains.{Chains}
+use Rattle.values.specs.OperandRows.{operand_row, operands_at}
+use Rattle.values.specs.Chains.{operands_of, Under}
+use Rattle.values.specs.Chains as operands
+use Rattle.values.proofs.Only.{under_of}
+use Rattle.job.specs.declared.Layout.{Layout}
+use Rattle.job.specs.Layout as layout
 use Rattle.job.specs.Job.{raw_job}
 use Rattle.entry_function.specs.Counts.{known, Within, Indexes}
 use Rattle.entry_function.proofs.Tables.{raw_values, raw_vgroups, raw_operands, raw_blocks, values_count, vgroups_count, classes_count, class_size, members_row}

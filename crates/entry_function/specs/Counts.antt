@@ -2,15 +2,15 @@
 use Rattle.std.specs.Prelude.{ℕ, ◌+◌, ◌≤◌, ◌≡◌, Bool, List, ltb}
 use Rattle.definition.specs.declared.Value.{Value}
 use Rattle.definition.specs.Entry.{insts}
-use Rattle.operands.specs.declared.Chains.{Chains}
-use Rattle.layout.specs.declared.Layout.{Layout}
+use Rattle.values.specs.declared.operands.Chains.{Chains}
+use Rattle.job.specs.declared.Layout.{Layout}
 use Rattle.job.specs.Job.{raw_job}
 
 -- v is one of the first n values
 unfoldable pub known : ℕ → Value → Bool
 known n v = ltb v.0 n
 
--- what test 2 says of the tables (the uses are in crate entry_uses)
+-- what test 2 says of the tables (the uses are in crate entry_uses::lists)
 pub record Within (W : List ℕ) (lay : Layout) : Type 0 where
   pub insts : insts (raw_job W lay) ≤ 4096
   pub blocks : lay.blocks.n ≤ 512

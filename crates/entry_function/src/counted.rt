@@ -3,7 +3,7 @@ ghost use Rattle.std.specs.Prelude.{◌≡◌};
 ghost use Rattle.definition.specs.Entry as definition;
 ghost use Rattle.job.specs.Job.{raw_in};
 
-use layout::Job;
+use job::Job;
 
 // The blocks of the job have `insts` instructions.
 #[derive(Clone, Copy)]

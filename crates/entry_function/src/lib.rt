@@ -4,11 +4,11 @@
 
 ghost use Rattle.std.specs.Prelude.{◌≡◌, true, ◌+◌, ◌*◌, ◌≤◌, ◌<◌, length};
 ghost use Rattle.words.specs.Words.{word_count, words_of};
-ghost use Rattle.layout.specs.JobWords.{words_in};
+ghost use Rattle.job.specs.JobWords.{words_in};
 ghost use Rattle.definition.specs.Entry.{every, leader_ok, vgroup_ok, operand_ok, function_ok};
-ghost use Rattle.coalescing.specs.Rows.{value_row, values_at, vgroup_row, vgroups_at};
-ghost use Rattle.operands.specs.Rows.{operand_row, operands_at};
-ghost use Rattle.operands.specs.Chains.{Chained, operands_of, chains_of};
+ghost use Rattle.values.specs.ValueRows.{value_row, values_at, vgroup_row, vgroups_at};
+ghost use Rattle.values.specs.OperandRows.{operand_row, operands_at};
+ghost use Rattle.values.specs.Chains.{Chained, operands_of, chains_of};
 ghost use Rattle.job.specs.Job.{raw_in};
 ghost use Rattle.entry_function.specs.Counts.{known, Within, Indexes};
 
@@ -16,8 +16,8 @@ mod counted;
 
 pub use counted::Counted;
 use definition::{Value, ValueSet};
-use layout::Job;
-use operands::{Chains, Index};
+use job::Job;
+use values::operands::{Chains, Index};
 
 // Whether value i's leader is a value that leads itself.
 fn leads_at(job: &Job, i: usize) -> bool
@@ -31,7 +31,7 @@ fn leads_at(job: &Job, i: usize) -> bool
     if n <= leader as usize {
         return false;
     }
-    coalescing::set_for_value(&job::values(job), Value(leader)) == ValueSet(leader)
+    values::set_for_value(&job::rows::values(job), Value(leader)) == ValueSet(leader)
 }
 
 // Every value's leader. Not one with vgroups_ok and operands_ok: a line each, over another test and another definition.
@@ -47,8 +47,7 @@ fn members_known(job: &[u8], at: usize, values: usize) -> bool
     requires { (at + 9 ≤ word_count job.now) × (length (vgroup_row (words_of job.now) at) ≤ 8) }
     ensures { result ≡ every (known values) (vgroup_row (words_of job.now) at) }
 {
-    (0..coalescing::group_len(job, at)).all(|k| (coalescing::member_at(job, at, k).0 as usize)
-        < values)
+    (0..values::group_len(job, at)).all(|k| (values::member_at(job, at, k).0 as usize) < values)
 }
 
 // Whether value group i has 2 to 8 members, all known. One with more is refused before its members are read.
@@ -58,7 +57,7 @@ fn vgroup_ok(job: &Job, i: usize) -> bool
 {
     let lay = &job.lay;
     let at = lay.vgroups.at + i * 9;
-    let n = coalescing::group_len(job.bytes, at);
+    let n = values::group_len(job.bytes, at);
     if n < 2 {
         return false;
     }
@@ -86,7 +85,7 @@ fn operand_ok(counted: &Counted, i: usize) -> bool
     let lay = &job.lay;
     let groups = lay.vgroups.n;
     let classes = lay.classes.n;
-    let o = operands::operand_at(job.bytes, lay.operands.at + i * 4);
+    let o = values::operands::operand_at(job.bytes, lay.operands.at + i * 4);
     if counted.insts <= o.inst.0 as usize {
         return false;
     }
@@ -102,7 +101,7 @@ fn operand_ok(counted: &Counted, i: usize) -> bool
         return false;
     }
     let size = words::word_at(job.bytes, lay.classes.at + class * 4 + 2) as usize;
-    size == coalescing::group_len(job.bytes, lay.vgroups.at + group * 9)
+    size == values::group_len(job.bytes, lay.vgroups.at + group * 9)
 }
 
 // Every operand. Not one with leaders_ok and vgroups_ok: a line each, over another test and another definition.
@@ -124,7 +123,7 @@ pub fn function_ok(counted: &Counted, work: &mut [u8], c: Chains) -> bool
 {
     let job = &counted.job;
     let lay = &job.lay;
-    if !function::blocks_ok(&job::blocks(job)) {
+    if !function::blocks_ok(&job::rows::blocks(job)) {
         return false;
     }
     if !leaders_ok(job) {
@@ -136,11 +135,11 @@ pub fn function_ok(counted: &Counted, work: &mut [u8], c: Chains) -> bool
     if !operands_ok(counted) {
         return false;
     }
-    operands::put_chains(job.bytes, work, c);
+    values::operands::put_chains(job.bytes, work, c);
     let index = Index {
         job: job.bytes,
         work,
         chains: c,
     };
-    operands::no_twice(&index)
+    values::operands::no_twice(&index)
 }

@@ -6,18 +6,18 @@ use mathlib.Core.Bool.{true}
 use mathlib.Core.List.{List}
 use lib.ListN.{length}
 use borrow.Author.Tests.{leb-true, lt-ltb, le-ltb}
-use Rattle.rows.specs.Tab.{tab}
-use Rattle.rows.specs.RowsAt.{length_rows_at}
+use Rattle.words.specs.Tab.{tab}
+use Rattle.words.specs.RowsAt.{length_rows_at}
 use Rattle.definition.specs.Types.{Segment}
 use Rattle.definition.specs.Place.{total}
 use Rattle.definition.specs.Entry.{limit_tests, limits_ok}
 use Rattle.uses.specs.Rows.{raw_row}
-use Rattle.layout.specs.declared.Layout.{Layout}
-use Rattle.layout.specs.Layout.{seg_row, seg_at, next_use, job_uses, segment_of}
+use Rattle.job.specs.declared.Layout.{Layout}
+use Rattle.job.specs.Layout.{seg_row, seg_at, next_use, job_uses, segment_of}
 use Rattle.job.specs.Job.{raw_job}
 use Rattle.entry_function.proofs.Scans.{conj_at}
 use Rattle.entry_function.proofs.Tables.{raw_segments}
-use Rattle.entry_uses.specs.Tests.{Rising}
+use Rattle.entry_uses.specs.ListTests.{Rising}
 
 module _ (W : List ℕ) (lay : Layout) where
   abbrev first_of : ℕ → ℕ

@@ -1,3 +1,4 @@
-pub mod Tests
+pub mod KindTests
+pub mod ListTests
 pub mod Counts
 pub mod Typed

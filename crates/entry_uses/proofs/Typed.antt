@@ -8,8 +8,8 @@ use mathlib.Core.List.{List}
 use lib.Dec.{eqb, ltb}
 use lib.ListN.{length}
 use borrow.Author.Tests.{lt-ltb, ltb-true, eqb-true}
-use Rattle.rows.specs.Tab.{tab, tab_ext}
-use Rattle.rows.specs.RowsAt.{rows_at, rows_at_ext}
+use Rattle.words.specs.Tab.{tab, tab_ext}
+use Rattle.words.specs.RowsAt.{rows_at, rows_at_ext}
 use Rattle.definition.specs.declared.Inst.{Inst}
 use Rattle.definition.specs.declared.Value.{Value}
 use Rattle.definition.specs.declared.RegClass.{RegClass}
@@ -17,13 +17,13 @@ use Rattle.definition.specs.declared.Use.{Use}
 use Rattle.definition.specs.Types.{Job, Segment, cls}
 use Rattle.definition.specs.Entry.{every, vgroup_values, function_ok, group_use_ok, kind_ok, use_tests, use_ok, uses_ok}
 use Rattle.std.specs.Prelude.{Option, Some, None}
-use Rattle.operands.specs.Rows.{op_at, last_place, fits_found}
-use Rattle.operands.proofs.Twice.{never}
-use Rattle.operands.proofs.Only.{found_at, group_use_found}
+use Rattle.values.specs.OperandRows.{op_at, last_place, fits_found}
+use Rattle.values.proofs.Twice.{never}
+use Rattle.values.proofs.Only.{found_at, group_use_found}
 use Rattle.uses.specs.Rows.{raw_kind, raw_row, use_row, fit, typed_kind, typed_row}
 use Rattle.uses.proofs.Typed.{typed_row_lem}
-use Rattle.layout.specs.declared.Layout.{Layout}
-use Rattle.layout.specs.Layout.{seg_at, next_use, job_uses, segment_of}
+use Rattle.job.specs.declared.Layout.{Layout}
+use Rattle.job.specs.Layout.{seg_at, next_use, job_uses, segment_of}
 use Rattle.job.specs.Job.{job_by, raw_job, job_of}
 use Rattle.definition.proofs.Entries.{and_both}
 use Rattle.entry_function.proofs.Scans.{each_at, conj_at}

@@ -1,1 +1,3 @@
-pub mod Tests
+pub mod KindTests
+pub mod InJob
+pub mod ListTests

@@ -14,7 +14,7 @@ use Rattle.definition.specs.declared.Refusal.{Refusal}
 use Rattle.definition.specs.declared.Refusal.TheVariants.{NotARecord, OverALimit, BadBook, BadFunction, BadHint, BadSegment, BadUse, Stopped, Full}
 use Rattle.definition.specs.Types.{done, refused, inst, number_of}
 use Rattle.definition.specs.Entry.{cut_to, find_cut, side_of}
-use Rattle.rows.specs.Parts.{splice}
+use Rattle.words.specs.Parts.{splice}
 use Rattle.words.specs.Words.{words_of}
 use Rattle.function.specs.Bools.{and_l, and_r, both, not_l, not_r}
 use Rattle.function.specs.Blocks.{start_words}

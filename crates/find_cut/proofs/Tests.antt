@@ -12,7 +12,7 @@ use lib.ListN.{length}
 use borrow.Author.Tests.{le-leb, lt-leb, lt-ltb, le-ltb, leb-true, ltb-true}
 use Rattle.definition.specs.declared.Refusal.TheVariants.{OverALimit, BadFunction}
 use Rattle.definition.specs.Entry.{insts_of, every, block_ok, lowest_of}
-use Rattle.rows.specs.RowsAt.{length_rows_at}
+use Rattle.words.specs.RowsAt.{length_rows_at}
 use Rattle.words.specs.Words.{words_of}
 use Rattle.function.specs.Bools.{clash, and_l, and_r, both, not_l, not_r}
 use Rattle.function.specs.Blocks.{block_row}

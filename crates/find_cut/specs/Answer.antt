@@ -9,7 +9,7 @@ use Rattle.definition.specs.declared.Refusal.{Refusal}
 use Rattle.definition.specs.declared.Refusal.TheVariants.{NotARecord}
 use Rattle.definition.specs.Types.{Out, done, refused, inst, number_of}
 use Rattle.definition.specs.Entry.{find_cut, cut_tests, lowest_of, insts_of, every, block_ok}
-use Rattle.rows.specs.Parts.{splice}
+use Rattle.words.specs.Parts.{splice}
 use Rattle.words.specs.Words.{words_of}
 use Rattle.function.specs.Blocks.{blocks_at, start_words}
 use Rattle.find_cut.specs.declared.Cut.{Cut}

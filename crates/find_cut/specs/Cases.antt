@@ -4,7 +4,7 @@ use Rattle.std.specs.Float.Ieee.{lt, of_bits}
 use Rattle.definition.specs.Place.{total}
 use Rattle.definition.specs.SplitPlacement.{freq_at, starts, ends, keep, earliest, latest, early_cut, late_cut, late_from}
 use Rattle.definition.specs.Entry.{insts_of, every, block_ok, lowest_of, cut_to, find_cut}
-use Rattle.rows.specs.RowsAt.{rows_at}
+use Rattle.words.specs.RowsAt.{rows_at}
 use Rattle.words.specs.Words.{words_of, bytes_of}
 use Rattle.function.specs.Blocks.{block_row}
 use Rattle.find_cut.specs.declared.Cut.{Cut}

@@ -3,14 +3,14 @@
 
 ghost use Rattle.std.specs.Prelude.{◌≡◌, true, cond, leb, Some, None, ◌+◌, ◌*◌, ◌/◌, ◌≤◌, ◌<◌};
 ghost use Rattle.definition.specs.Entry.{insts_of, every, block_ok, side_of};
-ghost use Rattle.rows.specs.Parts.{splice};
+ghost use Rattle.words.specs.Parts.{splice};
 ghost use Rattle.words.specs.Words.{word_count, words_of};
 ghost use Rattle.function.specs.Blocks.{blocks_at, start_words};
 ghost use Rattle.find_cut.specs.Answer.{side_named, unless, cut_refusal, admission, cut_answer, work_left};
 
-use block_starts::BlockStarts;
 use definition::{Inst, Refusal, Side};
-use word_rows::Rows;
+use function::starts::BlockStarts;
+use words::rows::Rows;
 
 // Number 0 and the instruction before which the cut is made; or the refusal's number, and 0.
 // No Result, since C gets it.
@@ -94,7 +94,7 @@ fn cut_by(blocks: &[u8], n: u32, after: u32, before: u32, side: Side, work: &mut
         at: 0,
         n: n as usize,
     };
-    block_starts::put_starts(&rows, work, 0);
+    function::starts::put_starts(&rows, work, 0);
     let t = BlockStarts {
         words: work,
         at: 0,

@@ -10,7 +10,7 @@ use Rattle.definition.specs.Types.{Job, Piece, Mapped, State, vrgroup}
 use Rattle.definition.specs.Admit.{register_at, members_at}
 use Rattle.definition.specs.Place.{pieces_in, uses_in, uses_of_pieces, uses_of, segs_of, map_uses, or_else, with_pieces, first_from, group_weight, alone_state, lead_state, join_state, merge_state, place}
 use Rattle.definition.specs.Place as placing
-use Rattle.layout.specs.declared.Layout.{Layout}
+use Rattle.job.specs.declared.Layout.{Layout}
 use Rattle.virt_regs.specs.declared.OutLayout.{OutLayout}
 use Rattle.virt_regs.specs.declared.Counts.{Counts}
 use Rattle.virt_regs.specs.Encoding.{tables_end, room_of, counts_of, Holds}
@@ -21,7 +21,7 @@ use Rattle.vreg_find.specs.Ends.{ends_le}
 use Rattle.vreg_insert.specs.declared.Gaps.{Gaps}
 use Rattle.vreg_insert.specs.Ask.{Ask, first_use_le}
 use Rattle.vreg_insert.specs.Opened.{Opened}
-use Rattle.work_layout.specs.declared.WorkLayout.{WorkLayout}
+use Rattle.job.specs.declared.work.WorkLayout.{WorkLayout}
 use Rattle.constraints.specs.declared.Held.{Held}
 use Rattle.constraints.specs.Held.{held_of}
 use Rattle.constraints.specs.Ready.{operands_in, Mapping}

@@ -3,7 +3,7 @@
 
 ghost use Rattle.std.specs.Prelude.{◌≡◌, List, ℕ, ◌≤◌};
 ghost use Rattle.words.specs.Words.{word_count, words_of};
-ghost use Rattle.layout.specs.JobWords.{words_in};
+ghost use Rattle.job.specs.JobWords.{words_in};
 ghost use Rattle.job.specs.Job.{job_in};
 ghost use Rattle.use_costs.specs.Book.{SmallBook};
 ghost use Rattle.definition.specs.Types.{Held, Piece, State};

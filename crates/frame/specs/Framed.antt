@@ -1,10 +1,10 @@
 -- The frame of a job, and that it gives the layouts back. Assumes nothing.
 use Rattle.std.specs.Prelude.{◌≡◌}
 use Rattle.std.proofs.Common.{ap}
-use Rattle.layout.specs.declared.Layout.{Layout}
-use Rattle.layout.specs.declared.job.Job.{Job}
+use Rattle.job.specs.declared.Layout.{Layout}
+use Rattle.job.specs.declared.job.Job.{Job}
 use Rattle.virt_regs.specs.declared.OutLayout.{OutLayout}
-use Rattle.work_layout.specs.declared.WorkLayout.{WorkLayout}
+use Rattle.job.specs.declared.work.WorkLayout.{WorkLayout}
 use Rattle.frame.specs.declared.lent.Frame.{Frame}
 
 -- the frame of a job, its result tables and its work slice

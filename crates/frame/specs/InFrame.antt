@@ -2,7 +2,7 @@
 -- them of words and layouts. Assumes nothing.
 use Rattle.std.specs.Prelude.{ℕ, List}
 use Rattle.words.specs.Words.{words_of}
-use Rattle.layout.specs.JobWords.{words_in}
+use Rattle.job.specs.JobWords.{words_in}
 use Rattle.frame.specs.declared.lent.Frame.{Frame}
 use Rattle.definition.specs.declared.Use.{Use}
 use Rattle.set_part.specs.declared.SetPart.{SetPart}

@@ -1,9 +1,9 @@
 // What a build works on, lent from function to function as one reference.
 ghost use Rattle.std.specs.Prelude.{◌^◌, ◌<◌, length};
 
-use layout::Job;
+use job::Job;
+use job::work::WorkLayout;
 use virt_regs::OutLayout;
-use work_layout::WorkLayout;
 
 // The job, the result tables' numbers of rows, and the places of the work slice. `short` is true of every slice, but a
 // proof knows it of a job that is lent by itself alone, and not of one in a struct.

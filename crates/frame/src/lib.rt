@@ -5,10 +5,10 @@ ghost use Rattle.frame.specs.Framed.{Framed};
 
 mod lent;
 
-use layout::Job;
+use job::Job;
+use job::work::WorkLayout;
 pub use lent::Frame;
 use virt_regs::OutLayout;
-use work_layout::WorkLayout;
 
 // The frame of a job.
 pub fn frame_of<'a>(job: &Job<'a>, ol: OutLayout, wl: WorkLayout) -> Frame<'a>

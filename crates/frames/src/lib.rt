@@ -46,7 +46,7 @@ fn number(head: &[u8], at: usize) -> Option<u64>
 {
     let mut v = 0;
     for i in 0..8 {
-        let d = numeral::digit(head[at + i]);
+        let d = sheet_rules::digits::digit(head[at + i]);
         if 9 < d {
             return None;
         }

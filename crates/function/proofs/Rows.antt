@@ -10,7 +10,7 @@ use lib.Ieee.{binary32, of_bits}
 use borrow.Author.Tests.{le-leb, lt-leb}
 use Rattle.definition.specs.declared.BlockData.{BlockData}
 use Rattle.definition.specs.Entry.{insts_of, block_ok, plain}
-use Rattle.rows.specs.RowsAt.{length_rows_at, get_or_rows_at}
+use Rattle.words.specs.RowsAt.{length_rows_at, get_or_rows_at}
 use Rattle.function.specs.Blocks.{block_row, blocks_at, start_of, block_at, no_block}
 use Rattle.function.specs.BlockLaws.{start_next, start_last}
 

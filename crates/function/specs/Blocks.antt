@@ -4,9 +4,9 @@ use Rattle.std.specs.Float.{binary32}
 use Rattle.std.specs.Float.Ieee.{of_bits}
 use Rattle.definition.specs.declared.BlockData.{BlockData}
 use Rattle.definition.specs.RegInfo.{zero_f}
-use Rattle.rows.specs.RowsAt.{rows_at}
-use Rattle.word_rows.specs.declared.lent.Rows.{Rows}
-use Rattle.word_rows.specs.Rows.{row_words}
+use Rattle.words.specs.RowsAt.{rows_at}
+use Rattle.words.specs.declared.rows.lent.Rows.{Rows}
+use Rattle.words.specs.Rows.{row_words}
 unfoldable pub use Rattle.definition.specs.CutMoves.{block_of}
 
 -- ---- block rows: the instruction count, the frequency's bits

@@ -9,8 +9,8 @@ use Rattle.std.specs.Iterator.{ChecksAll}
 use Rattle.std.specs.List.{list_all, range_with_len}
 use Rattle.std.specs.declared.ops.Range.{Range}
 use denote.Param.Members.{Mut}
-use Rattle.rows.specs.Tab.{tab}
-use Rattle.rows.specs.RowsAt.{rows_at}
+use Rattle.words.specs.Tab.{tab}
+use Rattle.words.specs.RowsAt.{rows_at}
 use Rattle.definition.specs.Entry.{chained}
 
 -- the indices behind i, each with the one before it

@@ -10,8 +10,8 @@ use Rattle.std.specs.List.{list_all, range_with_len}
 use Rattle.std.specs.declared.ops.Range.{Range}
 use denote.Param.Members.{Mut}
 use native.Mathlib.Nat.{sub-zero}
-use Rattle.rows.specs.Tab.{tab}
-use Rattle.rows.specs.RowsAt.{rows_at}
+use Rattle.words.specs.Tab.{tab}
+use Rattle.words.specs.RowsAt.{rows_at}
 use Rattle.definition.specs.Entry.{every}
 
 every_of_range : {A : Type 0} (p : A → Bool) (f : ℕ → A) (i k : ℕ) → list_all (λ j. p (f j)) (range_with_len i k) ≡ every p (tab f i k)

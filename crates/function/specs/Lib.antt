@@ -3,3 +3,4 @@ pub mod Blocks
 pub mod BlockLaws
 pub mod Every
 pub mod Chained
+pub mod Table

@@ -3,11 +3,13 @@
 
 ghost use Rattle.std.specs.Prelude.{◌≡◌, ◌+◌, ◌*◌, ◌<◌, get_or};
 ghost use Rattle.definition.specs.Entry.{insts_of, block_ok, every};
-ghost use Rattle.word_rows.specs.Rows.{row_words};
+ghost use Rattle.words.specs.Rows.{row_words};
 ghost use Rattle.function.specs.Blocks.{block_row, blocks_in};
 
+pub mod starts;
+
 use definition::{Block, BlockData};
-use word_rows::{Rows, row_at, word_of};
+use words::rows::{Rows, row_at, word_of};
 
 // The first word of row b: the instruction count.
 pub fn count_at(blocks: &Rows<2>, b: Block) -> u32
@@ -32,7 +34,7 @@ pub fn block_at(blocks: &Rows<2>, b: Block) -> BlockData
     ensures { result ≡ block_row (row_words blocks.now) (blocks.now.at + b.0 * 2) }
 {
     let insts = count_at(blocks, b);
-    let frequency = floats::float_of(bits_at(blocks, b));
+    let frequency = weights::floats::float_of(bits_at(blocks, b));
     BlockData { insts, frequency }
 }
 
@@ -58,7 +60,7 @@ pub fn block_ok(blocks: &Rows<2>, b: Block) -> bool
     if empty {
         return false;
     }
-    floats::is_plain(bits_at(blocks, b))
+    weights::floats::is_plain(bits_at(blocks, b))
 }
 
 pub fn blocks_ok(blocks: &Rows<2>) -> bool

@@ -8,7 +8,7 @@ use native.Mathlib.Omega.{arith}
 use lib.Dec.{leb, eqb}
 use lib.ListN.{drop, drop_of_length-le}
 use lib.Seq.{drop-cons}
-use Rattle.rows.specs.RowsAt.{rows_at, length_rows_at, get_or_rows_at}
+use Rattle.words.specs.RowsAt.{rows_at, length_rows_at, get_or_rows_at}
 use Rattle.definition.specs.declared.Value.{Value}
 use Rattle.definition.specs.declared.Hint.{Hint}
 use Rattle.definition.specs.Hints.{as_key, hinted}

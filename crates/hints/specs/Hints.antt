@@ -1,9 +1,9 @@
 -- Rows of hints, and the search by key. Assumes nothing.
 use Rattle.std.specs.Prelude.{◌≡◌, ℕ, suc, ◌+◌, Bool, true, false, ◌&&◌, ◌||◌, List, [], ◌∷◌, ltb, eqb, get_or}
 use Rattle.std.proofs.Common.{add-zero, arith}
-use Rattle.rows.specs.RowsAt.{rows_at, Reads}
-use Rattle.word_rows.specs.declared.lent.Rows.{Rows}
-use Rattle.word_rows.specs.Rows.{row_words}
+use Rattle.words.specs.RowsAt.{rows_at, Reads}
+use Rattle.words.specs.declared.rows.lent.Rows.{Rows}
+use Rattle.words.specs.Rows.{row_words}
 use Rattle.definition.specs.declared.Value.{Value}
 use Rattle.definition.specs.declared.Hint.{Hint}
 use Rattle.definition.specs.Types.{val, inst}

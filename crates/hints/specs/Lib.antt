@@ -1,3 +1,4 @@
 pub mod Hints
 pub mod Laws
 pub mod Sorted
+pub mod Flags

@@ -7,11 +7,12 @@ ghost use Rattle.definition.specs.Hints.{as_key, hinted};
 ghost use Rattle.hints.specs.Hints.{hint_at, key_below, first_hint};
 ghost use Rattle.hints.specs.Sorted.{hints_in};
 
+pub mod cuts;
 mod sorted;
 
 use definition::{Hint, Inst, Value};
 pub use sorted::Hints;
-use word_rows::row_at;
+use words::rows::row_at;
 use words::word_at;
 
 // The hint whose row begins at word i; it is incoming exactly if its word is 1.

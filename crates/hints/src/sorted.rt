@@ -3,7 +3,7 @@ ghost use Rattle.std.specs.Prelude.{◌≡◌, true};
 ghost use Rattle.definition.specs.Entry.{chained, not_after};
 ghost use Rattle.hints.specs.Hints.{hint_rows};
 
-use word_rows::Rows;
+use words::rows::Rows;
 
 // No hint is sorted after the one behind it.
 #[derive(Clone, Copy)]

@@ -6,8 +6,8 @@ ghost use Rattle.std.specs.Prelude.{◌≡◌, ◌+◌, ◌^◌, ◌≤◌, ◌<
 ghost use Rattle.lines.specs.Wrote.{Wrote};
 ghost use Rattle.home.specs.Tallies.{differs_line, tally_line, broken_line};
 
+use convert::memory::Lent;
 use frames::NoFrame;
-use sheet_home::Lent;
 use std::io;
 use std::io::{Error, Stdout};
 use streams::{Noted, STDIN, Stream};
@@ -74,7 +74,7 @@ fn by_tests(answer: &[u8]) -> bool {
 fn way_of(sheet: &[u8], answer: &[u8], there: &mut [u8], lent: &mut Lent) -> Way
     requires { 256 ≤ length there.old }
 {
-    let Some(m) = sheet_home::comes_home(sheet, there, lent) else {
+    let Some(m) = convert::memory::comes_home(sheet, there, lent) else {
         return Way::Differs;
     };
     if m.refused.is_none() {

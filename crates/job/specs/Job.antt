@@ -1,19 +1,19 @@
 -- The job that a slice of words stands for, by its layout. Assumes nothing.
 use Rattle.std.specs.Prelude.{ℕ, List}
-use Rattle.rows.specs.Tab.{tab}
-use Rattle.rows.specs.RowsAt.{rows_at}
+use Rattle.words.specs.Tab.{tab}
+use Rattle.words.specs.RowsAt.{rows_at}
 use Rattle.definition.specs.declared.Use.{Use}
 use Rattle.definition.specs.Types.{Job}
 use Rattle.reginfo.specs.Rows.{bank_row, memory_row, classes_at}
 use Rattle.function.specs.Blocks.{blocks_at}
-use Rattle.coalescing.specs.Rows.{values_at, vgroups_at}
-use Rattle.operands.specs.Rows.{operands_at}
+use Rattle.values.specs.ValueRows.{values_at, vgroups_at}
+use Rattle.values.specs.OperandRows.{operands_at}
 use Rattle.hints.specs.Hints.{hint_at}
 use Rattle.uses.specs.Rows.{use_row, raw_row}
-use Rattle.layout.specs.declared.Layout.{Layout}
-use Rattle.layout.specs.declared.job.Job as lent
-use Rattle.layout.specs.Layout.{options_row, segment_of}
-use Rattle.layout.specs.JobWords.{words_in}
+use Rattle.job.specs.declared.Layout.{Layout}
+use Rattle.job.specs.declared.job.Job as lent
+use Rattle.job.specs.Layout.{options_row, segment_of}
+use Rattle.job.specs.JobWords.{words_in}
 
 -- the job, by a decoder of use rows
 unfoldable pub job_by : (List ℕ → ℕ → Use) → List ℕ → Layout → Job

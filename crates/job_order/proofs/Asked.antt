@@ -2,7 +2,7 @@
 use Rattle.std.specs.Prelude.{◌≡◌, true, List, ℕ}
 use Rattle.std.proofs.Common.{sym, ap, subst, ◌∙◌}
 use Rattle.words.specs.Words.{words_of}
-use Rattle.sheet_rules.specs.declared.Kind.{Kind}
+use Rattle.sheet_rules.specs.declared.forms.Kind.{Kind}
 use Rattle.sheet_rules.specs.Kinds.{number_of}
 use Rattle.job_pages.specs.Cursors.{Cursor, has_row, field_count, first_field}
 use Rattle.job_pages.specs.Pages.{Shows}

@@ -5,7 +5,7 @@ use Rattle.std.proofs.Math.Seq.{drop-cons}
 use Rattle.definition.specs.declared.Order.{Order}
 use Rattle.definition.specs.declared.Order.TheVariants.{Before, Same, After}
 use Rattle.definition.specs.JobOrder.{decided, by_number, by_places}
-use Rattle.order_laws.specs.Lawful.{less, more, number_lawful}
+use Rattle.text_laws.specs.Lawful.{less, more, number_lawful}
 use Rattle.job_order.specs.Rows.{words_from}
 
 abbrev pub by_words : List ℕ → List ℕ → Order

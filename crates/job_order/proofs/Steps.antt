@@ -9,8 +9,8 @@ use Rattle.definition.specs.Types.{Job}
 use Rattle.definition.specs.JobSheet.{Word, opt, end}
 use Rattle.definition.specs.JobSheet.{word_number, Record, at, among, ordered}
 use Rattle.definition.specs.JobOrder.{turned, decided, by_number, by_places, kind_place, by_line, by_lines}
-use Rattle.form_agree.specs.Jobs.{same_word}
-use Rattle.sheet_rows.specs.Sheets.{ordered_first}
+use Rattle.sheet_laws.specs.Jobs.{same_word}
+use Rattle.sheet_laws.specs.Sheets.{ordered_first}
 use Rattle.job_pages.specs.Cursors.{Cursor, cursor, has_row, passed_on, behind_row, steps_left}
 use Rattle.job_pages.specs.Left.{later, Going, Left}
 use Rattle.job_pages.specs.Pages.{Shows}
@@ -19,8 +19,8 @@ use Rattle.job_pages.specs.Behind.{pass_left}
 use Rattle.job_pages.specs.Falls.{pass_falls}
 use Rattle.job_pages.specs.Over.{over_none}
 use Rattle.job_pages.specs.Lines.{going_on, key_of, fields_here_are, block_word, line_left, line_less, passing}
-use Rattle.order_laws.specs.Lawful.{number_lawful, places_lawful}
-use Rattle.order_laws.specs.Lines.{line_lawful, lower_kind, one_kind}
+use Rattle.text_laws.specs.Lawful.{number_lawful, places_lawful}
+use Rattle.text_laws.specs.Lines.{line_lawful, lower_kind, one_kind}
 use Rattle.job_order.specs.Rows.{row_start, fields_at, behind_at}
 use Rattle.job_order.specs.Orders.{Orders, Advanced}
 use Rattle.job_order.proofs.Fields.{by_words, decided_by}

@@ -1,6 +1,6 @@
 -- The row that a cursor stands at. Assumes nothing.
 use Rattle.std.specs.Prelude.{List, ℕ, take, drop}
-use Rattle.sheet_places.specs.Places.{row_at}
+use Rattle.sheet_rules.specs.Places.{row_at}
 use Rattle.job_pages.specs.Cursors.{Cursor, shown_row, field_count, first_field, behind_row}
 
 -- n words from word a on

@@ -13,7 +13,7 @@ ghost use Rattle.job_order.specs.Orders.{Stepped, Orders};
 
 use definition::Order;
 use job_pages::Cursor;
-use sheet_rules::Kind;
+use sheet_rules::forms::Kind;
 
 // Numbers by size.
 fn by_number(a: usize, b: usize) -> Order
@@ -51,7 +51,7 @@ fn first_word(x: &[u8], key: Kind, cur: Cursor) -> usize
         × (has_row (words_of x.now) (cursor_of cur) ≡ true) }
     ensures { result ≡ row_start (cursor_of cur) }
 {
-    sheet_places::row_at(Some(key), job_pages::shown(cur) as u32)
+    sheet_rules::places::row_at(Some(key), job_pages::shown(cur) as u32)
 }
 
 // The two records that a cursor stands at, field by field.

@@ -7,9 +7,9 @@ use native.Mathlib.Omega.{arith}
 use lib.Dec.{eqb}
 use Rattle.std.specs.Prelude.{Some}
 use Rattle.words.specs.Words.{word_count, words_of}
-use Rattle.sheet_rules.specs.declared.Kind.{Kind}
+use Rattle.sheet_rules.specs.declared.forms.Kind.{Kind}
 use Rattle.sheet_rules.specs.Kinds.{number_of}
-use Rattle.sheet_places.specs.Places.{row_at}
+use Rattle.sheet_rules.specs.Places.{row_at}
 use Rattle.job_pages.specs.Cursors.{Cursor, some_key, shown_row, rows_in, has_row, field_count, first_field}
 use Rattle.job_pages.specs.Pages.{Shows}
 use Rattle.job_pages.specs.Lines.{Ready, ready, going_on, passing, few_segs}

@@ -11,10 +11,10 @@ use Rattle.definition.specs.Types.{Job}
 use Rattle.definition.specs.JobSheet.{Word, opt, bank, class, reg, block, value, vgroup, operand, hint, seg, use', end}
 use Rattle.definition.specs.JobSheet.{word_number, Record, at, next, only, ordered}
 use Rattle.definition.specs.Conversion.{rec}
-use Rattle.form_agree.specs.Jobs.{same_word}
-use Rattle.sheet_places.specs.Places.{limits, limit_of}
-use Rattle.sheet_rows.specs.Stands.{Row, bump}
-use Rattle.sheet_rows.specs.Sheets.{ordered_first}
+use Rattle.sheet_laws.specs.Jobs.{same_word}
+use Rattle.sheet_rules.specs.Places.{limits, limit_of}
+use Rattle.sheet_laws.specs.Stands.{Row, bump}
+use Rattle.sheet_laws.specs.Sheets.{ordered_first}
 use Rattle.job_pages.specs.Cursors.{Cursor, cursor, shown_row, rows_in, passed_on, behind_row}
 use Rattle.job_pages.specs.Left.{insts_in, later, Going, Left}
 use Rattle.job_pages.specs.Order.{inside, ordered_more}

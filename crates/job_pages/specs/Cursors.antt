@@ -4,11 +4,11 @@ use Rattle.std.specs.Prelude.{Option, Some, None, is_some}
 use Rattle.definition.specs.Types.{Job, val}
 use Rattle.definition.specs.RegInfo.{set_of}
 use Rattle.definition.specs.SheetForms.{form_line}
-use Rattle.sheet_places.specs.Places.{stored_of}
+use Rattle.sheet_rules.specs.Places.{stored_of}
 use Rattle.sheet_job.specs.Segments.{next_first}
 use Rattle.register_sheet.specs.Typed.{use_length}
-use Rattle.sheet_rules.specs.declared.Kind.{Kind}
-use Rattle.sheet_rules.specs.declared.Kind.TheVariants.{Opt}
+use Rattle.sheet_rules.specs.declared.forms.Kind.{Kind}
+use Rattle.sheet_rules.specs.declared.forms.Kind.TheVariants.{Opt}
 use Rattle.sheet_rules.specs.Kinds.{key_number}
 use Rattle.job_pages.specs.declared.Cursor.{Cursor as Held}
 

@@ -15,11 +15,11 @@ use Rattle.definition.specs.Conversion.{rec, shrunk}
 use Rattle.definition.proofs.Places.{All, all_map}
 use Rattle.definition.proofs.Entries.{conj_all, every_all, lowest_none}
 use Rattle.definition.proofs.Forms.{first_records, second_records_lem}
-use Rattle.sheet_rows.specs.Sheets.{On}
-use Rattle.sheet_rows.specs.Choices.{Chosen, record_chosen}
-use Rattle.form_agree.specs.Jobs.{AllBared, SoundSecond, second_sound}
-use Rattle.form_agree.specs.Read.{bare_of, bare_in}
-use Rattle.job_lines.specs.Records.{Long, record_long}
+use Rattle.sheet_laws.specs.Sheets.{On}
+use Rattle.sheet_laws.specs.Choices.{Chosen, record_chosen}
+use Rattle.sheet_laws.specs.Jobs.{AllBared, SoundSecond, second_sound}
+use Rattle.sheet_laws.specs.Read.{bare_of, bare_in}
+use Rattle.lines.specs.Records.{Long, record_long}
 use Rattle.job_pages.specs.Left.{Grouped, Fair, Each}
 
 -- ---- each bare record of a sheet was read

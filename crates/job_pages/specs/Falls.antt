@@ -6,7 +6,7 @@ use native.Mathlib.Omega.{arith}
 use Rattle.definition.specs.Types.{Job}
 use Rattle.definition.specs.JobSheet.{Word, seg, use', end, word_number, Record}
 use Rattle.definition.specs.Conversion.{rec}
-use Rattle.sheet_places.specs.Places.{limits, limit_of}
+use Rattle.sheet_rules.specs.Places.{limits, limit_of}
 use Rattle.job_pages.specs.Cursors.{Cursor, cursor, shown_row, passed_on, behind_row, phase, steps_left}
 use Rattle.job_pages.specs.Left.{Going}
 

@@ -4,11 +4,11 @@ use Rattle.definition.specs.Types.{Job}
 use Rattle.definition.specs.JobSheet.{Word, opt, bank, class, reg, block, value, vgroup, operand, hint, seg, use', end}
 use Rattle.definition.specs.JobSheet.{word_number, Record, at, only, ordered}
 use Rattle.definition.specs.Conversion.{lines_text, grown}
-use Rattle.coalescing.specs.Rows.{values_at}
-use Rattle.sheet_places.specs.Places.{limit_of, row_at}
-use Rattle.sheet_rows.specs.Stands.{Row, Stands}
-use Rattle.sheet_rows.specs.Choices.{Chosen}
-use Rattle.job_lines.specs.Records.{Long}
+use Rattle.values.specs.ValueRows.{values_at}
+use Rattle.sheet_rules.specs.Places.{limit_of, row_at}
+use Rattle.sheet_laws.specs.Stands.{Row, Stands}
+use Rattle.sheet_laws.specs.Choices.{Chosen}
+use Rattle.lines.specs.Records.{Long}
 use Rattle.job_pages.specs.Cursors.{Cursor, shown_row, rows_in, front_text}
 
 -- ---- what is known of a record of a sheet that passes

@@ -16,18 +16,18 @@ use Rattle.definition.specs.RegInfo.{set_of}
 use Rattle.definition.specs.JobSheet.{Word, opt, block, value, vgroup, seg, use', end}
 use Rattle.definition.specs.JobSheet.{word_number, Record, at, only}
 use Rattle.definition.specs.Conversion.{rec, record_line, lines_text, grown, implied_field, insts_behind}
-use Rattle.form_agree.specs.Jobs.{same_word}
-use Rattle.coalescing.specs.Rows.{values_at}
-use Rattle.sheet_places.specs.Places.{limits, limit_of, widths, width_of, stored_fields, stored_of, bases, base_of}
-use Rattle.sheet_places.specs.Places.{row_at, table_words}
-use Rattle.sheet_rows.specs.Regions.{row_is, row_low}
-use Rattle.sheet_rows.specs.Stands.{Row}
-use Rattle.sheet_rows.specs.Choices.{Chosen}
+use Rattle.sheet_laws.specs.Jobs.{same_word}
+use Rattle.values.specs.ValueRows.{values_at}
+use Rattle.sheet_rules.specs.Places.{limits, limit_of, widths, width_of, stored_fields, stored_of, bases, base_of}
+use Rattle.sheet_rules.specs.Places.{row_at, table_words}
+use Rattle.sheet_laws.specs.Regions.{row_is, row_low}
+use Rattle.sheet_laws.specs.Stands.{Row}
+use Rattle.sheet_laws.specs.Choices.{Chosen}
 use Rattle.sheet_job.specs.Segments.{next_first}
 use Rattle.lines.specs.Wrote.{Wrote}
 use Rattle.lines.specs.Laws.{then}
-use Rattle.job_lines.specs.Rows.{line_text}
-use Rattle.job_lines.specs.Records.{written, fields_in, line_record}
+use Rattle.lines.specs.Rows.{line_text}
+use Rattle.lines.specs.Records.{written, fields_in, line_record}
 use Rattle.job_pages.specs.Cursors.{Cursor}
 use Rattle.job_pages.specs.Cursors.{shown_row, rows_in, has_row, passed_on, field_count, first_field, written_by}
 use Rattle.job_pages.specs.Cursors.{front_text, behind_row, steps_left}

@@ -3,8 +3,8 @@ use Rattle.std.specs.Prelude.{◌≡◌, refl, Bool, true, false, cond, ◌&&◌
 use Rattle.std.proofs.Common.{sym, ap, subst, ◌∙◌, arith, eqb-true, ne_eqb}
 use Rattle.std.proofs.lemmas.Bool.{false≢true}
 use Rattle.definition.specs.JobSheet.{Word, opt, end, word_number, Record, next, among, only, ordered}
-use Rattle.sheet_rows.specs.Sheets.{ordered_first}
-use Rattle.form_agree.specs.Jobs.{same_word}
+use Rattle.sheet_laws.specs.Sheets.{ordered_first}
+use Rattle.sheet_laws.specs.Jobs.{same_word}
 use Rattle.job_pages.specs.Left.{later}
 
 -- ---- words behind a kind

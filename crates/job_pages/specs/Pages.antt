@@ -3,7 +3,7 @@ use Rattle.std.specs.Prelude.{◌≡◌, Bool, false, List, ◌++◌, ℕ, ◌+�
 use Rattle.words.specs.Words.{word_count, words_of}
 use Rattle.definition.specs.Types.{Job}
 use Rattle.definition.specs.JobSheet.{Record}
-use Rattle.sheet_places.specs.Places.{table_words}
+use Rattle.sheet_rules.specs.Places.{table_words}
 use Rattle.job_pages.specs.declared.Cursor.{Cursor as Held}
 use Rattle.lines.specs.declared.Page.{Page}
 use Rattle.job_pages.specs.Cursors.{Cursor, cursor_of, steps_left}

@@ -4,9 +4,9 @@ use Rattle.std.proofs.Math.Path.{refl, sym, ap}
 use Rattle.std.proofs.Common.{◌∙◌, arith, length-drop, length-take-le, get_or-take, get_or-drop, ext_get_or}
 use Rattle.std.proofs.Math.ListN.{length, get_or}
 use Rattle.definition.specs.JobSheet.{Word, vgroup, use', end, word_number, kind_fields}
-use Rattle.sheet_places.specs.Places.{base_of, width_of, limit_of, stored_fields, stored_of, row_at, table_words}
-use Rattle.sheet_rows.specs.Regions.{first_of, sizes, row_is, row_end}
-use Rattle.sheet_rows.specs.Stands.{Row}
+use Rattle.sheet_rules.specs.Places.{base_of, width_of, limit_of, stored_fields, stored_of, row_at, table_words}
+use Rattle.sheet_laws.specs.Regions.{first_of, sizes, row_is, row_end}
+use Rattle.sheet_laws.specs.Stands.{Row}
 use Rattle.sheet_job.specs.Groups.{ups_few}
 use Rattle.register_sheet.specs.Typed.{use_length}
 use Rattle.job_pages.specs.Cursors.{field_count, first_field}

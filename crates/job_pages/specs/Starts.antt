@@ -18,24 +18,24 @@ use Rattle.definition.specs.Conversion.{sheet_text, rec, shrunk, moved_records, 
 use Rattle.definition.specs.Conversion.{move_to}
 use Rattle.definition.proofs.Entries.{accepted_insts}
 use Rattle.definition.proofs.Conversions.{other_form, moved_other}
-use Rattle.coalescing.specs.Rows.{values_at}
+use Rattle.values.specs.ValueRows.{values_at}
 use Rattle.job.specs.Job.{job_by, raw_job}
-use Rattle.sheet_places.specs.Places.{bases, base_of, widths, width_of, limits, limit_of, stored_fields, stored_of}
-use Rattle.sheet_places.specs.Places.{row_at, table_words}
-use Rattle.agree.specs.Words.{none_some}
-use Rattle.agree.specs.Values.{Small}
-use Rattle.agree.specs.Table.{fill, blank}
-use Rattle.sheet_rows.specs.Regions.{first_of, cell, count_is}
-use Rattle.sheet_rows.specs.Stands.{Row, NoOpt, SmallRecords, stands}
-use Rattle.sheet_rows.specs.Counts.{good_zeros, zero_count}
-use Rattle.sheet_rows.specs.Sheets.{On, Opened, opened, Sound}
+use Rattle.sheet_rules.specs.Places.{bases, base_of, widths, width_of, limits, limit_of, stored_fields, stored_of}
+use Rattle.sheet_rules.specs.Places.{row_at, table_words}
+use Rattle.sheet_laws.specs.Words.{none_some}
+use Rattle.sheet_laws.specs.Values.{Small}
+use Rattle.sheet_laws.specs.Table.{fill, blank}
+use Rattle.sheet_laws.specs.Regions.{first_of, cell, count_is}
+use Rattle.sheet_laws.specs.Stands.{Row, NoOpt, SmallRecords, stands}
+use Rattle.sheet_laws.specs.Counts.{good_zeros, zero_count}
+use Rattle.sheet_laws.specs.Sheets.{On, Opened, opened, Sound}
 use Rattle.sheet_job.specs.Fixed.{table_at, fixed_layout}
 use Rattle.sheet_job.specs.Jobs.{opt_stands, table_job}
 use Rattle.sheet_job.specs.Answers.{over_entry, full}
-use Rattle.form_agree.specs.Jobs.{bare_job}
-use Rattle.form_agree.specs.Read.{bare_of, bare_in, bare_in_sound}
-use Rattle.sheet_read.specs.Read.{records_fit, records_table, sheet_table}
-use Rattle.sheet_read.specs.Laws.{counted, few, fill_fits}
+use Rattle.sheet_laws.specs.Jobs.{bare_job}
+use Rattle.sheet_laws.specs.Read.{bare_of, bare_in, bare_in_sound}
+use Rattle.sheet_verdict.specs.Read.{records_fit, records_table, sheet_table}
+use Rattle.sheet_verdict.specs.Laws.{counted, few, fill_fits}
 use Rattle.job_pages.specs.Cursors.{at_start, shown_row, rows_in, front_text}
 use Rattle.job_pages.specs.Left.{Fair, Each, insts_in, OptStands, Going, Left, text_left}
 use Rattle.job_pages.specs.Fair.{fair}

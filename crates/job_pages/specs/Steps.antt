@@ -4,16 +4,16 @@ use Rattle.std.specs.Prelude.{ltb, eqb, length}
 use Rattle.std.proofs.Common.{sym, ap, ◌∙◌, lt-ltb, le-ltb, eq-eqb}
 use Rattle.std.proofs.lemmas.Bool.{false≢true}
 use native.Mathlib.Omega.{arith}
-use Rattle.rows.specs.RowsAt.{length_rows_at}
+use Rattle.words.specs.RowsAt.{length_rows_at}
 use Rattle.definition.specs.Types.{Job}
 use Rattle.definition.specs.JobSheet.{Word, opt, seg, use', end}
 use Rattle.definition.specs.JobSheet.{word_number, Record, next, among, only, ordered, segments_of}
 use Rattle.definition.specs.Conversion.{rec}
 use Rattle.uses.specs.Rows.{raw_row}
-use Rattle.sheet_rows.specs.Sheets.{ordered_first}
+use Rattle.sheet_laws.specs.Sheets.{ordered_first}
 use Rattle.sheet_job.specs.Segments.{next_first, Claim, claim}
 use Rattle.sheet_job.specs.Answers.{none_waits}
-use Rattle.form_agree.specs.Jobs.{same_word}
+use Rattle.sheet_laws.specs.Jobs.{same_word}
 use Rattle.job_pages.specs.Cursors.{Cursor, shown_row, rows_in, has_row}
 use Rattle.job_pages.specs.Left.{later, Going}
 use Rattle.job_pages.specs.Order.{none_later, ordered_later}

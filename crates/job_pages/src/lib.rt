@@ -5,9 +5,9 @@
 ghost use Rattle.std.specs.Prelude.{◌≡◌, true, false, ◌+◌, ◌^◌, ◌≤◌, ◌<◌, eqb, length, get_or};
 ghost use Rattle.words.specs.Words.{word_count, words_of};
 ghost use Rattle.definition.specs.Types.{Job};
-ghost use Rattle.coalescing.specs.Rows.{values_at};
+ghost use Rattle.values.specs.ValueRows.{values_at};
 ghost use Rattle.sheet_rules.specs.Kinds.{number_of};
-ghost use Rattle.sheet_places.specs.Places.{table_words, row_at};
+ghost use Rattle.sheet_rules.specs.Places.{table_words, row_at};
 ghost use Rattle.sheet_job.specs.Segments.{next_first};
 ghost use Rattle.lines.specs.Wrote.{Wrote};
 ghost use Rattle.job_pages.specs.Cursors.{cursor_of, at_start, shown_row, rows_in, has_row, passed_on, field_count};
@@ -16,8 +16,8 @@ ghost use Rattle.job_pages.specs.Pages.{page_at, Shows, Stepped, Filled};
 
 use definition::Value;
 use lines::Page;
-use sheet_rules::Kind;
-use word_rows::Rows;
+use sheet_rules::forms::Kind;
+use words::rows::Rows;
 
 // The kind of record that comes next, or none behind the end; how many rows of this kind, how many segments and how
 // many uses are printed; how many instructions the printed blocks have.
@@ -70,7 +70,10 @@ fn uses_end(table: &[u8], s: usize) -> usize
     ensures { result ≡ next_first (words_of table.now) s }
 {
     if s < count(table, Kind::Seg) {
-        words::word_at(table, sheet_places::row_at(Some(Kind::Seg), s as u32) + 4) as usize
+        words::word_at(
+            table,
+            sheet_rules::places::row_at(Some(Kind::Seg), s as u32) + 4,
+        ) as usize
     } else {
         count(table, Kind::Use)
     }
@@ -124,7 +127,7 @@ pub fn fields(table: &[u8], key: Kind, w: usize) -> usize
     match key {
         Kind::Vgroup => words::word_at(table, w) as usize,
         Kind::Use => register_sheet::use_length(words::word_at(table, w)),
-        _ => sheet_places::stored(Some(key)) as usize,
+        _ => sheet_rules::places::stored(Some(key)) as usize,
     }
 }
 
@@ -156,11 +159,11 @@ fn written(second: bool, table: &[u8], cur: Cursor, w: usize) -> Option<u32>
         Some(Kind::Seg) => {
             let values = Rows {
                 words: table,
-                at: sheet_places::row_at(Some(Kind::Value), 0),
+                at: sheet_rules::places::row_at(Some(Kind::Value), 0),
                 n: count(table, Kind::Value),
             };
             let v = Value(words::word_at(table, w));
-            let set = coalescing::set_for_value(&values, v);
+            let set = values::set_for_value(&values, v);
             Some(set.0)
         }
         _ => None,
@@ -174,7 +177,7 @@ fn open(second: bool, key: Kind, buf: &mut [u8], at: usize) -> usize
     ensures { Wrote (7) at buf.old result buf.new (front_text second (number_of key)) }
 {
     if second && matches!(key, Kind::Opt) {
-        job_lines::put_form(buf, at)
+        lines::job::put_form(buf, at)
     } else {
         at
     }
@@ -222,13 +225,13 @@ fn next_line(
         × (has_row (words_of table.now) (cursor_of cur) ≡ true) × (at + 256 ≤ length buf.old) }
     ensures { Stepped second (words_of table.now) (cursor_of cur) at buf.old (page_at result) buf.new }
 {
-    let w = sheet_places::row_at(Some(key), shown(cur) as u32);
+    let w = sheet_rules::places::row_at(Some(key), shown(cur) as u32);
     let next = behind(table, cur, w);
     let n = fields(table, key, w);
     let a = first_field(key, w);
     let more = written(second, table, cur, w);
     let front = open(second, key, buf, at);
-    let end = job_lines::put_record(buf, front, Some(key), table, a, n, more);
+    let end = lines::job::put_record(buf, front, Some(key), table, a, n, more);
     Page { cur: next, n: end }
 }
 

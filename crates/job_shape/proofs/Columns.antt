@@ -6,7 +6,7 @@ use mathlib.Core.List.{List}
 use lib.Dec.{ltb}
 use lib.ListN.{get_or}
 use borrow.Author.Tests.{ltb-true}
-use Rattle.layout.specs.declared.Table.{Table}
+use Rattle.job.specs.declared.Table.{Table}
 use Rattle.job_shape.specs.Shape.{word_in, all_below}
 use Rattle.job_shape.proofs.Every.{every_row}
 

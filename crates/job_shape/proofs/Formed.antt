@@ -10,8 +10,8 @@ use lib.ListN.{length}
 use borrow.Author.Tests.{le-leb, lt-leb, eq-eqb, ne_eqb}
 use Rattle.words.specs.Words.{word_count, words_of}
 use Rattle.definition.specs.Entry.{conj}
-use Rattle.layout.specs.declared.Layout.{Layout}
-use Rattle.layout.specs.Layout.{Fits}
+use Rattle.job.specs.declared.Layout.{Layout}
+use Rattle.job.specs.Layout.{Fits}
 use Rattle.job_shape.specs.Shape.{layout_of, end_of, tables_ok, shape_ok, Shaped, Formed}
 use Rattle.job_shape.proofs.Laws.{layout_fits, shaped}
 use Rattle.job_shape.proofs.Tests.{and_true}

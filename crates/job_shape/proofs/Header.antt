@@ -3,8 +3,8 @@ use Prim.Native.Nat.{ℕ}
 use mathlib.Core.Path.{◌≡◌}
 use mathlib.Core.List.{List}
 use lib.ListN.{get_or}
-use Rattle.layout.specs.declared.Table.{Table}
-use Rattle.layout.specs.declared.Layout.{Layout}
+use Rattle.job.specs.declared.Table.{Table}
+use Rattle.job.specs.declared.Layout.{Layout}
 use Rattle.job_shape.specs.Shape.{table, table_behind, layout_of}
 
 abbrev pub layout_with : Table → Table → Table → Table → Table → Table → Table → Table → Table → Table → Layout

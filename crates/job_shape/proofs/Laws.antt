@@ -7,8 +7,8 @@ use mathlib.Core.List.{List}
 use lib.Dec.{leb, eqb}
 use lib.ListN.{length, get_or}
 use borrow.Author.Tests.{lt-ltb, le-ltb, leb-true, eqb-true}
-use Rattle.rows.specs.Tab.{tab, length_tab}
-use Rattle.rows.specs.RowsAt.{rows_at, length_rows_at}
+use Rattle.words.specs.Tab.{tab, length_tab}
+use Rattle.words.specs.RowsAt.{rows_at, length_rows_at}
 use Rattle.words.specs.Words.{word_count, words_of}
 use Rattle.definition.specs.declared.Use.{Use}
 use Rattle.definition.specs.declared.Refusal.TheVariants.{NotARecord}
@@ -18,12 +18,12 @@ use Rattle.definition.proofs.Entries.{and_both, conj_all}
 use Rattle.definition.specs.Place.{total}
 use Rattle.reginfo.specs.Rows.{bank_row, memory_row, class_row, classes_at}
 use Rattle.function.specs.Blocks.{block_row}
-use Rattle.coalescing.specs.Rows.{value_row, values_at, vgroup_row, vgroups_at}
-use Rattle.operands.specs.Rows.{operand_row, operands_at}
+use Rattle.values.specs.ValueRows.{value_row, values_at, vgroup_row, vgroups_at}
+use Rattle.values.specs.OperandRows.{operand_row, operands_at}
 use Rattle.hints.specs.Hints.{hint_at}
 use Rattle.uses.specs.Rows.{use_row, raw_row}
-use Rattle.layout.specs.declared.Layout.{Layout}
-use Rattle.layout.specs.Layout.{Fits, seg_row, seg_at, next_use, job_uses, segment_of}
+use Rattle.job.specs.declared.Layout.{Layout}
+use Rattle.job.specs.Layout.{Fits, seg_row, seg_at, next_use, job_uses, segment_of}
 use Rattle.job.specs.Job.{job_by, raw_job, job_of}
 use Rattle.job_shape.specs.Shape.{layout_of, end_of, use_counts, rises, counts_ok, table_tests, tables_ok, shape_tests, shape_ok, Shaped}
 use Rattle.job_shape.specs.Answer.{binary_job, answer_if, binary_answer}

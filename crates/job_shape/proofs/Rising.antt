@@ -7,8 +7,8 @@ use mathlib.Core.List.{List}
 use lib.Dec.{leb}
 use lib.ListN.{get_or}
 use borrow.Author.Tests.{le-leb, lt-leb}
-use Rattle.rows.specs.RowsAt.{rows_at, rows_at_start, rows_at_more, rows_at_done, get_or_rows_at}
-use Rattle.layout.specs.declared.Layout.{Layout}
+use Rattle.words.specs.RowsAt.{rows_at, rows_at_start, rows_at_more, rows_at_done, get_or_rows_at}
+use Rattle.job.specs.declared.Layout.{Layout}
 use Rattle.job_shape.specs.Shape.{word_in, rises, use_counts}
 
 module _ (W : List ℕ) (lay : Layout) where

@@ -1,6 +1,6 @@
 -- Slices on and off their shape, by computation. Assumes nothing.
 use Rattle.std.specs.Prelude.{ℕ, ◌≡◌, refl, true, false, List, [], ◌∷◌, ◌++◌, set}
-use Rattle.rows.specs.RowsAt.{rows_at}
+use Rattle.words.specs.RowsAt.{rows_at}
 use Rattle.words.specs.Words.{words_of, bytes_of}
 use Rattle.job_shape.specs.Shape.{shape_ok}
 

@@ -1,11 +1,11 @@
 -- Entry test 1 on a binary job: the layout that a header gives, and what a slice of that shape is. Assumes nothing.
 use Rattle.std.specs.Prelude.{ℕ, ◌+◌, ◌*◌, ◌≤◌, ◌<◌, ◌≡◌, Bool, true, ◌&&◌, Option, is_some, IfSome, List, [], ◌∷◌, leb, ltb, eqb, length, get_or}
-use Rattle.rows.specs.RowsAt.{rows_at}
+use Rattle.words.specs.RowsAt.{rows_at}
 use Rattle.words.specs.Words.{word_count, words_of}
 use Rattle.definition.specs.Entry.{conj, every}
-use Rattle.layout.specs.declared.Table.{Table}
-use Rattle.layout.specs.declared.Layout.{Layout}
-use Rattle.layout.specs.Layout.{Fits}
+use Rattle.job.specs.declared.Table.{Table}
+use Rattle.job.specs.declared.Layout.{Layout}
+use Rattle.job.specs.Layout.{Fits}
 
 abbrev pub table : ℕ → ℕ → Table
 table at n = record { at = at; n = n }

@@ -3,12 +3,12 @@
 
 ghost use Rattle.std.specs.Prelude.{◌≡◌, ◌+◌, ◌*◌, ◌≤◌, ◌<◌, eqb, get_or};
 ghost use Rattle.words.specs.Words.{word_count, words_of};
-ghost use Rattle.layout.specs.JobWords.{words_in};
+ghost use Rattle.job.specs.JobWords.{words_in};
 ghost use Rattle.job_shape.specs.Shape.{Placed, table_behind, layout_of, all_below, choices_ok, rises, use_counts, tables_ok, Formed};
 
 mod shaped;
 
-use layout::{Job, Layout, Table};
+use job::{Job, Layout, Table};
 pub use shaped::ShapedJob;
 
 // Word i as a number of rows or uses.

@@ -1,7 +1,7 @@
 // A job of good shape as it is lent.
 ghost use Rattle.job_shape.specs.Shape.{Shaped};
 
-use layout::Job;
+use job::Job;
 
 // The job passed test 1.
 #[derive(Clone, Copy)]

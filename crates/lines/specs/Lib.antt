@@ -2,3 +2,9 @@ pub mod Wrote
 pub mod Places
 pub mod Laws
 pub mod Comparing
+pub mod Round
+pub mod Clean
+pub mod Unprint
+pub mod Results
+pub mod Rows
+pub mod Records

@@ -6,6 +6,8 @@ ghost use Rattle.std.specs.Prelude.{[], ◌∷◌, ◌+◌, ◌*◌, ◌≤◌, 
 ghost use Rattle.definition.specs.Text.{decimal, eight_digits};
 ghost use Rattle.lines.specs.Wrote.{Wrote, fields_text, index_text, index_fields};
 
+pub mod job;
+
 // Text in the first n bytes of a buffer, and the cursor behind it.
 #[derive(Clone, Copy)]
 pub struct Page<C> {

@@ -1,1 +1,4 @@
 pub mod Points
+pub mod Ranges
+pub mod Laws
+pub mod Cases

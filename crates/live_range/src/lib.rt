@@ -7,6 +7,8 @@ ghost use Rattle.definition.specs.Types.{inst, point};
 ghost use Rattle.definition.specs.LiveRange.{point_at, inst_of, next_inst};
 ghost use Rattle.live_range.specs.Points.{slot_of};
 
+pub mod insts;
+
 use definition::{Inst, LiveRangePoint, Slot};
 
 // The point at a slot of an instruction.

@@ -20,7 +20,7 @@ use Rattle.definition.specs.Admit.{register_at, members_at, narrowed}
 use Rattle.std.specs.Prelude.{Some, None, IfSome}
 use Rattle.std.specs.Prelude as code
 use Rattle.reginfo.specs.Rows.{found_of, classes_at}
-use Rattle.layout.specs.declared.Layout.{Layout}
+use Rattle.job.specs.declared.Layout.{Layout}
 use Rattle.job.specs.Job.{job_by, job_of}
 use Rattle.virt_regs.specs.declared.OutLayout.{OutLayout}
 use Rattle.virt_regs.specs.Encoding.{Holds}

@@ -14,7 +14,7 @@ use Rattle.definition.specs.Limits.{max_group}
 use Rattle.definition.specs.Types.{State, vreg, vrgroup}
 use Rattle.definition.specs.Admit.{members_at}
 use Rattle.virt_regs.specs.declared.OutLayout.{OutLayout}
-use Rattle.rows.specs.Tables.{table_zero}
+use Rattle.words.specs.Tables.{table_zero}
 use Rattle.virt_regs.specs.Held.{fit_groups}
 use Rattle.virt_regs.specs.Encoding.{group_row, tables, contents, group_base, group_word, place_word, Holds}
 use Rattle.virt_regs.specs.Counting.{length_groups}

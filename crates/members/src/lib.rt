@@ -58,7 +58,7 @@ pub fn shared_class(fr: &Frame, out: &[u8], k: RegClass, v: VirtReg) -> Option<R
         return None;
     }
     let c = virt_regs::class_of(out, v);
-    reginfo::common_subclass(&job::classes(&fr.job), k, c)
+    reginfo::common_subclass(&job::rows::classes(&fr.job), k, c)
 }
 
 // Class k narrowed by the member m, if there is one.

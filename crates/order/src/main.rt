@@ -5,7 +5,7 @@
 ghost use Rattle.std.specs.Prelude.{◌≡◌};
 ghost use Rattle.streams.specs.Tape.{at_of};
 
-use order_run::{BrokenAt, Input, Output};
+use order_answer::run::{BrokenAt, Input, Output};
 use std::env::{Env, FillError};
 use std::fs::File;
 use std::io::{Error, ErrorKind};
@@ -84,7 +84,7 @@ fn run(rt: &HostRuntime, a: File, b: File) -> io::Result<()> {
         tape: &tape,
         sink: Noted::new(rt.stdout()),
     };
-    let end = order_run::order(
+    let end = order_answer::run::order(
         &mut first,
         &mut second,
         &mut output,

@@ -1,2 +1,4 @@
 pub mod Verdict
 pub mod Texts
+pub mod Starts
+pub mod Finish

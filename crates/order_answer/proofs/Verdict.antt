@@ -9,11 +9,11 @@ use Rattle.definition.specs.JobSheet.{job_of_records}
 use Rattle.definition.specs.SheetForms.{given'}
 use Rattle.entry.specs.declared.Entered.{Entered}
 use Rattle.entry.specs.Number.{refusal_in}
-use Rattle.sheet_places.specs.Places.{table_words}
-use Rattle.sheet_form.specs.declared.Reading.{Reading}
+use Rattle.sheet_rules.specs.Places.{table_words}
+use Rattle.sheet.specs.declared.either.Reading.{Reading}
 use Rattle.sheet_verdict.specs.Judged.{Judged}
 use Rattle.sheet_verdict.specs.Leads.{table_read}
-use Rattle.order_laws.specs.Shelved.{order_refused_first, order_refused_second, order_bare}
+use Rattle.text_laws.specs.Shelved.{order_refused_first, order_refused_second, order_bare}
 use Rattle.job_pages.specs.Cursors.{at_start}
 use Rattle.job_pages.specs.Starts.{Begins, begins}
 use Rattle.job_order.specs.Orders.{Orders}

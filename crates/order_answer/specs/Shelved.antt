@@ -3,7 +3,7 @@ use Rattle.std.specs.Prelude.{◌≡◌, List, ℕ, Result, IsOk}
 use Rattle.definition.specs.declared.SheetRefusal.{SheetRefusal}
 use Rattle.definition.specs.SheetForms.{verdict}
 use Rattle.entry.specs.Number.{refusal_in}
-use Rattle.sheet_form.specs.declared.Reading.{Reading}
+use Rattle.sheet.specs.declared.either.Reading.{Reading}
 use Rattle.sheet_verdict.specs.Judged.{LeadsTo}
 use Rattle.job_pages.specs.Starts.{Begins}
 

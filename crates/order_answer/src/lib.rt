@@ -4,19 +4,22 @@
 
 ghost use Rattle.std.specs.Prelude.{◌≡◌, ◌≤◌, length, IsOk};
 ghost use Rattle.words.specs.Words.{word_count, words_of};
-ghost use Rattle.work_layout.specs.Regions.{max_work};
+ghost use Rattle.job.specs.Regions.{max_work};
 ghost use Rattle.definition.specs.JobOrder.{answered};
-ghost use Rattle.sheet_places.specs.Places.{table_words};
+ghost use Rattle.sheet_rules.specs.Places.{table_words};
 ghost use Rattle.lines.specs.Wrote.{Wrote};
-ghost use Rattle.sheet_form.specs.Front.{formed, open_form};
-ghost use Rattle.sheet_form.specs.Stream.{Streamed};
+ghost use Rattle.sheet.specs.Front.{formed, open_form};
+ghost use Rattle.sheet.specs.Stream.{Streamed};
 ghost use Rattle.job_pages.specs.Cursors.{at_start};
 ghost use Rattle.job_pages.specs.Pages.{Shows};
 ghost use Rattle.order_answer.specs.Shelved.{Shelves};
 ghost use Rattle.order_answer.specs.Answers.{Answers, out_of};
 
+pub mod memory;
+pub mod run;
+
 use definition::{Order, SheetRefusal};
-use sheet_form::Reading;
+use sheet::either::Reading;
 
 // The refusal of every sheet that leads the reader to this state and these tables, or none where the table has its job.
 pub fn verdict_on(

@@ -6,18 +6,18 @@ use mathlib.Core.List.{List, [], ◌∷◌}
 use Prim.Native.Nat.{ℕ, ◌+◌, ◌-◌, ◌/◌, ◌≤◌, ◌<◌}
 use lib.ListN.{length}
 use borrow.Author.Tests.{not-true, not-false}
-use Rattle.rows.specs.Tab.{tab, tab_more, tab_done}
+use Rattle.words.specs.Tab.{tab, tab_more, tab_done}
 use Rattle.words.specs.Words.{word_count, words_of}
 use Rattle.definition.specs.declared.Use.{Use}
 use Rattle.definition.specs.declared.VirtRegGroup.{VirtRegGroup}
 use Rattle.definition.specs.Types.{Mapped}
 use Rattle.definition.specs.Place.{on_mapping, map_uses, uses_of}
-use Rattle.operands.proofs.Twice.{never}
-use Rattle.layout.specs.declared.Layout.{Layout}
+use Rattle.values.proofs.Twice.{never}
+use Rattle.job.specs.declared.Layout.{Layout}
 use Rattle.set_part.specs.declared.SetPart.{SetPart}
 use Rattle.set_part.specs.Part.{PartOk, marked_use, part_segs}
 use Rattle.set_part.proofs.Uses.{part_uses}
-use Rattle.work_layout.specs.declared.WorkLayout.{WorkLayout}
+use Rattle.job.specs.declared.work.WorkLayout.{WorkLayout}
 use Rattle.constraints.specs.Ready.{operands_in, Mapping, Ready}
 use Rattle.part_maps.specs.Maps.{MapApart, Outside, MapsTo, Maps, map_use}
 use Rattle.part_maps.proofs.Kept.{outside_none, outside_then, ready_kept}

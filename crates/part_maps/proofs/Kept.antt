@@ -8,11 +8,11 @@ use lib.Dec.{eqb}
 use lib.ListN.{get_or}
 use Rattle.definition.specs.declared.Use.{Use}
 use Rattle.definition.specs.Build.{turned_use}
-use Rattle.layout.specs.declared.Layout.{Layout}
+use Rattle.job.specs.declared.Layout.{Layout}
 use Rattle.uses.specs.Rows.{use_row}
 use Rattle.job.specs.Job.{job_of}
 use Rattle.set_part.specs.Part.{marked_use}
-use Rattle.work_layout.specs.declared.WorkLayout.{WorkLayout}
+use Rattle.job.specs.declared.work.WorkLayout.{WorkLayout}
 use Rattle.constraints.specs.Ready.{BackedAsk, Backed, Ready}
 use Rattle.constraints.proofs.Kept as kept
 use Rattle.part_maps.specs.Maps.{MapApart, Outside}

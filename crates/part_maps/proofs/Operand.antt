@@ -23,12 +23,12 @@ use Rattle.definition.specs.Entry.{apart, same_place}
 use Rattle.definition.proofs.Entries.{and_both as both}
 use Rattle.std.specs.Prelude.{Some, None}
 use Rattle.std.specs.Prelude as code
-use Rattle.operands.specs.Rows.{op_at, is_at, last_place}
-use Rattle.operands.proofs.Rows.{long}
-use Rattle.operands.proofs.Only.{found_at, found_only}
-use Rattle.layout.specs.declared.Layout.{Layout}
+use Rattle.values.specs.OperandRows.{op_at, is_at, last_place}
+use Rattle.values.proofs.Rows.{long}
+use Rattle.values.proofs.Only.{found_at, found_only}
+use Rattle.job.specs.declared.Layout.{Layout}
 use Rattle.virt_regs.specs.Encoding.{group_word}
-use Rattle.work_layout.specs.declared.WorkLayout.{WorkLayout}
+use Rattle.job.specs.declared.work.WorkLayout.{WorkLayout}
 use Rattle.constraints.specs.Ready.{operands_in, Mapping, HasOperand, BackedAsk, Backed}
 use Rattle.constraints.specs.Asks.{ask_of}
 use Rattle.part_maps.specs.Maps.{slot_given, Outside, MapsTo, PutAt, Maps, map_use}

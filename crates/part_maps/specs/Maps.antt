@@ -8,8 +8,8 @@ use Rattle.definition.specs.Types.{Mapped}
 use Rattle.definition.specs.Uses.{slot_of}
 use Rattle.definition.specs.Admit.{mapped_at}
 use Rattle.definition.specs.Place.{map_one}
-use Rattle.layout.specs.declared.Layout.{Layout}
-use Rattle.work_layout.specs.declared.WorkLayout.{WorkLayout}
+use Rattle.job.specs.declared.Layout.{Layout}
+use Rattle.job.specs.declared.work.WorkLayout.{WorkLayout}
 use Rattle.constraints.specs.Ready.{operands_in, Mapping}
 
 -- the slot of a group use

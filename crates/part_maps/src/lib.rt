@@ -4,7 +4,7 @@
 ghost use Rattle.std.specs.Prelude.{◌≡◌, ◌+◌, ◌<◌};
 ghost use Rattle.std.proofs.Math.Option.{some};
 ghost use Rattle.words.specs.Words.{word_count, words_of};
-ghost use Rattle.layout.specs.JobWords.{words_in};
+ghost use Rattle.job.specs.JobWords.{words_in};
 ghost use Rattle.definition.specs.Uses.{slot_of};
 ghost use Rattle.definition.specs.Place.{map_one, map_uses, uses_of};
 ghost use Rattle.job.specs.Job.{job_in};
@@ -18,9 +18,9 @@ mod new_group;
 
 use definition::{Inst, Use, UseKind};
 use frame::Frame;
+use job::work::WorkLayout;
 pub use new_group::NewGroup;
 use set_part::SetPart;
-use work_layout::WorkLayout;
 
 // The slot of a group use; other uses have none.
 fn group_slot(kind: UseKind) -> Option<u32>

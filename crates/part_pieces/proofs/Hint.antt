@@ -9,11 +9,11 @@ use Rattle.std.specs.Iterator.{ChecksAny}
 use Rattle.std.specs.List.{list_any, range_with_len}
 use Rattle.std.specs.declared.ops.Range.{Range}
 use denote.Param.Members.{Mut}
-use Rattle.rows.specs.Tab.{tab}
+use Rattle.words.specs.Tab.{tab}
 use Rattle.definition.specs.Types.{Segment}
 use Rattle.definition.specs.Build.{as_own}
 use Rattle.definition.specs.Lines.{hint_in}
-use Rattle.layout.specs.declared.Layout.{Layout}
+use Rattle.job.specs.declared.Layout.{Layout}
 use Rattle.set_part.specs.declared.SetPart.{SetPart}
 use Rattle.set_part.specs.Part.{part_row, seg_by, marked_use, part_segs}
 

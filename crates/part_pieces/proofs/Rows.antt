@@ -4,14 +4,14 @@ use mathlib.Core.List.{List, [], ◌∷◌, ◌++◌}
 use Prim.Native.Nat.{ℕ, suc, ◌+◌, ◌-◌, ◌≤◌}
 use native.Mathlib.Omega.{arith}
 use lib.ListN.{length}
-use Rattle.rows.specs.Tab.{tab, length_tab}
+use Rattle.words.specs.Tab.{tab, length_tab}
 use Rattle.definition.specs.declared.Use.{Use}
 use Rattle.definition.specs.declared.Origin.TheVariants.{Own}
 use Rattle.definition.specs.Types.{Segment, Piece}
 use Rattle.definition.specs.Lines.{flags_number}
 use Rattle.definition.specs.Build.{as_own}
 use Rattle.definition.specs.Place.{uses_of, segs_of, uses_of_pieces}
-use Rattle.layout.specs.declared.Layout.{Layout}
+use Rattle.job.specs.declared.Layout.{Layout}
 use Rattle.set_part.specs.declared.SetPart.{SetPart}
 use Rattle.set_part.specs.declared.PartSeg.{PartSeg}
 use Rattle.set_part.specs.Part.{part_row, seg_by, part_segs, PartOk}

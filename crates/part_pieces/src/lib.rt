@@ -2,14 +2,14 @@
 #![tactic(auto)]
 
 ghost use Rattle.std.specs.Prelude.{◌≡◌, List, ℕ, ◌+◌, ◌-◌, ◌≤◌, ◌<◌};
-ghost use Rattle.layout.specs.JobWords.{words_in};
+ghost use Rattle.job.specs.JobWords.{words_in};
 ghost use Rattle.definition.specs.Lines.{flags_number, hint_in};
 ghost use Rattle.definition.specs.Build.{as_own};
 ghost use Rattle.part_pieces.specs.Rows.{row_of};
 ghost use Rattle.set_part.specs.Part as part;
 
 use definition::{Origin, UseFlags};
-use layout::Job;
+use job::Job;
 use set_part::{PartSeg, SetPart};
 use virt_regs::PieceRow;
 

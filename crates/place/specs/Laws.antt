@@ -8,7 +8,7 @@ use Prim.Native.Nat.{ℕ, ◌+◌, ◌-◌, ◌*◌, ◌≤◌, ◌<◌}
 use Rattle.std.proofs.Math.ListN.{length, set, length-append}
 use Rattle.std.specs.Float.Ieee.{Float, of_bits}
 use Rattle.std.specs.Float.{binary32}
-use Rattle.rows.specs.Parts.{splice}
+use Rattle.words.specs.Parts.{splice}
 use Rattle.definition.specs.declared.ValueSet.{ValueSet}
 use Rattle.definition.specs.declared.RegClass.{RegClass}
 use Rattle.definition.specs.declared.VirtReg.{VirtReg}
@@ -25,7 +25,7 @@ use Rattle.definition.specs.Place.{pieces_in, uses_of_pieces, uses_of, segs_of, 
 use Rattle.virt_regs.specs.declared.OutLayout.{OutLayout}
 use Rattle.virt_regs.specs.declared.Counts.{Counts}
 use Rattle.virt_regs.specs.declared.RegisterRow.{RegisterRow}
-use Rattle.rows.specs.Part.{part, part_get, part_ahead}
+use Rattle.words.specs.Part.{part, part_get, part_ahead}
 use Rattle.virt_regs.specs.Each.{Each}
 use Rattle.virt_regs.specs.Encoding.{group_base, tables_end, group_word, hint_word, register_words, register_row, counts_of, Weighs, Typed, Holds}
 use Rattle.virt_regs.specs.Held.{held_long, fit_registers, fit_groups}

@@ -2,7 +2,7 @@
 #![tactic(auto)]
 
 ghost use Rattle.std.specs.Prelude.{◌≡◌, ◌+◌, ◌*◌, ◌^◌, ◌≤◌, ◌<◌};
-ghost use Rattle.rows.specs.Parts.{splice};
+ghost use Rattle.words.specs.Parts.{splice};
 ghost use Rattle.words.specs.Words.{word_count, words_of};
 ghost use Rattle.virt_regs.specs.Encoding.{register_words};
 ghost use Rattle.place.specs.Ready.{row_of, one_more};

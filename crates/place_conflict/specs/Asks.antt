@@ -7,7 +7,7 @@ use Rattle.std.proofs.Common.{ap, ◌∙◌, subst, zero-add, arith}
 use Rattle.std.proofs.Math.Bool.{cond}
 use Rattle.std.proofs.Math.ListN.{get_or}
 use Rattle.std.proofs.Math.Option.{none, some}
-use Rattle.rows.specs.Tab.{tab_ext}
+use Rattle.words.specs.Tab.{tab_ext}
 use Rattle.words.specs.Words.{word_count, words_of}
 use Rattle.words.specs.Laws.{length_words}
 use Rattle.definition.specs.declared.Value.{Value}
@@ -16,13 +16,13 @@ use Rattle.definition.specs.Types.{Job, Piece, Turned, State, point}
 use Rattle.definition.specs.Entry.{insts_of}
 use Rattle.definition.specs.Build.{conflict_piece}
 use Rattle.definition.specs.Place.{uses_of, segs_of, first_from, last_to}
-use Rattle.layout.specs.declared.Layout.{Layout}
+use Rattle.job.specs.declared.Layout.{Layout}
 use Rattle.job.specs.Job.{job_of}
 use Rattle.virt_regs.specs.declared.OutLayout.{OutLayout}
 use Rattle.virt_regs.specs.declared.Counts.{Counts}
 use Rattle.virt_regs.specs.Encoding.{tables_end, counts_of, Holds}
 use Rattle.constraints.specs.declared.Held.{Held}
-use Rattle.work_layout.specs.declared.WorkLayout.{WorkLayout}
+use Rattle.job.specs.declared.work.WorkLayout.{WorkLayout}
 use Rattle.virt_regs.specs.Held.{fit_groups}
 use Rattle.constraints.specs.Ready as constraints
 use Rattle.part_maps.specs.Maps.{MapApart, Outside}

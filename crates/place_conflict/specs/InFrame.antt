@@ -3,7 +3,7 @@
 use Rattle.std.specs.Prelude.{ℕ, List}
 use Rattle.std.specs.Prelude as code
 use Rattle.words.specs.Words.{word_count, words_of}
-use Rattle.layout.specs.JobWords.{words_in}
+use Rattle.job.specs.JobWords.{words_in}
 use Rattle.frame.specs.declared.lent.Frame.{Frame}
 use Rattle.definition.specs.Types.{State}
 use Rattle.definition.specs.Types.{Piece}

@@ -11,12 +11,12 @@ use Rattle.definition.specs.declared.Refusal.TheVariants.{NotARecord, OverALimit
 use Rattle.definition.specs.Types.{Job, Register, State, Out, done, refused}
 use Rattle.definition.specs.Place.{with_weight, update, spread}
 use Rattle.definition.specs.Admit.{register_at, no_register}
-use Rattle.layout.specs.declared.Layout.{Layout}
+use Rattle.job.specs.declared.Layout.{Layout}
 use Rattle.virt_regs.specs.declared.OutLayout.{OutLayout}
 use Rattle.virt_regs.specs.declared.Counts.{Counts}
 use Rattle.virt_regs.specs.Each.{Each, each_append, each_one, each_get}
 use Rattle.virt_regs.specs.Encoding.{counts_of}
-use Rattle.work_layout.specs.declared.WorkLayout.{WorkLayout}
+use Rattle.job.specs.declared.work.WorkLayout.{WorkLayout}
 use Rattle.constraints.specs.Ready.{Stands}
 use Rattle.vreg_weight.specs.Fair.{Fair}
 use Rattle.part_maps.specs.Maps.{Outside}

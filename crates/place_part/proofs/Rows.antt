@@ -8,14 +8,14 @@ use native.Mathlib.Omega.{arith}
 use borrow.Author.Tests.{eq-eqb}
 use Rattle.words.specs.Words.{word_count, words_of}
 use Rattle.words.specs.Laws.{length_words}
-use Rattle.rows.specs.Tab.{tab}
+use Rattle.words.specs.Tab.{tab}
 use Rattle.definition.specs.declared.Use.{Use}
 use Rattle.definition.specs.Types.{Job, Segment, Piece, State, vrgroup}
 use Rattle.definition.specs.Lines.{hint_in}
 use Rattle.definition.specs.Build.{as_own}
 use Rattle.definition.specs.Place.{uses_of, segs_of, map_uses, first_from, last_to}
-use Rattle.layout.specs.declared.Layout.{Layout}
-use Rattle.layout.specs.Layout.{seg_at}
+use Rattle.job.specs.declared.Layout.{Layout}
+use Rattle.job.specs.Layout.{seg_at}
 use Rattle.job.specs.Job.{job_of}
 use Rattle.set_part.specs.declared.SetPart.{SetPart}
 use Rattle.set_part.specs.Part.{PartOk, part_row, seg_by, marked_use, part_segs}
@@ -25,7 +25,7 @@ use Rattle.virt_regs.specs.Held.{fit_groups}
 use Rattle.vreg_weight.specs.Fair.{Fair}
 use Rattle.emit.specs.declared.tally.Tally.{Tally}
 use Rattle.emit.specs.Told.{Told}
-use Rattle.work_layout.specs.declared.WorkLayout.{WorkLayout}
+use Rattle.job.specs.declared.work.WorkLayout.{WorkLayout}
 use Rattle.constraints.specs.Ready.{Ready}
 use Rattle.part_pieces.proofs.Rows.{own_segs, count_pieces_of, count_part_uses}
 use Rattle.part_maps.specs.Maps.{MapApart, Outside, Maps}

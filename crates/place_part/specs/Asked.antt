@@ -2,7 +2,7 @@
 use Rattle.std.specs.Prelude.{◌≡◌, List, ℕ, ◌+◌, ◌^◌, ◌≤◌, ◌<◌}
 use Rattle.definition.specs.Types.{Job, Piece, State}
 use Rattle.definition.specs.Build.{as_own}
-use Rattle.layout.specs.declared.Layout.{Layout}
+use Rattle.job.specs.declared.Layout.{Layout}
 use Rattle.job.specs.Job.{job_of}
 use Rattle.set_part.specs.declared.SetPart.{SetPart}
 use Rattle.set_part.specs.Part.{PartOk, part_segs}
@@ -10,7 +10,7 @@ use Rattle.virt_regs.specs.declared.OutLayout.{OutLayout}
 use Rattle.virt_regs.specs.declared.Counts.{Counts}
 use Rattle.virt_regs.specs.Encoding.{tables_end, counts_of, Holds}
 use Rattle.constraints.specs.declared.Held.{Held}
-use Rattle.work_layout.specs.declared.WorkLayout.{WorkLayout}
+use Rattle.job.specs.declared.work.WorkLayout.{WorkLayout}
 use Rattle.constraints.specs.Ready.{Ready, Stands}
 use Rattle.use_costs.specs.Book.{SmallBook}
 use Rattle.vreg_weight.specs.Fair.{Fair}

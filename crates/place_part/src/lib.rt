@@ -3,7 +3,7 @@
 
 ghost use Rattle.std.specs.Prelude.{◌+◌, ◌^◌, ◌<◌};
 ghost use Rattle.words.specs.Words.{words_of};
-ghost use Rattle.layout.specs.JobWords.{words_in};
+ghost use Rattle.job.specs.JobWords.{words_in};
 ghost use Rattle.definition.specs.Types.{State};
 ghost use Rattle.definition.specs.Place.{uses_of, segs_of, place};
 ghost use Rattle.job.specs.Job.{job_in};

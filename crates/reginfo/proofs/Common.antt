@@ -5,7 +5,7 @@ use Prim.Native.Nat.{ℕ, ◌+◌, ◌*◌, ◌≤◌, ◌<◌}
 use native.Mathlib.Omega.{arith}
 use lib.Bits.{bit_and}
 use lib.ListN.{length, get_or}
-use Rattle.rows.specs.RowsAt.{rows_at, get_or_rows_at, length_rows_at}
+use Rattle.words.specs.RowsAt.{rows_at, get_or_rows_at, length_rows_at}
 use Rattle.definition.specs.declared.RegClass.{RegClass}
 use Rattle.definition.specs.declared.ClassData.{ClassData}
 use Rattle.definition.specs.Types.{Job}

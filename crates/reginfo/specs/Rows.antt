@@ -3,9 +3,9 @@ use Rattle.std.specs.Prelude.{ℕ, ◌+◌, Bool, List, eqb, get_or, Option, Som
 use Rattle.std.proofs.Math.Option as maybe
 use Rattle.std.specs.Float.{binary32}
 use Rattle.std.specs.Float.Ieee.{of_bits}
-use Rattle.rows.specs.RowsAt.{rows_at}
-use Rattle.word_rows.specs.declared.lent.Rows.{Rows}
-use Rattle.word_rows.specs.Rows.{row_words}
+use Rattle.words.specs.RowsAt.{rows_at}
+use Rattle.words.specs.declared.rows.lent.Rows.{Rows}
+use Rattle.words.specs.Rows.{row_words}
 use Rattle.definition.specs.declared.RegClass.{RegClass}
 use Rattle.definition.specs.declared.ClassData.{ClassData}
 use Rattle.definition.specs.Types.{cls}

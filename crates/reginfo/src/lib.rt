@@ -10,7 +10,7 @@ ghost use Rattle.definition.specs.RegInfo.{lowest, common_subclass};
 ghost use Rattle.reginfo.specs.Rows.{found_of, class_row, bank_row, memory_row, classes_in, mask_in};
 
 use definition::{ClassData, RegClass};
-use word_rows::{Rows, row_at};
+use words::rows::{Rows, row_at};
 
 // The class whose row begins at word i.
 // By its word, and no Rows: a row of any table, and a struct for one call would say less.
@@ -21,7 +21,7 @@ pub fn class_at(t: &[u8], i: usize) -> ClassData
 {
     ClassData {
         mask: words::word_at(t, i),
-        cost: floats::float_of(words::word_at(t, i + 1)),
+        cost: weights::floats::float_of(words::word_at(t, i + 1)),
         size: words::word_at(t, i + 2),
         spillslots: words::word_at(t, i + 3) == 1,
     }

@@ -7,7 +7,7 @@ use streams::{Broken, Noted, STDIN, STDOUT, Stream};
 use vregs_answer::Space;
 
 // From a reader to a writer. The streams are descriptors, so the tape, the bytes that it gives and the paper, of one each, are looked at by nobody.
-// The five lines that make them stand in vregs and convert_run too: a type of all five would be longer to state.
+// The five lines that make them stand in vregs and convert::run too: a type of all five would be longer to state.
 fn replay_input<R: Read, W: Write>(
     sheet: &mut [u8; 262144],
     answer: &mut [u8; 524288],
@@ -20,7 +20,7 @@ fn replay_input<R: Read, W: Write>(
     let mut paper = [0u8; 1];
     let mut input = Stream::Descriptor(STDIN);
     let mut output = Stream::Descriptor(STDOUT);
-    replay_run::replay(
+    vregs_answer::report::replay(
         &mut input,
         &tape,
         &given,

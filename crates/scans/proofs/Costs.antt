@@ -14,9 +14,9 @@ use Rattle.definition.specs.declared.Side.TheVariants.{Early, Late}
 use Rattle.definition.specs.Types.{Job}
 use Rattle.definition.specs.RegInfo.{class_at}
 use Rattle.definition.specs.Admit.{cut_side}
-use Rattle.floats.proofs.Bits.{le_bits}
+use Rattle.weights.proofs.Bits.{le_bits}
 use Rattle.reginfo.specs.Rows.{class_row}
-use Rattle.layout.specs.declared.Layout.{Layout}
+use Rattle.job.specs.declared.Layout.{Layout}
 use Rattle.job.specs.Job.{job_of}
 use Rattle.use_costs.specs.Book.{SmallBook}
 use Rattle.use_costs.proofs.Reading.{class_known, class_past}

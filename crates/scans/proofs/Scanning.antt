@@ -8,7 +8,7 @@ use native.Mathlib.Omega.{arith}
 use lib.ListN.{length}
 use Rattle.std.specs.Prelude.{Some, None, IfSome}
 use Rattle.std.specs.Prelude as code
-use Rattle.rows.specs.Tab.{tab, down, tab_more, length_tab, take_tab}
+use Rattle.words.specs.Tab.{tab, down, tab_more, length_tab, take_tab}
 use Rattle.definition.specs.declared.RegClass.{RegClass}
 use Rattle.definition.specs.declared.ClassData.{ClassData}
 use Rattle.definition.specs.declared.Use.{Use}

@@ -7,7 +7,7 @@ use native.Mathlib.Omega.{arith}
 use lib.Dec.{eqb, ltb, leb}
 use lib.ListN.{take}
 use borrow.Author.Tests.{lt-leb, ltb-true}
-use Rattle.rows.specs.Tab.{tab, down, get_or_tab, tab_ext, down_reverse, take_tab}
+use Rattle.words.specs.Tab.{tab, down, get_or_tab, tab_ext, down_reverse, take_tab}
 use Rattle.definition.specs.declared.Inst.{Inst}
 use Rattle.definition.specs.declared.RegClass.{RegClass}
 use Rattle.definition.specs.declared.BlockData.{BlockData}

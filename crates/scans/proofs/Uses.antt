@@ -16,7 +16,7 @@ use Rattle.definition.specs.Types as types
 use Rattle.definition.specs.Build.{turned_use}
 use Rattle.definition.specs.Admit.{admit, fresh}
 use Rattle.uses.specs.Rows.{use_row}
-use Rattle.layout.specs.declared.Layout.{Layout}
+use Rattle.job.specs.declared.Layout.{Layout}
 use Rattle.constraints.specs.Held.{held_of}
 use Rattle.constraints.specs.Ready.{BackedAsk, Backed}
 use Rattle.set_part.specs.Part.{marked_use}

@@ -4,7 +4,7 @@ use Rattle.definition.specs.declared.Use.{Use}
 use Rattle.definition.specs.Types.{Job, State}
 use Rattle.definition.specs.Types as types
 use Rattle.definition.specs.Admit.{Scan, through, fails_at, scan, held_by, fresh, Move, whole, turn, cut, halt}
-use Rattle.rows.specs.Tab.{tab}
+use Rattle.words.specs.Tab.{tab}
 use Rattle.definition.specs.declared.RegClass.{RegClass}
 use Rattle.constraints.specs.declared.Held.{Held}
 use Rattle.constraints.specs.Held.{held_of}

@@ -4,9 +4,9 @@
 ghost use Rattle.std.specs.Prelude.{◌≡◌, ℕ, ◌+◌, ◌-◌, ◌*◌, ◌≤◌, ◌<◌, IfSome};
 ghost use Rattle.std.specs.Float.{binary32};
 ghost use Rattle.std.specs.Float.Ieee.{of_bits};
-ghost use Rattle.rows.specs.Tab.{tab, down};
+ghost use Rattle.words.specs.Tab.{tab, down};
 ghost use Rattle.words.specs.Words.{word_count};
-ghost use Rattle.layout.specs.JobWords.{words_in};
+ghost use Rattle.job.specs.JobWords.{words_in};
 ghost use Rattle.definition.specs.Types.{State};
 ghost use Rattle.definition.specs.Entry.{insts_of};
 ghost use Rattle.definition.specs.SplitPlacement.{side_of};
@@ -21,11 +21,11 @@ ghost use Rattle.scans.specs.Answers.{scan_of, back_of, Ends, Passed, move_of};
 ghost use Rattle.frame.specs.InFrame.{marked_use};
 ghost use Rattle.constraints.specs.InFrame.{Ready, Stands};
 
-use block_starts::BlockStarts;
 use constraints::Held;
 use definition::{Inst, RegClass, Side, Stop, Use};
 use frame::Frame;
-use layout::Job;
+use function::starts::BlockStarts;
+use job::Job;
 
 // The number of the use that a scan could not admit, if it did not go through; and what is held when it ends.
 // No Result: what is held is there in both cases, so that a Result would carry it twice.

@@ -12,8 +12,8 @@ use Rattle.definition.specs.declared.UseFlags.{UseFlags}
 use Rattle.definition.specs.declared.Hint.{Hint}
 use Rattle.definition.specs.Types.{point}
 use Rattle.uses.specs.Rows.{use_row}
-use Rattle.cuts.specs.Flags.{left_flags, right_flags}
-use Rattle.layout.specs.declared.Layout.{Layout}
+use Rattle.hints.specs.Flags.{left_flags, right_flags}
+use Rattle.job.specs.declared.Layout.{Layout}
 use Rattle.set_part.specs.declared.SetPart.{SetPart}
 use Rattle.set_part.specs.declared.PartSeg.{PartSeg}
 use Rattle.set_part.specs.Part.{use_bound, part_row, PartOk}

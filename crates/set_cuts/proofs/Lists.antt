@@ -8,8 +8,8 @@ use native.Mathlib.Omega.{arith}
 use lib.Dec.{leb, ltb}
 use lib.ListN.{length, take, drop}
 use borrow.Author.Tests.{lt-ltb, le-ltb, le-leb, lt-leb}
-use Rattle.rows.specs.Tab.{tab, length_tab, tab_ext, take_tab, drop_tab}
-use Rattle.rows.specs.RowsAt.{rows_at}
+use Rattle.words.specs.Tab.{tab, length_tab, tab_ext, take_tab, drop_tab}
+use Rattle.words.specs.RowsAt.{rows_at}
 use Rattle.definition.specs.declared.Inst.{Inst}
 use Rattle.definition.specs.declared.Use.{Use}
 use Rattle.definition.specs.declared.Hint.{Hint}
@@ -17,8 +17,8 @@ use Rattle.definition.specs.Types.{Segment, point}
 use Rattle.definition.specs.Cuts.{left_of, right_of, left_cut, right_cut, uses_before, uses_from}
 use Rattle.uses.specs.Rows.{use_row, uses_at}
 use Rattle.uses.proofs.Scans.{before_take, from_drop}
-use Rattle.cuts.specs.Flags.{left_flags, right_flags}
-use Rattle.layout.specs.declared.Layout.{Layout}
+use Rattle.hints.specs.Flags.{left_flags, right_flags}
+use Rattle.job.specs.declared.Layout.{Layout}
 use Rattle.set_part.specs.declared.PartSeg.{PartSeg}
 use Rattle.set_part.specs.Part.{seg_by}
 use Rattle.set_cuts.specs.Cut.{mid_use}

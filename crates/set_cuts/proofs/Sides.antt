@@ -7,7 +7,7 @@ use native.Mathlib.Omega.{arith}
 use lib.Dec.{ltb, eqb}
 use lib.ListN.{get_or}
 use borrow.Author.Tests.{ltb-true, ltb-false}
-use Rattle.rows.specs.Tab.{tab, tab_ext, tab_snoc}
+use Rattle.words.specs.Tab.{tab, tab_ext, tab_snoc}
 use Rattle.definition.specs.declared.Inst.{Inst}
 use Rattle.definition.specs.declared.LiveRangePoint.{LiveRangePoint}
 use Rattle.definition.specs.declared.UseFlags.{UseFlags}
@@ -15,8 +15,8 @@ use Rattle.definition.specs.declared.Hint.{Hint}
 use Rattle.definition.specs.Types.{Segment, point}
 use Rattle.definition.specs.Cuts.{left_cut, right_cut}
 use Rattle.uses.specs.Rows.{use_row}
-use Rattle.cuts.specs.Flags.{left_flags, right_flags}
-use Rattle.layout.specs.declared.Layout.{Layout}
+use Rattle.hints.specs.Flags.{left_flags, right_flags}
+use Rattle.job.specs.declared.Layout.{Layout}
 use Rattle.set_part.specs.declared.SetPart.{SetPart}
 use Rattle.set_part.specs.declared.PartSeg.{PartSeg}
 use Rattle.set_part.specs.Part.{part_row, marked_use, seg_by, part_segs, PartOk}

@@ -7,9 +7,9 @@ use Rattle.definition.specs.declared.Hint.{Hint}
 use Rattle.definition.specs.Types.{point}
 use Rattle.definition.specs.Cuts.{uses_before}
 use Rattle.uses.specs.Rows.{uses_at}
-use Rattle.cuts.specs.Flags.{left_flags, right_flags}
-use Rattle.layout.specs.declared.Layout.{Layout}
-use Rattle.layout.specs.Layout.{seg_row}
+use Rattle.hints.specs.Flags.{left_flags, right_flags}
+use Rattle.job.specs.declared.Layout.{Layout}
+use Rattle.job.specs.Layout.{seg_row}
 use Rattle.set_part.specs.declared.SetPart.{SetPart}
 use Rattle.set_part.specs.declared.PartSeg.{PartSeg}
 use Rattle.set_part.specs.Part.{part_row}

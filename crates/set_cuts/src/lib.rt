@@ -2,20 +2,20 @@
 #![tactic(auto)]
 
 ghost use Rattle.std.specs.Prelude.{◌≡◌, true, ◌+◌, ◌-◌, ◌*◌, ◌≤◌, ◌<◌};
-ghost use Rattle.rows.specs.RowsAt.{rows_at};
+ghost use Rattle.words.specs.RowsAt.{rows_at};
 ghost use Rattle.definition.specs.Entry.{chained, not_after};
 ghost use Rattle.hints.specs.Hints.{hint_at};
 ghost use Rattle.hints.specs.Sorted.{hints_in};
 ghost use Rattle.uses.specs.Rows.{uses_at, uses_in};
 ghost use Rattle.set_part.specs.Part.{PartOk};
 ghost use Rattle.set_cuts.specs.Cut.{first_past, left_part, right_part, cut_across, cut_between, cut_part};
-ghost use Rattle.layout.specs.JobWords.{words_in};
+ghost use Rattle.job.specs.JobWords.{words_in};
 
 use definition::{Inst, LiveRangePoint, UseFlags};
 use hints::Hints;
-use layout::Job;
+use job::Job;
 use set_part::{PartSeg, SetPart, at_segment};
-use word_rows::Rows;
+use words::rows::Rows;
 
 // The two sides of a cut.
 #[derive(Clone, Copy)]
@@ -90,8 +90,8 @@ fn cut_across(job: &Job, hints: &Hints, sp: SetPart, p: Inst, k: usize, row: Par
 {
     let here = LiveRangePoint(4 * p.0);
     let mid = row.first + uses::count_before(&uses_of(job, row), p);
-    let before = cuts::left_flags(hints, row.value, row.from, p, row.flags);
-    let behind = cuts::right_flags(hints, row.value, row.to, p, row.flags);
+    let before = hints::cuts::left_flags(hints, row.value, row.from, p, row.flags);
+    let behind = hints::cuts::right_flags(hints, row.value, row.to, p, row.flags);
     Parts {
         left: left_part(sp, k, here, before, mid),
         right: right_part(sp, k, here, behind, mid),

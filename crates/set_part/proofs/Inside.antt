@@ -8,8 +8,8 @@ use native.Mathlib.Omega.{arith}
 use lib.Dec.{ltb}
 use lib.ListN.{length, length-append, get_or-append}
 use borrow.Author.Tests.{eq-eqb, ltb-true, ltb-false}
-use Rattle.rows.specs.Tab.{tab}
-use Rattle.rows.specs.Parts.{get_d_past}
+use Rattle.words.specs.Tab.{tab}
+use Rattle.words.specs.Parts.{get_d_past}
 use Rattle.definition.specs.declared.Inst.{Inst}
 use Rattle.definition.specs.declared.Use.{Use}
 use Rattle.definition.specs.declared.UseKind.{UseKind}
@@ -19,7 +19,7 @@ use Rattle.definition.specs.Uses.{is_class_use, end_slot, end_point}
 use Rattle.definition.specs.Admit.{no_use, use_at}
 use Rattle.definition.specs.Place.{uses_of}
 use Rattle.definition.proofs.Fits.{UsesFit, SegsFit}
-use Rattle.layout.specs.declared.Layout.{Layout}
+use Rattle.job.specs.declared.Layout.{Layout}
 use Rattle.set_part.specs.declared.SetPart.{SetPart}
 use Rattle.set_part.specs.Part.{part_row, seg_by, marked_use, part_segs, PartOk}
 

@@ -5,11 +5,11 @@ use Prim.Native.Nat.{ℕ, zero, suc, ◌+◌, ◌-◌, ◌≤◌, ◌<◌}
 use native.Mathlib.Nat.{add-zero}
 use native.Mathlib.Omega.{arith}
 use lib.ListN.{length}
-use Rattle.rows.specs.Tab.{tab, length_tab, tab_append, get_or_tab}
+use Rattle.words.specs.Tab.{tab, length_tab, tab_append, get_or_tab}
 use Rattle.definition.specs.declared.Use.{Use}
 use Rattle.definition.specs.Admit.{no_use, use_at}
 use Rattle.definition.specs.Place.{uses_of}
-use Rattle.layout.specs.declared.Layout.{Layout}
+use Rattle.job.specs.declared.Layout.{Layout}
 use Rattle.set_part.specs.declared.SetPart.{SetPart}
 use Rattle.set_part.specs.Part.{use_bound, part_row, seg_by, marked_use, part_segs, PartOk}
 use Rattle.set_part.proofs.Bounds.{bound_first, bound_end, bounds_rise}

@@ -7,12 +7,12 @@ use native.Mathlib.Omega.{arith}
 use lib.Dec.{eqb, ltb}
 use lib.ListN.{get_or}
 use borrow.Author.Tests.{lt-ltb, eqb-true, eqb-false}
-use Rattle.rows.specs.Tab.{tab, tab_ext}
-use Rattle.rows.specs.RowsAt.{rows_at}
+use Rattle.words.specs.Tab.{tab, tab_ext}
+use Rattle.words.specs.RowsAt.{rows_at}
 use Rattle.definition.specs.declared.Use.{Use}
 use Rattle.uses.specs.Rows.{use_row}
-use Rattle.layout.specs.declared.Layout.{Layout}
-use Rattle.layout.specs.Layout.{seg_row, seg_at, next_use, job_uses, segment_of}
+use Rattle.job.specs.declared.Layout.{Layout}
+use Rattle.job.specs.Layout.{seg_row, seg_at, next_use, job_uses, segment_of}
 use Rattle.set_part.specs.declared.PartSeg.{PartSeg}
 use Rattle.set_part.specs.Part.{use_bound, part_row, seg_by, marked_use, part_segs, PartOk, CountsRise, whole_part}
 use Rattle.set_part.proofs.Bounds.{bound_first, bound_inner, bound_end, bound_le_end, first_le_bound}

@@ -3,10 +3,10 @@
 
 ghost use Rattle.std.specs.Prelude.{◌≡◌, cond, ◌+◌, ◌≤◌, ◌<◌, eqb};
 ghost use Rattle.set_part.specs.Part.{use_bound, part_row, whole_part};
-ghost use Rattle.layout.specs.JobWords.{words_in};
+ghost use Rattle.job.specs.JobWords.{words_in};
 
 use definition::{LiveRangePoint, UseFlags, Value};
-use layout::Job;
+use job::Job;
 
 // Segments `seg` to `last` of the job. The first begins at `from`, has `flags`, and its uses begin at use number `first`;
 // the last ends at `to`, its uses end before use number `end`, and it has `tail` as its flags if it is not the first too.
@@ -36,7 +36,7 @@ pub struct PartSeg {
 // The use number at which the uses of segment i begin; behind the last segment, the end.
 // That a part or a segment's number is one of the job's is a clause, here and above: a part goes by value, and the
 // job is lent.
-#[tactic(auto, unfolding(crate::specs::Part::use_bound, layout::specs::Layout::seg_at, layout::specs::Layout::seg_row))]
+#[tactic(auto, unfolding(crate::specs::Part::use_bound, job::specs::Layout::seg_at, job::specs::Layout::seg_row))]
 pub fn use_bound(job: &Job, sp: SetPart, i: usize) -> usize
     requires { sp.last < job.now.lay.segments.n }
     ensures { result ≡ use_bound (words_in job.now) job.now.lay sp i }
@@ -60,13 +60,13 @@ pub fn at_segment<T: Copy>(i: usize, k: usize, own: T, other: T) -> T
 
 // Segment i of a part. Inlined, since each call copies the part.
 #[inline(always)]
-#[tactic(auto, unfolding(crate::specs::Part::part_row, layout::specs::Layout::seg_at))]
+#[tactic(auto, unfolding(crate::specs::Part::part_row, job::specs::Layout::seg_at))]
 pub fn part_seg(job: &Job, sp: SetPart, i: usize) -> PartSeg
     requires { (sp.last < job.now.lay.segments.n) × (i ≤ sp.last) }
     ensures { result ≡ part_row (words_in job.now) job.now.lay sp i }
 {
     let lay = &job.lay;
-    let row = layout::seg_at(job.bytes, lay.segments.at + i * 5);
+    let row = job::seg_at(job.bytes, lay.segments.at + i * 5);
     let flags = at_segment(i, sp.last, sp.tail, row.flags);
     PartSeg {
         value: row.value,
@@ -79,15 +79,15 @@ pub fn part_seg(job: &Job, sp: SetPart, i: usize) -> PartSeg
 }
 
 // The part that is a whole set: segments a to b - 1 of the job.
-#[tactic(auto, unfolding(crate::specs::Part::whole_part, layout::specs::Layout::seg_at))]
+#[tactic(auto, unfolding(crate::specs::Part::whole_part, job::specs::Layout::seg_at))]
 pub fn whole_part(job: &Job, a: usize, b: usize) -> SetPart
     requires { (a < b) × (b ≤ job.now.lay.segments.n) × (job.now.lay.uses.n ≤ 4096) }
     ensures { result ≡ whole_part (words_in job.now) job.now.lay a b }
 {
     let lay = &job.lay;
     let at = lay.segments.at;
-    let head = layout::seg_at(job.bytes, at + a * 5);
-    let behind = layout::seg_at(job.bytes, at + (b - 1) * 5);
+    let head = job::seg_at(job.bytes, at + a * 5);
+    let behind = job::seg_at(job.bytes, at + (b - 1) * 5);
     SetPart {
         seg: a,
         from: head.from,
@@ -96,6 +96,6 @@ pub fn whole_part(job: &Job, a: usize, b: usize) -> SetPart
         last: b - 1,
         to: behind.to,
         tail: behind.flags,
-        end: layout::next_use(job, b - 1) as usize,
+        end: job::next_use(job, b - 1) as usize,
     }
 }

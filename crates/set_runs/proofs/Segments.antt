@@ -5,7 +5,7 @@ use Prim.Native.Nat.{ℕ, ◌+◌, ◌*◌, ◌≤◌, ◌<◌}
 use native.Mathlib.Nat.{mul-one}
 use native.Mathlib.Omega.{arith}
 use lib.ListN.{length, get_or, get_or-eq_default}
-use Rattle.rows.specs.RowsAt.{rows_at, get_or_rows_at, length_rows_at}
+use Rattle.words.specs.RowsAt.{rows_at, get_or_rows_at, length_rows_at}
 use Rattle.definition.specs.declared.Value.{Value}
 use Rattle.definition.specs.declared.ValueSet.{ValueSet}
 use Rattle.definition.specs.declared.ValueData.{ValueData}
@@ -15,11 +15,11 @@ use Rattle.definition.specs.Types.{Segment, Job, cls}
 use Rattle.definition.specs.RegInfo.{no_value, value_at, set_of, top_of}
 use Rattle.definition.specs.Build.{runs, same_set}
 use Rattle.reginfo.specs.Rows.{bank_row}
-use Rattle.coalescing.specs.Rows.{value_row, values_at}
+use Rattle.values.specs.ValueRows.{value_row, values_at}
 use Rattle.uses.specs.Rows.{use_row}
-use Rattle.layout.specs.declared.Layout.{Layout}
-use Rattle.layout.specs.declared.SegRow.{SegRow}
-use Rattle.layout.specs.Layout.{seg_row, seg_at, segment_of}
+use Rattle.job.specs.declared.Layout.{Layout}
+use Rattle.job.specs.declared.SegRow.{SegRow}
+use Rattle.job.specs.Layout.{seg_row, seg_at, segment_of}
 use Rattle.job.specs.Job.{job_by, job_of}
 use Rattle.set_runs.specs.Runs.{Running, running_start, running_next, running_stop, running_end}
 use Rattle.set_runs.specs.Sets.{segs_from, seg_value}

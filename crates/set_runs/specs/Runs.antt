@@ -6,7 +6,7 @@ use Rattle.std.proofs.Math.Bool.{cond}
 use mathlib.Core.List.{List, [], ◌∷◌, ◌++◌}
 use Rattle.std.proofs.Math.Numerals.{lt_of_le_of_ne}
 use Rattle.std.proofs.lemmas.Bool.{eqb-false}
-use Rattle.rows.specs.Tab.{tab, tab_more, tab_append}
+use Rattle.words.specs.Tab.{tab, tab_more, tab_append}
 use Rattle.definition.specs.Build.{onto, runs}
 
 -- alike are those with one key

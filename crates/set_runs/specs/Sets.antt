@@ -1,11 +1,11 @@
 -- A job's segments from one number on. Assumes nothing.
 use Rattle.std.specs.Prelude.{◌≡◌, refl, List, ◌∷◌, ℕ, ◌+◌, ◌-◌, ◌<◌}
 use Rattle.std.proofs.Common.{ap, arith}
-use Rattle.rows.specs.Tab.{tab, tab_more}
+use Rattle.words.specs.Tab.{tab, tab_more}
 use Rattle.definition.specs.Types.{Segment}
 use Rattle.uses.specs.Rows.{use_row}
-use Rattle.layout.specs.declared.Layout.{Layout}
-use Rattle.layout.specs.Layout.{seg_at, segment_of}
+use Rattle.job.specs.declared.Layout.{Layout}
+use Rattle.job.specs.Layout.{seg_at, segment_of}
 use Rattle.job.specs.Job.{job_by, job_of}
 
 -- the job's segments a to b - 1

@@ -5,13 +5,13 @@ ghost use Rattle.std.specs.Prelude.{◌≡◌, ◌∷◌, ◌≤◌, ◌<◌, ge
 ghost use Rattle.definition.specs.Types.{cls};
 ghost use Rattle.definition.specs.RegInfo.{value_at, set_of, top_of};
 ghost use Rattle.definition.specs.Build.{runs, same_set};
-ghost use Rattle.layout.specs.Layout.{seg_at};
+ghost use Rattle.job.specs.Layout.{seg_at};
 ghost use Rattle.job.specs.Job.{job_in};
 ghost use Rattle.set_runs.specs.Sets.{segs_from};
-ghost use Rattle.layout.specs.JobWords.{words_in};
+ghost use Rattle.job.specs.JobWords.{words_in};
 
 use definition::{RegBank, RegClass, Value, ValueSet};
-use layout::Job;
+use job::Job;
 
 // The set of segment i.
 pub fn set_at(job: &Job, i: usize) -> ValueSet
@@ -19,8 +19,8 @@ pub fn set_at(job: &Job, i: usize) -> ValueSet
     ensures { result ≡ set_of (job_in job.now) (seg_at (words_in job.now) job.now.lay i).value }
 {
     let lay = &job.lay;
-    let s = layout::seg_at(job.bytes, lay.segments.at + i * 5);
-    coalescing::set_for_value(&job::values(job), s.value)
+    let s = job::seg_at(job.bytes, lay.segments.at + i * 5);
+    values::set_for_value(&job::rows::values(job), s.value)
 }
 
 // The bank of value v; that of an unknown value is 0.
@@ -30,7 +30,7 @@ fn bank_of(job: &Job, v: Value) -> RegBank
     let lay = &job.lay;
     let k = v.0 as usize;
     if k < lay.values.n {
-        coalescing::value_at(job.bytes, lay.values.at + k * 3).bank
+        values::value_at(job.bytes, lay.values.at + k * 3).bank
     } else {
         RegBank(0)
     }
@@ -55,7 +55,7 @@ pub fn top_at(job: &Job, i: usize) -> RegClass
     ensures { result ≡ top_of (job_in job.now) (seg_at (words_in job.now) job.now.lay i).value }
 {
     let lay = &job.lay;
-    let s = layout::seg_at(job.bytes, lay.segments.at + i * 5);
+    let s = job::seg_at(job.bytes, lay.segments.at + i * 5);
     top_of(job, bank_of(job, s.value))
 }
 

@@ -1,9 +1,9 @@
 -- The reader as a machine: lines, parts of a sheet, its start and its end. Assumes nothing.
 use Rattle.std.specs.Prelude.{List, [], ◌∷◌, false, cond, ℕ, replicate, eqb, None, Some, Result, Ok, Err, ⊤}
-use Rattle.sheet_fields.specs.State.{St}
-use Rattle.sheet_fields.specs.Fields.{Next, Fed, fed, begin_of, byte_of, end_field, close_record}
-use Rattle.sheet.specs.declared.SheetError.{SheetError}
-use Rattle.sheet.specs.declared.SheetError.TheVariants.{Malformed, TooMany}
+use Rattle.sheet.specs.State.{St}
+use Rattle.sheet.specs.Fields.{Next, Fed, fed, begin_of, byte_of, end_field, close_record}
+use Rattle.sheet.specs.declared.first.SheetError.{SheetError}
+use Rattle.sheet.specs.declared.first.SheetError.TheVariants.{Malformed, TooMany}
 
 -- whether a sheet is a job's
 abbrev pub Answer : Type 0

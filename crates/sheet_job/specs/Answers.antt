@@ -15,14 +15,14 @@ use Rattle.definition.specs.Text.{◌>>=◌}
 use Rattle.definition.specs.JobSheet.{Word as Named, opt, bank, class, reg, block, value, vgroup, operand, hint, seg, use', end, word_number, Record, only, bank_of, class_data_of, memory_of, block_data_of, value_data_of, vgroup_of, operand_of, hint_of, segments_of, next, among, ordered, job_of_records, answer_or_one}
 use Rattle.definition.specs.Conversion.{rec}
 use Rattle.job.specs.Job.{raw_job}
-use Rattle.sheet_places.specs.Places.{limits, limit_of, table_words}
+use Rattle.sheet_rules.specs.Places.{limits, limit_of, table_words}
 use Rattle.sheet.specs.Machine.{Answer}
-use Rattle.sheet.specs.declared.SheetError.TheVariants.{Malformed, TooMany}
-use Rattle.agree.specs.Words.{none_some}
-use Rattle.agree.specs.Table.{Filled, filled, fill, blank}
-use Rattle.agree.specs.Agree.{outcome}
-use Rattle.sheet_rows.specs.Counts.{TooMany as Crowded, zero_count, fill_over}
-use Rattle.sheet_rows.specs.Sheets.{On, Sound, ordered_first}
+use Rattle.sheet.specs.declared.first.SheetError.TheVariants.{Malformed, TooMany}
+use Rattle.sheet_laws.specs.Words.{none_some}
+use Rattle.sheet_laws.specs.Table.{Filled, filled, fill, blank}
+use Rattle.sheet_laws.specs.Agree.{outcome}
+use Rattle.sheet_laws.specs.Counts.{TooMany as Crowded, zero_count, fill_over}
+use Rattle.sheet_laws.specs.Sheets.{On, Sound, ordered_first}
 use Rattle.sheet_job.specs.Fixed.{fixed_layout}
 use Rattle.sheet_job.specs.Decode.{Pairs}
 use Rattle.sheet_job.specs.Groups.{AlikeIf, AlikeGroup}

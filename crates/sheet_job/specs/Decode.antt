@@ -5,20 +5,20 @@ use Rattle.std.proofs.Common.{sym, ◌∙◌, subst, one-mul, get_or-drop, ne_eq
 use mathlib.Core.List.{List, [], ◌∷◌, map}
 use native.Mathlib.Omega.{arith}
 use Rattle.std.proofs.Math.Nat.{add-mul}
-use Rattle.rows.specs.RowsAt.{rows_at, rows_at_cons}
+use Rattle.words.specs.RowsAt.{rows_at, rows_at_cons}
 use Rattle.definition.specs.Types.{cls}
 use Rattle.definition.specs.declared.UseKind.TheVariants.{FixedDef, FixedUse, TiedUse, ConstraintConflict, ClassUse, ClassDef, GroupClassUse, GroupClassDef, BlockparamIn, BlockparamOut}
 use Rattle.definition.specs.JobSheet.{Word as Named, word_number, Record, only, float, bank_of, class_data_of, memory_of, block_data_of, remat_of, value_data_of, operand_of, hint_of, reg_of, use_of}
 use Rattle.reginfo.specs.Rows.{bank_row, memory_row, class_row}
 use Rattle.function.specs.Blocks.{block_row}
-use Rattle.coalescing.specs.Rows.{remat_of as remat_row, value_row}
-use Rattle.operands.specs.Rows.{operand_row}
+use Rattle.values.specs.ValueRows.{remat_of as remat_row, value_row}
+use Rattle.values.specs.OperandRows.{operand_row}
 use Rattle.hints.specs.Hints.{hint_at}
 use Rattle.uses.specs.Rows.{raw_kind, raw_row}
-use Rattle.sheet_places.specs.Places.{base_of, width_of, stored_of, stored_fields}
-use Rattle.agree.specs.Table.{keyed}
-use Rattle.sheet_rows.specs.Regions.{first_of}
-use Rattle.sheet_rows.specs.Stands.{Row, Stands, bump}
+use Rattle.sheet_rules.specs.Places.{base_of, width_of, stored_of, stored_fields}
+use Rattle.sheet_laws.specs.Table.{keyed}
+use Rattle.sheet_laws.specs.Regions.{first_of}
+use Rattle.sheet_laws.specs.Stands.{Row, Stands, bump}
 
 module _ {A B : Type 0} where
   -- lists of one length whose elements are related one by one

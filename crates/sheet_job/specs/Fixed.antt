@@ -1,7 +1,7 @@
 -- The layout of the reader's table. Assumes nothing.
 use Rattle.std.specs.Prelude.{ℕ, List, get_or}
-use Rattle.layout.specs.declared.Table.{Table}
-use Rattle.layout.specs.declared.Layout.{Layout}
+use Rattle.job.specs.declared.Table.{Table}
+use Rattle.job.specs.declared.Layout.{Layout}
 
 unfoldable pub table_at : List ℕ → ℕ → ℕ → Table
 table_at W i at = record { at = at; n = get_or W i 0 }

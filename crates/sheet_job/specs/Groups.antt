@@ -1,14 +1,14 @@
 -- The value groups of the table: those of up to eight members are the definition's; longer ones have more than eight members in both. Assumes nothing.
 use Rattle.std.specs.Prelude.{◌≡◌, refl, List, [], ◌∷◌, map, Bool, true, false, cond, ℕ, suc, ◌+◌, ◌-◌, ◌≤◌, ◌<◌, length, get_or, ltb}
 use Rattle.std.proofs.Common.{ap, ◌∙◌, arith, ltb-true, ltb-false, lt-ltb}
-use Rattle.rows.specs.RowsAt.{rows_at, rows_at_cons, length_rows_at}
+use Rattle.words.specs.RowsAt.{rows_at, rows_at_cons, length_rows_at}
 use Rattle.definition.specs.declared.Value.{Value}
 use Rattle.definition.specs.Types.{val}
 use Rattle.definition.specs.JobSheet.{vgroup_of}
-use Rattle.coalescing.specs.Rows.{member_row, vgroup_row}
-use Rattle.sheet_places.specs.Places.{stored_of, stored_fields, up_of}
-use Rattle.agree.specs.Table.{ups}
-use Rattle.sheet_rows.specs.Stands.{Row}
+use Rattle.values.specs.ValueRows.{member_row, vgroup_row}
+use Rattle.sheet_rules.specs.Places.{stored_of, stored_fields, up_of}
+use Rattle.sheet_laws.specs.Table.{ups}
+use Rattle.sheet_laws.specs.Stands.{Row}
 use Rattle.sheet_job.specs.Decode.{start}
 
 -- equal, or both of more than eight members

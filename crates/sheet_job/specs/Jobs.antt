@@ -4,25 +4,25 @@ use Rattle.std.proofs.Common.{sym, ◌∙◌, arith}
 use Rattle.std.proofs.Math.Path.{ap, subst}
 use mathlib.Core.List.{List, [], ◌∷◌, map}
 use Rattle.std.proofs.lemmas.List.{length-replicate, get_or-replicate}
-use Rattle.rows.specs.RowsAt.{rows_at}
+use Rattle.words.specs.RowsAt.{rows_at}
 use Rattle.definition.specs.declared.Value.{Value}
 use Rattle.definition.specs.Types.{Job}
 use Rattle.definition.specs.JobSheet.{Word as Named, opt, bank, class, reg, block, value, vgroup, operand, hint, seg, use', word_number, Record, only, float, options_of, bank_of, class_data_of, memory_of, block_data_of, value_data_of, vgroup_of, operand_of, hint_of, job_of_records}
 use Rattle.definition.specs.Conversion.{rec}
 use Rattle.reginfo.specs.Rows.{bank_row, memory_row, class_row, classes_at}
 use Rattle.function.specs.Blocks.{block_row}
-use Rattle.coalescing.specs.Rows.{value_row, values_at, vgroup_row, vgroups_at}
-use Rattle.operands.specs.Rows.{operand_row, operands_at}
+use Rattle.values.specs.ValueRows.{value_row, values_at, vgroup_row, vgroups_at}
+use Rattle.values.specs.OperandRows.{operand_row, operands_at}
 use Rattle.hints.specs.Hints.{hint_at}
-use Rattle.layout.specs.Layout.{options_row}
+use Rattle.job.specs.Layout.{options_row}
 use Rattle.job.specs.Job.{job_by, raw_job}
-use Rattle.sheet_places.specs.Places.{bases, base_of, widths, width_of, limits, limit_of, stored_fields, stored_of, count_at, table_words}
-use Rattle.agree.specs.Table.{Filled, put, fill, blank}
-use Rattle.agree.specs.Values.{Small}
-use Rattle.sheet_rows.specs.Put.{cnt, put_long, put_field}
-use Rattle.sheet_rows.specs.Stands.{Stands, NoOpt, room, kept_opt, stands}
-use Rattle.sheet_rows.specs.Counts.{good_zeros, zero_count, fill_count}
-use Rattle.sheet_rows.specs.Sheets.{Opened, opened, Sound}
+use Rattle.sheet_rules.specs.Places.{bases, base_of, widths, width_of, limits, limit_of, stored_fields, stored_of, count_at, table_words}
+use Rattle.sheet_laws.specs.Table.{Filled, put, fill, blank}
+use Rattle.sheet_laws.specs.Values.{Small}
+use Rattle.sheet_laws.specs.Put.{cnt, put_long, put_field}
+use Rattle.sheet_laws.specs.Stands.{Stands, NoOpt, room, kept_opt, stands}
+use Rattle.sheet_laws.specs.Counts.{good_zeros, zero_count, fill_count}
+use Rattle.sheet_laws.specs.Sheets.{Opened, opened, Sound}
 use Rattle.sheet_job.specs.Fixed.{table_at, fixed_layout}
 use Rattle.sheet_job.specs.Decode.{Pairs, pairs_map, listed, bank_read, class_read, memory_read, block_read, value_read, operand_read, hint_read}
 use Rattle.sheet_job.specs.Groups.{AlikeGroup, vgroup_read}
@@ -130,6 +130,6 @@ table_job n e rs k v =
     l : length {A = ℕ} (replicate n 0) ≡ table_words
     l = length-replicate n 0 ∙ e
 
-    first : (xs : List Record) → Rattle.sheet_rows.specs.Stands.SmallRecords xs → (fill (blank n) xs).over ≡ false → Opened xs → options_row (fill (blank n) xs).out 10 ≡ options_of (get_or (only opt xs) 0 [])
+    first : (xs : List Record) → Rattle.sheet_laws.specs.Stands.SmallRecords xs → (fill (blank n) xs).over ≡ false → Opened xs → options_row (fill (blank n) xs).out 10 ≡ options_of (get_or (only opt xs) 0 [])
     first [] a b c = absurd c
     first (r ∷ rest) a b c = opt_options n e r.word c.0 r.fields rest b c.1 a.0

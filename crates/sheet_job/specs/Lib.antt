@@ -4,3 +4,6 @@ pub mod Groups
 pub mod Segments
 pub mod Jobs
 pub mod Answers
+pub mod Present
+pub mod Columns
+pub mod Shape

@@ -1,16 +1,16 @@
 -- The segments of the table, each with its uses, are the definition's. Assumes nothing.
 use Rattle.std.specs.Prelude.{◌≡◌, refl, List, [], ◌∷◌, ℕ, ◌+◌, ◌-◌, ◌*◌, ◌≤◌, ◌<◌, length, get_or, ltb}
 use Rattle.std.proofs.Common.{ap, ◌∙◌, arith, lt-ltb, le-ltb}
-use Rattle.rows.specs.Tab.{tab}
-use Rattle.rows.specs.RowsAt.{rows_at, rows_at_more}
+use Rattle.words.specs.Tab.{tab}
+use Rattle.words.specs.RowsAt.{rows_at, rows_at_more}
 use Rattle.definition.specs.declared.Use.{Use}
 use Rattle.definition.specs.Types.{Segment}
 use Rattle.definition.specs.JobSheet.{Word as Named, opt, bank, class, reg, block, value, vgroup, operand, hint, seg, use', end, Record, only, use_of, flags_of as flags_in, segment_of as segment_in, segments_of}
 use Rattle.definition.specs.Conversion.{rec}
 use Rattle.uses.specs.Rows.{raw_row}
-use Rattle.layout.specs.Layout.{flags_of, seg_row, seg_at, pick_n, next_use, job_uses, segment_of}
-use Rattle.sheet_places.specs.Places.{bases, base_of, widths, width_of, stored_of, stored_fields}
-use Rattle.sheet_rows.specs.Stands.{Row, Stands, bump}
+use Rattle.job.specs.Layout.{flags_of, seg_row, seg_at, pick_n, next_use, job_uses, segment_of}
+use Rattle.sheet_rules.specs.Places.{bases, base_of, widths, width_of, stored_of, stored_fields}
+use Rattle.sheet_laws.specs.Stands.{Row, Stands, bump}
 use Rattle.sheet_job.specs.Fixed.{table_at, fixed_layout}
 use Rattle.sheet_job.specs.Decode.{use_read}
 

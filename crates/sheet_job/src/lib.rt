@@ -5,7 +5,7 @@ ghost use Rattle.std.specs.Prelude.{◌≡◌, ◌≤◌, ◌<◌};
 ghost use Rattle.words.specs.Words.{word_count, words_of};
 ghost use Rattle.sheet_job.specs.Fixed.{table_at, fixed_layout};
 
-use layout::{Layout, Table};
+use job::{Layout, Table};
 
 // The table whose count is word i.
 #[tactic(auto, unfolding(crate::specs::Fixed::table_at))]

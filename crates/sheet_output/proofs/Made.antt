@@ -9,7 +9,7 @@ use lib.Seq.{drop-cons}
 use denote.Param.Members.{Mut}
 use Rattle.std.specs.Fn.{Called}
 use Rattle.std.specs.Array.{IsFromFnResultFrom, IsFromFnResult}
-use Rattle.rows.specs.Tab.{tab}
+use Rattle.words.specs.Tab.{tab}
 
 -- h says f x at x, and stays as it is
 module _ {F : Type 0} (g : Mut F (ℕ × Unit {0}) ℕ) (f : ℕ → ℕ) (h : F) (is : (x b : ℕ) (q : F) → Called g h (x, tt) b q → (q ≡ h) × (b ≡ f x)) where

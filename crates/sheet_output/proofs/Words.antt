@@ -4,7 +4,7 @@ use mathlib.Core.List.{List}
 use Prim.Native.Nat.{ℕ, ◌+◌}
 use native.Mathlib.Nat.{add-zero}
 use native.Mathlib.Omega.{arith}
-use Rattle.rows.specs.Tab.{tab_ext}
+use Rattle.words.specs.Tab.{tab_ext}
 use lib.ListN.{get_or}
 use Rattle.definition.specs.Types.{vset, cls}
 use Rattle.virt_regs.specs.declared.RegisterRow.{RegisterRow}

@@ -10,6 +10,8 @@ ghost use Rattle.sheet_output.specs.Left.{at_start};
 ghost use Rattle.sheet_output.specs.Rows.{row_in, register_in, use_text, seg_text, vreg_text, group_text, behind_use, behind_seg, behind_vreg, behind_group, behind_end};
 ghost use Rattle.sheet_output.specs.Pages.{Shows, Stepped, Filled};
 
+pub mod answer;
+
 use definition::{RegClass, ValueSet};
 use lines::Page;
 use register_sheet::{put_end, put_group, put_seg, put_use, put_vreg};

@@ -1,7 +1,7 @@
 -- The kinds of records by their numbers, in the order of a sheet. Assumes nothing.
 use Rattle.std.specs.Prelude.{ℕ, Option, None, Some}
-use Rattle.sheet_rules.specs.declared.Kind.{Kind}
-use Rattle.sheet_rules.specs.declared.Kind.TheVariants.{Opt, Bank, Class, Reg, Block, Value, Vgroup, Operand, Hint, Seg, Use, End}
+use Rattle.sheet_rules.specs.declared.forms.Kind.{Kind}
+use Rattle.sheet_rules.specs.declared.forms.Kind.TheVariants.{Opt, Bank, Class, Reg, Block, Value, Vgroup, Operand, Hint, Seg, Use, End}
 
 -- a kind's number
 abbrev pub number_of : Kind → ℕ

@@ -1,2 +1,4 @@
+pub mod Bytes
 pub mod Kinds
 pub mod Rules
+pub mod Places

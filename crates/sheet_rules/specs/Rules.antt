@@ -1,7 +1,7 @@
 -- The rules of the records, as tables of numbers. Assumes nothing.
 use Rattle.std.specs.Prelude.{List, [], ◌∷◌, Bool, true, false, not, cond, ℕ, ◌+◌, ◌*◌, get_or, ltb, eqb}
-use Rattle.numeral.specs.declared.Form.{Form}
-use Rattle.numeral.specs.declared.Form.TheVariants.{Nothing, Number, Mask, Word}
+use Rattle.sheet_rules.specs.declared.digits.Form.{Form}
+use Rattle.sheet_rules.specs.declared.digits.Form.TheVariants.{Nothing, Number, Mask, Word}
 
 -- A field's form by its number: 0 none, 1 number, 2 mask, 3 word, 4 up to 1, 5 up to 3, 6 up to 9, 7 up to 15.
 unfoldable pub form_of : ℕ → Form

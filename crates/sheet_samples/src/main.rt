@@ -10,12 +10,12 @@ ghost use Rattle.std.specs.Prelude.{◌≡◌, ◌+◌, ◌^◌, ◌≤◌, ◌<
 ghost use Rattle.definition.specs.Text.{same};
 ghost use Rattle.definition.specs.JobOrder.{ordered_text};
 ghost use Rattle.words.specs.Words.{word_count};
-ghost use Rattle.sheet_places.specs.Places.{table_words};
+ghost use Rattle.sheet_rules.specs.Places.{table_words};
 ghost use Rattle.lines.specs.Wrote.{Wrote};
 ghost use Rattle.sheet_samples.specs.Tallies.{differs_line, tally_line};
 
+use convert::memory::Lent;
 use document::{OrderedPair, Program, Sample};
-use sheet_home::Lent;
 use std::fs::File;
 use std::io;
 use std::io::Stdout;
@@ -52,7 +52,7 @@ fn tell(number: u64, sink: &mut Noted<Stdout>) -> bool {
 // Whether the answer is what the program writes for the sheet.
 fn agrees(program: Program, sheet: &[u8], answer: &[u8], space: &mut Space) -> bool {
     let second = match program {
-        Program::Vregs => return sheet_replay::is_answer(sheet, answer, space),
+        Program::Vregs => return vregs_answer::replay::is_answer(sheet, answer, space),
         Program::ToForm2 => true,
         Program::ToForm1 => false,
     };
@@ -62,7 +62,7 @@ fn agrees(program: Program, sheet: &[u8], answer: &[u8], space: &mut Space) -> b
         written: &mut *space.written,
         work: &mut *space.work,
     };
-    sheet_home::is_moved(second, sheet, answer, &mut lent)
+    convert::memory::is_moved(second, sheet, answer, &mut lent)
 }
 
 // Whether the answer is what `order` writes for the two sheets. `second` is the table of the second one.
@@ -70,13 +70,13 @@ fn is_order(pair: OrderedPair<'_>, space: &mut Space, second: &mut [u8]) -> bool
     requires { word_count second.old ≡ table_words }
     ensures { result ≡ same pair.entry.answer.now (ordered_text pair.entry.first.now pair.entry.second.now) }
 {
-    let mut lent = sheet_order::Lent {
+    let mut lent = order_answer::memory::Lent {
         first: &mut *space.table,
         second: &mut *second,
         written: &mut *space.written,
         work: &mut *space.work,
     };
-    sheet_order::is_answer(pair.first, pair.second, pair.answer, &mut lent)
+    order_answer::memory::is_answer(pair.first, pair.second, pair.answer, &mut lent)
 }
 
 // One more sample.

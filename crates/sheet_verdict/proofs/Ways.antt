@@ -12,26 +12,26 @@ use Rattle.definition.specs.declared.Refusal.TheVariants.{NotARecord, OverALimit
 use Rattle.definition.specs.declared.SheetRefusal.{SheetRefusal}
 use Rattle.definition.specs.declared.SheetRefusal.TheVariants.{By}
 use Rattle.definition.specs.SheetForms.{is_second, tenth_test, job_in}
-use Rattle.layout.specs.declared.Layout.{Layout}
+use Rattle.job.specs.declared.Layout.{Layout}
 use Rattle.job.specs.Job.{raw_job}
 use Rattle.job_shape.specs.Shape.{Shaped}
 use Rattle.entry.specs.declared.Entered.{Entered}
 use Rattle.entry.specs.Number.{refusal_in}
-use Rattle.sheet_places.specs.Places.{table_words}
+use Rattle.sheet_rules.specs.Places.{table_words}
 use Rattle.sheet.specs.Machine.{Answer}
-use Rattle.sheet.specs.declared.SheetError.TheVariants.{Malformed, TooMany}
-use Rattle.sheet_form.specs.declared.Reading.{Reading}
-use Rattle.sheet_form.specs.Fronts.{front_at}
-use Rattle.sheet_form.specs.Front.{formed, open_form, second_of}
-use Rattle.sheet_form.specs.Stream.{Streamed}
-use Rattle.agree.specs.Words.{none_some}
-use Rattle.agree.specs.Agree.{all_bytes}
+use Rattle.sheet.specs.declared.first.SheetError.TheVariants.{Malformed, TooMany}
+use Rattle.sheet.specs.declared.either.Reading.{Reading}
+use Rattle.sheet.specs.Fronts.{front_at}
+use Rattle.sheet.specs.Front.{formed, open_form, second_of}
+use Rattle.sheet.specs.Stream.{Streamed}
+use Rattle.sheet_laws.specs.Words.{none_some}
+use Rattle.sheet_laws.specs.Agree.{all_bytes}
 use Rattle.sheet_job.specs.Fixed.{fixed_layout}
 use Rattle.sheet_job.specs.Answers.{alike_entry, accepted_same}
-use Rattle.sheet_read.specs.Laws.{said_of}
-use Rattle.sheet_read.specs.Read.{JobRead, ReadAs}
-use Rattle.sheet_read.specs.Answers.{table_job}
-use Rattle.sheet_read.specs.Verdict.{tenth_ok, verdict_read}
+use Rattle.sheet_verdict.specs.Laws.{said_of}
+use Rattle.sheet_verdict.specs.Read.{JobRead, ReadAs}
+use Rattle.sheet_verdict.specs.Answers.{table_job}
+use Rattle.sheet_verdict.specs.Verdict.{tenth_ok, verdict_read}
 use Rattle.sheet_verdict.specs.Leads.{front, none_read, crowd_read, read_as}
 use Rattle.sheet_verdict.specs.Judged.{implied_in, Ready, Tested, LeadsTo, Judged}
 

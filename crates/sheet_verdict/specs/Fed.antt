@@ -1,14 +1,14 @@
 -- A sheet that was fed to the reader leads to its state and its tables. Assumes nothing.
 use Rattle.std.specs.Prelude.{◌≡◌, true, false, List, ℕ, drop}
 use Rattle.std.proofs.Common.{ap, subst, ◌∙◌}
-use Rattle.sheet_places.specs.Places.{table_words}
-use Rattle.sheet_form.specs.declared.Reading.{Reading}
-use Rattle.sheet_form.specs.Front.{Formed, formed, run_form, open_form}
-use Rattle.sheet_form.specs.Stream.{Streamed}
-use Rattle.agree.specs.Agree.{all_bytes}
+use Rattle.sheet_rules.specs.Places.{table_words}
+use Rattle.sheet.specs.declared.either.Reading.{Reading}
+use Rattle.sheet.specs.Front.{Formed, formed, run_form, open_form}
+use Rattle.sheet.specs.Stream.{Streamed}
+use Rattle.sheet_laws.specs.Agree.{all_bytes}
 use Rattle.streams.specs.declared.Stream.{Stream}
 use Rattle.streams.specs.Tape.{is_tape, at_of}
-use Rattle.sheet_input.specs.Taken.{Taken, all_fed}
+use Rattle.sheet_verdict.specs.Taken.{Taken, all_fed}
 use Rattle.sheet_verdict.specs.Judged.{LeadsTo}
 
 -- the reader's tables have the words of all tables and of all written fields

@@ -6,15 +6,15 @@ use Rattle.definition.specs.Types.{Job}
 use Rattle.definition.specs.Entry.{entry}
 use Rattle.definition.specs.declared.SheetRefusal.{SheetRefusal}
 use Rattle.definition.specs.SheetForms.{sheet_number_of, as_implied, tenth_test, verdict, job_in}
-use Rattle.layout.specs.declared.Layout.{Layout}
+use Rattle.job.specs.declared.Layout.{Layout}
 use Rattle.job.specs.Job.{raw_job}
 use Rattle.entry.specs.declared.Entered.{Entered}
 use Rattle.entry.specs.Number.{refusal_in}
 use Rattle.entry.specs.Accepted.{Accepted, Prepared}
-use Rattle.sheet_places.specs.Places.{table_words}
-use Rattle.sheet_form.specs.declared.Reading.{Reading}
-use Rattle.sheet_form.specs.Front.{formed, run_form, open_form}
-use Rattle.agree.specs.Words.{Bytes}
+use Rattle.sheet_rules.specs.Places.{table_words}
+use Rattle.sheet.specs.declared.either.Reading.{Reading}
+use Rattle.sheet.specs.Front.{formed, run_form, open_form}
+use Rattle.sheet_laws.specs.Words.{Bytes}
 
 -- the number of a verdict; 0 for none
 abbrev pub verdict_number : Option SheetRefusal → ℕ

@@ -8,21 +8,21 @@ use Rattle.definition.specs.Text.{◌>>=◌}
 use Rattle.definition.specs.JobSheet.{Record, job_of_records}
 use Rattle.definition.specs.declared.SheetRefusal.TheVariants.{By}
 use Rattle.definition.specs.SheetForms.{is_second, verdict, job_in}
-use Rattle.sheet_places.specs.Places.{table_words}
+use Rattle.sheet_rules.specs.Places.{table_words}
 use Rattle.sheet.specs.Machine.{Answer}
-use Rattle.sheet.specs.declared.SheetError.TheVariants.{Malformed, TooMany}
-use Rattle.sheet_form.specs.declared.Reading.{Reading}
-use Rattle.sheet_form.specs.Fronts.{front_at}
-use Rattle.sheet_form.specs.Front.{Formed, second_of}
-use Rattle.agree.specs.Words.{none_some}
-use Rattle.agree.specs.Table.{Filled, fill, blank}
-use Rattle.agree.specs.Agree.{outcome}
-use Rattle.sheet_rows.specs.Sheets.{On, Sound}
+use Rattle.sheet.specs.declared.first.SheetError.TheVariants.{Malformed, TooMany}
+use Rattle.sheet.specs.declared.either.Reading.{Reading}
+use Rattle.sheet.specs.Fronts.{front_at}
+use Rattle.sheet.specs.Front.{Formed, second_of}
+use Rattle.sheet_laws.specs.Words.{none_some}
+use Rattle.sheet_laws.specs.Table.{Filled, fill, blank}
+use Rattle.sheet_laws.specs.Agree.{outcome}
+use Rattle.sheet_laws.specs.Sheets.{On, Sound}
 use Rattle.sheet_job.specs.Answers.{full, over_entry}
-use Rattle.form_agree.specs.Read.{bare_in, bare_in_sound, bare_in_job, forms_front}
-use Rattle.sheet_read.specs.Read.{ReadAs, sheet_table}
-use Rattle.sheet_read.specs.Laws.{said_of, Went, agreed, read_sheet}
-use Rattle.sheet_read.specs.Answers.{no_job, job_refused}
+use Rattle.sheet_laws.specs.Read.{bare_in, bare_in_sound, bare_in_job, forms_front}
+use Rattle.sheet_verdict.specs.Read.{ReadAs, sheet_table}
+use Rattle.sheet_verdict.specs.Laws.{said_of, Went, agreed, read_sheet}
+use Rattle.sheet_verdict.specs.Answers.{no_job, job_refused}
 use Rattle.sheet_verdict.specs.Judged.{LeadsTo}
 
 -- ---- the sheets that lead here

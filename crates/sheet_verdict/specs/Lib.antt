@@ -1,3 +1,9 @@
 pub mod Judged
 pub mod Leads
 pub mod Fed
+pub mod Read
+pub mod Laws
+pub mod Answers
+pub mod Verdict
+pub mod Passed
+pub mod Taken

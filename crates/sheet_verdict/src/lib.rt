@@ -4,19 +4,23 @@
 
 ghost use Rattle.std.specs.Prelude.{◌≡◌, ◌≤◌};
 ghost use Rattle.words.specs.Words.{word_count, words_of};
-ghost use Rattle.work_layout.specs.Regions.{max_work};
-ghost use Rattle.sheet_places.specs.Places.{table_words};
-ghost use Rattle.sheet_form.specs.Front.{formed, open_form};
-ghost use Rattle.sheet_form.specs.Stream.{Streamed};
+ghost use Rattle.job.specs.Regions.{max_work};
+ghost use Rattle.sheet_rules.specs.Places.{table_words};
+ghost use Rattle.sheet.specs.Front.{formed, open_form};
+ghost use Rattle.sheet.specs.Stream.{Streamed};
 ghost use Rattle.sheet_verdict.specs.Judged.{Tested, LeadsTo, Judged};
 
+pub mod input;
+pub mod read;
+pub mod written;
+
+use crate::written::Written;
 use definition::{Refusal, SheetRefusal};
 use entry::Entered;
+use job::Job;
 use job_shape::ShapedJob;
-use layout::Job;
-use sheet::SheetError;
-use sheet_form::Reading;
-use sheet_written::Written;
+use sheet::either::Reading;
+use sheet::first::SheetError;
 
 // Feeds the reader a whole sheet in memory: the state that the sheet leads to, with its tables.
 pub fn feed_sheet(sheet: &[u8], table: &mut [u8], written: &mut [u8]) -> Reading
@@ -25,8 +29,8 @@ pub fn feed_sheet(sheet: &[u8], table: &mut [u8], written: &mut [u8]) -> Reading
     ensures streamed { Streamed (open_form table_words 1536)
         (formed result (words_of table.new) (words_of written.new)) }
 {
-    let first = sheet_form::open(table, written);
-    sheet_form::feed(first, sheet, table, written)
+    let first = sheet::either::open(table, written);
+    sheet::either::feed(first, sheet, table, written)
 }
 
 // Tests 2 to 7 on the job of a table, then 10 where there are written fields.
@@ -48,7 +52,7 @@ fn judge_job(
                     job: shaped.job,
                     words,
                 };
-                if !sheet_written::as_implied(&written) {
+                if !crate::written::as_implied(&written) {
                     return Err(SheetRefusal::WrittenDiffers);
                 }
             }
@@ -70,12 +74,12 @@ pub fn judge(
     requires { Streamed (open_form table_words 1536) (formed cur (words_of table.now) (words_of written.now)) × (word_count table.now ≡ table_words) × (word_count written.now ≡ 1536) × (max_work ≤ word_count work.old) }
     ensures { Judged cur table.now (words_of written.now) (words_of work.new) result }
 {
-    match sheet_form::finish(cur) {
+    match sheet::either::finish(cur) {
         Ok(()) => {
             let lay = sheet_job::fixed_layout(table);
             let job = Job { bytes: table, lay };
             let shaped = ShapedJob { job };
-            judge_job(sheet_form::is_second(cur), &shaped, written, work)
+            judge_job(sheet::either::is_second(cur), &shaped, written, work)
         }
         Err(SheetError::Malformed) => Err(SheetRefusal::By(Refusal::NotARecord)),
         Err(SheetError::TooMany) => Err(SheetRefusal::By(Refusal::OverALimit)),

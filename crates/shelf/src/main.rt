@@ -8,14 +8,14 @@ mod row;
 
 ghost use Rattle.std.specs.Prelude.{◌≡◌, ◌+◌, ◌^◌, ◌≤◌, ◌<◌, length};
 ghost use Rattle.words.specs.Words.{word_count};
-ghost use Rattle.work_layout.specs.Regions.{max_work};
+ghost use Rattle.job.specs.Regions.{max_work};
 ghost use Rattle.lines.specs.Wrote.{Wrote};
-ghost use Rattle.sheet_places.specs.Places.{table_words};
+ghost use Rattle.sheet_rules.specs.Places.{table_words};
 ghost use Rattle.shelf.specs.Tallies.{tally_line, broken_line};
 
 use frames::NoFrame;
+use order_answer::memory::Lent;
 use row::Seen;
-use sheet_order::Lent;
 use std::io;
 use std::io::{Error, Stdin};
 use streams::{Noted, STDIN, Stream};
@@ -60,7 +60,7 @@ fn put(shelf: &mut Shelf, store: &[u8], n: usize, lent: &mut Lent)
 {
     let to = shelf.used + n;
     let sheet = &store[shelf.used..to];
-    if sheet_order::read_job(sheet, lent.first, lent.written, lent.work).is_err() {
+    if order_answer::memory::read_job(sheet, lent.first, lent.written, lent.work).is_err() {
         shelf.refused += 1;
         return;
     }

@@ -9,8 +9,8 @@ use lib.Ieee.{Float, binary32, of_bits, to_bits, add, mul, div, lt, of_int}
 use Rattle.definition.specs.Entry.{plain}
 use Rattle.definition.specs.Weights.{add_cost, min_f, normalized}
 use Rattle.definition.specs.RegInfo.{zero_f}
-use Rattle.floats.proofs.Bits.{bits_plain}
-use Rattle.spill_weight.specs.Costs.{weight_from}
+use Rattle.weights.proofs.Bits.{bits_plain}
+use Rattle.weights.specs.Costs.{weight_from}
 use Rattle.spill_weight_main.specs.Terms.{add_term, bits_from, cost_at, freq_at, sum_terms}
 
 -- ---- the calls

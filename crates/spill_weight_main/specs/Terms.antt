@@ -4,7 +4,7 @@ use Rattle.std.specs.Float.{binary32}
 use Rattle.std.specs.Float.Ieee.{of_bits, to_bits}
 use Rattle.definition.specs.RegInfo.{zero_f}
 use Rattle.definition.specs.Weights.{add_cost}
-use Rattle.spill_weight.specs.Costs.{weight_from}
+use Rattle.weights.specs.Costs.{weight_from}
 
 unfoldable pub add_term : Float → ℕ → ℕ → Float
 unfolding add_cost of_bits

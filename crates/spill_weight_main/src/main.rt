@@ -6,7 +6,7 @@ ghost use Rattle.definition.specs.RegInfo.{zero_f};
 ghost use Rattle.spill_weight_main.specs.Terms.{add_term, cost_at, sum_terms, bits_from};
 
 use definition::{Options, Remat, UseKind};
-use spill_weight::{Cost, MAX, Plain, Sum, add_use, base_cost};
+use weights::{Cost, MAX, Plain, Sum, add_use, base_cost};
 
 // One use more, by the bits of its cost and its block's frequency.
 fn add_term(sum: Sum, cost: u32, freq: u32) -> Sum
@@ -14,12 +14,12 @@ fn add_term(sum: Sum, cost: u32, freq: u32) -> Sum
     ensures { result.value ≡ add_term sum.value cost freq }
 {
     let cost = Plain {
-        value: floats::float_of(cost),
+        value: weights::floats::float_of(cost),
     };
     let freq = Plain {
-        value: floats::float_of(freq),
+        value: weights::floats::float_of(freq),
     };
-    spill_weight::add_cost(sum, cost, freq)
+    weights::add_cost(sum, cost, freq)
 }
 
 // The bits of the weight of one use.
@@ -28,7 +28,7 @@ fn one_term(cost: u32, freq: u32, insts: u32, spillslots: bool) -> u32
     ensures { result ≡ bits_from (add_term zero_f cost freq) insts 0 spillslots }
 {
     let sum = add_term(Sum::zero(), cost, freq);
-    floats::bits_of(spill_weight::weight(sum, insts, 0, spillslots))
+    weights::floats::bits_of(weights::weight(sum, insts, 0, spillslots))
 }
 
 // The bits of the cost of use i of a hundred: zero for one in thirteen.
@@ -68,13 +68,13 @@ fn singles() {
 
 // The entry rules at their bounds, and the lesser of two patterns.
 fn patterns() {
-    check::expect(floats::is_plain(0x7f7fffff));
-    check::expect(!floats::is_plain(0x7f800000));
-    check::expect(!floats::is_plain(0x80000000));
-    check::expect(floats::is_small(0x49800000));
-    check::expect(!floats::is_small(0x49800001));
-    check::expect(floats::lesser_bits(0x7f800000, 0x3f000000) == 0x3f000000);
-    check::expect(floats::lesser_bits(0x00000001, 0x7f7fffff) == 0x00000001);
+    check::expect(weights::floats::is_plain(0x7f7fffff));
+    check::expect(!weights::floats::is_plain(0x7f800000));
+    check::expect(!weights::floats::is_plain(0x80000000));
+    check::expect(weights::floats::is_small(0x49800000));
+    check::expect(!weights::floats::is_small(0x49800001));
+    check::expect(weights::floats::lesser_bits(0x7f800000, 0x3f000000) == 0x3f000000);
+    check::expect(weights::floats::lesser_bits(0x00000001, 0x7f7fffff) == 0x00000001);
 }
 
 // A scaled cost, one that comes out as zero, and the cost of a conflict.
@@ -89,23 +89,23 @@ fn scales() {
     let cost = Cost { value: 3.1415927 };
     let seven = Plain { value: 7.0 };
     let scaled = add_use(tenth, options, Remat::CheaperThanMove, cost, seven);
-    check::expect(floats::bits_of(scaled.value) == 0x401324b2);
-    let least = floats::float_of(0x00000001);
+    check::expect(weights::floats::bits_of(scaled.value) == 0x401324b2);
+    let least = weights::floats::float_of(0x00000001);
     let tiny = Cost { value: least };
     let most = Plain { value: MAX };
     let skipped = add_use(tenth, options, Remat::CheaperThanLoad, tiny, most);
-    check::expect(floats::bits_of(skipped.value) == 0x3dcccccd);
+    check::expect(weights::floats::bits_of(skipped.value) == 0x3dcccccd);
     let free = Cost { value: 0.0 };
     let conflict = base_cost(UseKind::ConstraintConflict, free, false);
     let one = Plain { value: 1.0 };
     let used = add_use(Sum::zero(), options, Remat::Indirect, conflict, one);
-    check::expect(floats::bits_of(used.value) == 0x3f000000);
+    check::expect(weights::floats::bits_of(used.value) == 0x3f000000);
 }
 
 // A hundred uses: another order, a sum in f64 or fused products give other bits.
 fn main() {
     let sum = sum_terms(100);
-    check::expect(floats::bits_of(spill_weight::weight(sum, 37, 5, false)) == 0x3f1412d1);
+    check::expect(weights::floats::bits_of(weights::weight(sum, 37, 5, false)) == 0x3f1412d1);
     singles();
     patterns();
     scales();

@@ -21,12 +21,12 @@ use Rattle.definition.specs.declared.Side.{Side}
 use Rattle.definition.specs.declared.Side.TheVariants.{Early, Late}
 use Rattle.definition.specs.SplitPlacement.{side_of}
 use Rattle.definition.specs.CutMoves.{first_open, last_open}
-use Rattle.floats.proofs.Bits.{lt_bits, bits_plain}
+use Rattle.weights.proofs.Bits.{lt_bits, bits_plain}
 use Rattle.function.specs.Blocks.{start_of, block_of, block_at}
 use Rattle.function.specs.BlockLaws.{start_next, start_mono, block_filled, block_passes, each_passes, all_pass}
 use Rattle.function.specs.BlockLaws.{Holding, block_holds, holding_frequency}
-use Rattle.block_starts.specs.declared.table.BlockStarts.{BlockStarts}
-use Rattle.block_starts.specs.Table.{words_in, Encodes}
+use Rattle.function.specs.declared.starts.table.BlockStarts.{BlockStarts}
+use Rattle.function.specs.Table.{words_in, Encodes}
 use Rattle.split_placement.specs.Places.{OpenPlace, judged, next, start, last, end, bits_in, least}
 use Rattle.split_placement.proofs.Wins.{Before, one_wins}
 use Rattle.split_placement.proofs.Folds.{Wanted, not_both}

@@ -5,3 +5,14 @@ pub mod Rules
 pub mod Sides
 pub mod Walks
 pub mod Chosen
+pub mod Choice
+pub mod Edge
+pub mod Table
+pub mod Place
+pub mod Changed
+pub mod Moved
+pub mod Sorted
+pub mod Listed
+pub mod Rows
+pub mod Promises
+pub mod Leaves

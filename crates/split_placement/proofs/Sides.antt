@@ -23,7 +23,7 @@ use Rattle.definition.specs.Entry.{function_ok, function_tests, plain}
 use Rattle.definition.proofs.Places.{all_get_d, all_map}
 use Rattle.definition.proofs.Entries.{every_all, conj_all, lowest_none}
 use Rattle.definition.proofs.Moves.{CutAt, pos_at, side_at, move_cut}
-use Rattle.floats.proofs.Bits.{le_not_lt, small_plain}
+use Rattle.weights.proofs.Bits.{le_not_lt, small_plain}
 use Rattle.split_placement.specs.Places.{LeastOpen}
 use Rattle.split_placement.proofs.Rules.{early_rule, late_rule}
 

@@ -1,1 +1,4 @@
 pub mod Places
+pub mod Margins
+pub mod Promised
+pub mod Table

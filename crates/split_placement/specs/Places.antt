@@ -7,8 +7,8 @@ use Rattle.definition.specs.declared.Side.{Side}
 use Rattle.definition.specs.declared.Side.TheVariants.{Early, Late}
 use Rattle.definition.specs.SplitPlacement.{freq_at}
 use Rattle.function.specs.Blocks.{start_of}
-use Rattle.block_starts.specs.declared.table.BlockStarts.{BlockStarts}
-use Rattle.block_starts.specs.Table.{words_in}
+use Rattle.function.specs.declared.starts.table.BlockStarts.{BlockStarts}
+use Rattle.function.specs.Table.{words_in}
 
 -- ---- the open places
 

@@ -7,11 +7,13 @@ ghost use Rattle.definition.specs.declared.BlockData.{BlockData};
 ghost use Rattle.definition.specs.Entry.{insts_of};
 ghost use Rattle.definition.specs.CutMoves.{last_open};
 ghost use Rattle.definition.specs.SplitPlacement.{side_of};
-ghost use Rattle.block_starts.specs.Table.{Encodes};
+ghost use Rattle.function.specs.Table.{Encodes};
 ghost use Rattle.split_placement.specs.Places.{bits_in, ahead, least};
 
-use block_starts::BlockStarts;
+pub mod margins;
+
 use definition::{Block, Inst, Side};
+use function::starts::BlockStarts;
 
 // The block that judges a place: early, that of the instruction there; late, that of the one before it.
 pub fn judging(t: &BlockStarts, place: Inst, side: Side) -> Block
@@ -20,8 +22,8 @@ pub fn judging(t: &BlockStarts, place: Inst, side: Side) -> Block
         → place.0 < insts_of bs → result.0 ≡ last_open side bs place.0) }
 {
     match side {
-        Side::Early => block_starts::block_of(t, place),
-        Side::Late => block_starts::block_of(t, Inst(place.0 - 1)),
+        Side::Early => function::starts::block_of(t, place),
+        Side::Late => function::starts::block_of(t, Inst(place.0 - 1)),
     }
 }
 
@@ -30,8 +32,8 @@ fn lower(t: &BlockStarts, a: Block, b: Block, side: Side) -> Block
     requires { (a.0 ≤ t.now.n) × (b.0 ≤ t.now.n) }
     ensures { result.0 ≡ ahead side (bits_in t.now) a.0 b.0 }
 {
-    let x = block_starts::bits_at(t, a);
-    let y = block_starts::bits_at(t, b);
+    let x = function::starts::bits_at(t, a);
+    let y = function::starts::bits_at(t, b);
     match side {
         Side::Early => { if y < x { b } else { a } }
         Side::Late => { if x < y { a } else { b } }
@@ -67,8 +69,8 @@ pub fn cut(t: &BlockStarts, after: Inst, before: Inst, side: Side) -> Inst
     let best = least(t, from, to, side);
     match side {
         Side::Early if best == from => next,
-        Side::Early => block_starts::start_at(t, best),
+        Side::Early => function::starts::start_at(t, best),
         Side::Late if best == to => before,
-        Side::Late => block_starts::start_at(t, Block(best.0 + 1)),
+        Side::Late => function::starts::start_at(t, Block(best.0 + 1)),
     }
 }

@@ -4,13 +4,13 @@ use Prim.Native.Nat.{ℕ, ◌+◌, ◌≤◌, ◌<◌}
 use native.Mathlib.Omega.{arith}
 use mathlib.Core.List.{List}
 use lib.ListN.{length}
-use Rattle.layout.specs.declared.Layout.{Layout}
+use Rattle.job.specs.declared.Layout.{Layout}
 use Rattle.set_part.specs.declared.SetPart.{SetPart}
 use Rattle.set_part.proofs.Bounds.{first_le_end}
 use Rattle.set_cuts.specs.declared.Parts.{Parts}
 use Rattle.set_cuts.proofs.Kept.{Sides}
 use Rattle.turned.specs.declared.TurnedRow.{TurnedRow}
-use Rattle.work_layout.specs.declared.WorkLayout.{WorkLayout}
+use Rattle.job.specs.declared.work.WorkLayout.{WorkLayout}
 use Rattle.constraints.specs.Ready.{Ready}
 use Rattle.constraints.proofs.Kept.{ready_kept}
 use Rattle.part_maps.specs.Maps.{MapApart, Outside}

@@ -4,8 +4,8 @@ use Prim.Native.Nat.{ℕ, ◌+◌, ◌-◌, ◌*◌, ◌<◌}
 use native.Mathlib.Omega.{arith}
 use mathlib.Core.List.{List, [], ◌∷◌}
 use lib.ListN.{length, get_or}
-use Rattle.rows.specs.Tab.{tab, tab_ext}
-use Rattle.rows.specs.RowsAt.{rows_at}
+use Rattle.words.specs.Tab.{tab, tab_ext}
+use Rattle.words.specs.RowsAt.{rows_at}
 use Rattle.definition.specs.declared.Hint.{Hint}
 use Rattle.definition.specs.declared.Inst.{Inst}
 use Rattle.definition.specs.declared.RegClass.{RegClass}
@@ -21,7 +21,7 @@ use Rattle.definition.proofs.Cuts.{cut_uses}
 use Rattle.definition.proofs.Places.{All}
 use Rattle.definition.proofs.Fuel.{cut_between, cut_falls}
 use Rattle.hints.specs.Hints.{hint_at}
-use Rattle.layout.specs.declared.Layout.{Layout}
+use Rattle.job.specs.declared.Layout.{Layout}
 use Rattle.job.specs.Job.{job_by, job_of}
 use Rattle.set_part.specs.declared.SetPart.{SetPart}
 use Rattle.set_part.specs.Part.{PartOk, part_segs}
@@ -33,7 +33,7 @@ use Rattle.set_cuts.specs.Cut.{cut_part}
 use Rattle.set_cuts.proofs.Sides.{cut_left, cut_right}
 use Rattle.set_cuts.proofs.Kept.{Sides, cut_sides}
 use Rattle.virt_regs.specs.Each.{Each}
-use Rattle.work_layout.specs.declared.WorkLayout.{WorkLayout}
+use Rattle.job.specs.declared.work.WorkLayout.{WorkLayout}
 use Rattle.part_maps.specs.Maps.{MapApart, Outside}
 use Rattle.part_maps.proofs.Kept.{ready_kept}
 use Rattle.conflict_piece.specs.Conflict.{row_use, turned_row_at, turned_rows_of, RowsOk}

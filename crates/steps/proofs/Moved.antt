@@ -3,8 +3,8 @@ use mathlib.Core.Path.{◌≡◌, sym, ap, subst, ◌∙◌}
 use Prim.Native.Nat.{ℕ, ◌-◌, ◌*◌, ◌≤◌, ◌<◌}
 use native.Mathlib.Omega.{arith}
 use mathlib.Core.List.{List}
-use Rattle.rows.specs.Tab.{tab}
-use Rattle.rows.specs.RowsAt.{rows_at}
+use Rattle.words.specs.Tab.{tab}
+use Rattle.words.specs.RowsAt.{rows_at}
 use Rattle.definition.specs.declared.Inst.{Inst}
 use Rattle.definition.specs.declared.RegClass.{RegClass}
 use Rattle.definition.specs.declared.Stop.{Stop}
@@ -16,7 +16,7 @@ use Rattle.definition.specs.Admit.{whole, turn, cut, halt, move, scan, through, 
 use Rattle.definition.specs.Place.{uses_of}
 use Rattle.definition.proofs.Fits.{SegsFit}
 use Rattle.hints.specs.Hints.{hint_at}
-use Rattle.layout.specs.declared.Layout.{Layout}
+use Rattle.job.specs.declared.Layout.{Layout}
 use Rattle.job.specs.Job.{job_by, job_of}
 use Rattle.set_part.specs.declared.SetPart.{SetPart}
 use Rattle.set_part.specs.Part.{PartOk, marked_use, part_segs}

@@ -7,13 +7,13 @@ use mathlib.Core.Bool.{Bool, true, false, cond}
 use mir.Val.{bool_byte}
 use mathlib.Core.List.{List, [], ◌∷◌}
 use lib.ListN.{set}
-use Rattle.rows.specs.Parts.{splice}
-use Rattle.layout.specs.declared.Layout.{Layout}
+use Rattle.words.specs.Parts.{splice}
+use Rattle.job.specs.declared.Layout.{Layout}
 use Rattle.set_part.specs.declared.SetPart.{SetPart}
 use Rattle.set_part.specs.Part.{PartOk}
 use Rattle.turned.specs.declared.TurnedRow.{TurnedRow}
 use Rattle.turned.specs.Turned.{turned_row}
-use Rattle.work_layout.specs.declared.WorkLayout.{WorkLayout}
+use Rattle.job.specs.declared.work.WorkLayout.{WorkLayout}
 use Rattle.steps.specs.Turns.{turned_words, turned_once, TurnRoom}
 use Rattle.steps.proofs.Turn.{row_number}
 

@@ -9,8 +9,8 @@ use lib.Dec.{eqb}
 use lib.ListN.{length, get_or, set, length-set}
 use lib.Seq.{get_or-set_other}
 use borrow.Author.Tests.{eqb-true}
-use Rattle.rows.specs.Tab.{tab, tab_snoc, tab_ext}
-use Rattle.rows.specs.Parts.{splice, length_splice, get_or_splice_before, get_or_splice_in}
+use Rattle.words.specs.Tab.{tab, tab_snoc, tab_ext}
+use Rattle.words.specs.Parts.{splice, length_splice, get_or_splice_before, get_or_splice_in}
 use Rattle.definition.specs.declared.Use.{Use}
 use Rattle.definition.specs.Types.{Job, State, Segment, Turned}
 use Rattle.definition.specs.Uses.{is_class_use}
@@ -20,7 +20,7 @@ use Rattle.definition.proofs.Moves.{ClassAt}
 use Rattle.definition.proofs.Counts.{class_uses_at, class_uses_turn, uses_turn}
 use Rattle.definition.proofs.Fits.{turn_fit}
 use Rattle.uses.specs.Rows.{use_row}
-use Rattle.layout.specs.declared.Layout.{Layout}
+use Rattle.job.specs.declared.Layout.{Layout}
 use Rattle.job.specs.Job.{job_of}
 use Rattle.set_part.specs.declared.SetPart.{SetPart}
 use Rattle.set_part.specs.Part.{PartOk, part_segs, marked_use}
@@ -32,7 +32,7 @@ use Rattle.turned.proofs.Marks.{turn_part}
 use Rattle.turned.proofs.Kept.{kept_part}
 use Rattle.virt_regs.specs.declared.OutLayout.{OutLayout}
 use Rattle.virt_regs.specs.Each.{Each}
-use Rattle.work_layout.specs.declared.WorkLayout.{WorkLayout}
+use Rattle.job.specs.declared.work.WorkLayout.{WorkLayout}
 use Rattle.constraints.specs.Ready.{Ready, Stands}
 use Rattle.constraints.proofs.Kept.{Same, ready_kept, stands_kept}
 use Rattle.part_maps.specs.Maps.{MapApart}

@@ -1,8 +1,8 @@
 -- What the steps over a working part leave as it was. Assumes nothing.
 use Rattle.std.specs.Prelude.{◌≡◌, List, ℕ, ◌+◌, ◌*◌, ◌≤◌, ◌<◌, length, get_or}
-use Rattle.layout.specs.declared.Layout.{Layout}
+use Rattle.job.specs.declared.Layout.{Layout}
 use Rattle.set_part.specs.declared.SetPart.{SetPart}
-use Rattle.work_layout.specs.declared.WorkLayout.{WorkLayout}
+use Rattle.job.specs.declared.work.WorkLayout.{WorkLayout}
 
 -- K' is K but for the mapping, the marks of the part's uses, and the turned rows from row n on
 pub record Changed (lay : Layout) (wl : WorkLayout) (sp : SetPart) (n : ℕ) (K K' : List ℕ) : Type 0 where

@@ -1,6 +1,6 @@
 -- What the steps over a working part need of the slices. Assumes nothing.
 use Rattle.std.specs.Prelude.{ℕ, ◌+◌, ◌≤◌, ◌≡◌, true, List}
-use Rattle.rows.specs.RowsAt.{rows_at}
+use Rattle.words.specs.RowsAt.{rows_at}
 use Rattle.definition.specs.declared.Use.{Use}
 use Rattle.definition.specs.Types.{Job, Segment}
 use Rattle.definition.specs.Entry.{chained, not_after}
@@ -9,12 +9,12 @@ use Rattle.definition.specs.Build.{class_uses}
 use Rattle.definition.proofs.Fits.{SegsFit}
 use Rattle.definition.proofs.Admission.{KindFits}
 use Rattle.hints.specs.Hints.{hint_at}
-use Rattle.layout.specs.declared.Layout.{Layout}
+use Rattle.job.specs.declared.Layout.{Layout}
 use Rattle.job.specs.Job.{job_of}
 use Rattle.set_part.specs.declared.SetPart.{SetPart}
 use Rattle.set_part.specs.Part.{PartOk, part_segs}
 use Rattle.virt_regs.specs.Each.{Each}
-use Rattle.work_layout.specs.declared.WorkLayout.{WorkLayout}
+use Rattle.job.specs.declared.work.WorkLayout.{WorkLayout}
 use Rattle.constraints.specs.Ready.{Ready}
 use Rattle.part_maps.specs.Maps.{MapApart}
 use Rattle.conflict_piece.specs.Conflict.{RowsOk}

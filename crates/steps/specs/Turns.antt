@@ -1,9 +1,9 @@
 -- A use turned on tables: its row kept, and its mark. Assumes nothing.
 use Rattle.std.specs.Prelude.{ℕ, ◌+◌, ◌*◌, ◌≤◌, cond, is_some, unwrap_or, List, [], ◌∷◌, set}
-use Rattle.rows.specs.Parts.{splice}
-use Rattle.layout.specs.declared.Layout.{Layout}
+use Rattle.words.specs.Parts.{splice}
+use Rattle.job.specs.declared.Layout.{Layout}
 use Rattle.turned.specs.declared.TurnedRow.{TurnedRow}
-use Rattle.work_layout.specs.declared.WorkLayout.{WorkLayout}
+use Rattle.job.specs.declared.work.WorkLayout.{WorkLayout}
 
 -- value, use number, whether it has a parameter, the parameter
 unfoldable pub turned_words : TurnedRow → List ℕ

@@ -2,10 +2,10 @@
 #![tactic(auto)]
 
 ghost use Rattle.std.specs.Prelude.{◌≡◌, true, ◌+◌, ◌-◌, ◌*◌, ◌≤◌, ◌<◌};
-ghost use Rattle.rows.specs.Parts.{splice};
-ghost use Rattle.rows.specs.RowsAt.{rows_at};
+ghost use Rattle.words.specs.Parts.{splice};
+ghost use Rattle.words.specs.RowsAt.{rows_at};
 ghost use Rattle.words.specs.Words.{word_count, words_of};
-ghost use Rattle.layout.specs.JobWords.{words_in};
+ghost use Rattle.job.specs.JobWords.{words_in};
 ghost use Rattle.definition.specs.Types.{State};
 ghost use Rattle.definition.specs.Entry.{chained, not_after};
 ghost use Rattle.definition.specs.Cuts.{left_cut};

@@ -15,7 +15,7 @@ fn main(rt: HostRuntime) -> io::Result<()> {
     }
     let mut source = Noted::new(rt.stdin());
     let mut sink = Noted::new(rt.stdout());
-    let end = convert_run::convert_input(true, &mut source, &mut sink);
+    let end = convert::run::convert_input(true, &mut source, &mut sink);
     let unread = "the job sheet could not be read, and nothing is answered";
     let unwritten = "the job sheet could not be written, and is cut";
     streams::tell(

@@ -7,13 +7,13 @@ use native.Mathlib.Nat.{add-zero}
 use native.Mathlib.Omega.{arith}
 use lib.ListN.{length, get_or}
 use borrow.Author.Tests.{lt-ltb, le-ltb}
-use Rattle.rows.specs.Tab.{tab, get_or_tab}
+use Rattle.words.specs.Tab.{tab, get_or_tab}
 use Rattle.definition.specs.declared.Inst.{Inst}
 use Rattle.definition.specs.declared.Use.{Use}
 use Rattle.definition.specs.Types.{Segment, Turned}
 use Rattle.definition.specs.Admit.{no_use}
 use Rattle.definition.specs.Build.{param_at, turned_of, turned_at}
-use Rattle.layout.specs.declared.Layout.{Layout}
+use Rattle.job.specs.declared.Layout.{Layout}
 use Rattle.set_part.specs.declared.SetPart.{SetPart}
 use Rattle.set_part.specs.declared.PartSeg.{PartSeg}
 use Rattle.set_part.specs.Part.{use_bound, part_row, marked_use, seg_by, part_segs, PartOk}

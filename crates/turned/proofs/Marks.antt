@@ -8,12 +8,12 @@ use lib.Dec.{ltb, eqb}
 use lib.ListN.{length, get_or, set}
 use lib.Seq.{get_or-set_same, get_or-set_other}
 use borrow.Author.Tests.{lt-ltb, le-ltb, ltb-true, ltb-false}
-use Rattle.rows.specs.Tab.{tab, length_tab, tab_ext}
+use Rattle.words.specs.Tab.{tab, length_tab, tab_ext}
 use Rattle.definition.specs.declared.Use.{Use}
 use Rattle.definition.specs.Types.{Segment}
 use Rattle.definition.specs.Build.{turned_use, with_uses, turn_in, turn_at}
 use Rattle.uses.specs.Rows.{use_row}
-use Rattle.layout.specs.declared.Layout.{Layout}
+use Rattle.job.specs.declared.Layout.{Layout}
 use Rattle.set_part.specs.declared.SetPart.{SetPart}
 use Rattle.set_part.specs.declared.PartSeg.{PartSeg}
 use Rattle.set_part.specs.Part.{use_bound, part_row, marked_use, seg_by, part_segs, PartOk}

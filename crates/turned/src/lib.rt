@@ -3,13 +3,13 @@
 
 ghost use Rattle.std.specs.Prelude.{◌≡◌, ◌+◌, ◌≤◌, ◌<◌, set};
 ghost use Rattle.words.specs.Words.{word_count, words_of};
-ghost use Rattle.layout.specs.JobWords.{words_in};
+ghost use Rattle.job.specs.JobWords.{words_in};
 ghost use Rattle.definition.specs.Uses.{param_of};
 ghost use Rattle.set_part.specs.Part.{PartOk, marked_use};
 ghost use Rattle.turned.specs.Turned.{coded, param_here, holder, turned_row};
 
 use definition::{Inst, Use, UseKind, Value};
-use layout::Job;
+use job::Job;
 use set_part::SetPart;
 
 // What is kept of a turned use: its value, its number, and the block parameter, if there is one, that its list begins with at its instruction.

@@ -8,18 +8,18 @@ use lib.Dec.{T}
 use lib.ListN.{get_or}
 use lib.Ieee.{binary32, of_bits}
 use borrow.Author.Tests.{leb-true}
-use Rattle.rows.specs.RowsAt.{get_or_rows_at}
+use Rattle.words.specs.RowsAt.{get_or_rows_at}
 use Rattle.definition.specs.declared.ClassData.{ClassData}
 use Rattle.definition.specs.Types.{cls}
 use Rattle.definition.specs.RegInfo.{no_class, class_at}
 use Rattle.definition.specs.Entry.{small, entry}
 use Rattle.definition.proofs.Entries.{accepted_adjust}
-use Rattle.floats.proofs.Bits.{small_test}
-use Rattle.spill_weight.specs.Costs.{PlainJob}
-use Rattle.spill_weight.proofs.Sums.{accepted_plain}
+use Rattle.weights.proofs.Bits.{small_test}
+use Rattle.weights.specs.Costs.{PlainJob}
+use Rattle.weights.proofs.Sums.{accepted_plain}
 use Rattle.reginfo.specs.Rows.{class_row, classes_at}
-use Rattle.layout.specs.declared.Layout.{Layout}
-use Rattle.layout.specs.Layout.{options_row}
+use Rattle.job.specs.declared.Layout.{Layout}
+use Rattle.job.specs.Layout.{options_row}
 use Rattle.job.specs.Job.{job_by, job_of}
 use Rattle.use_costs.specs.Book.{SmallBook}
 

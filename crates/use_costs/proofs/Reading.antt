@@ -9,7 +9,7 @@ use lib.Dec.{T}
 use lib.ListN.{length, get_or}
 use lib.Ieee.{Float, binary32, of_bits}
 use borrow.Author.Tests.{le-leb}
-use Rattle.rows.specs.RowsAt.{rows_at, get_or_rows_at, length_rows_at}
+use Rattle.words.specs.RowsAt.{rows_at, get_or_rows_at, length_rows_at}
 use Rattle.definition.specs.declared.PhysReg.{PhysReg}
 use Rattle.definition.specs.declared.RegClass.{RegClass}
 use Rattle.definition.specs.declared.Value.{Value}
@@ -20,12 +20,12 @@ use Rattle.definition.specs.declared.Remat.TheVariants.{Never}
 use Rattle.definition.specs.RegInfo.{no_class, no_value, class_at, value_at}
 use Rattle.definition.specs.Entry.{insts_of, plain, small}
 use Rattle.std.proofs.Math.ListN.{get_or-eq_default}
-use Rattle.floats.proofs.Bits.{small_test, bits_plain}
+use Rattle.weights.proofs.Bits.{small_test, bits_plain}
 use Rattle.reginfo.specs.Rows.{class_row, memory_row, classes_at}
-use Rattle.coalescing.specs.Rows.{value_row, values_at}
+use Rattle.values.specs.ValueRows.{value_row, values_at}
 use Rattle.function.specs.Blocks.{Starts, block_of, start_of}
 use Rattle.function.specs.BlockLaws.{block_found}
-use Rattle.layout.specs.declared.Layout.{Layout}
+use Rattle.job.specs.declared.Layout.{Layout}
 use Rattle.job.specs.Job.{job_by, job_of}
 use Rattle.use_costs.specs.Book.{SmallBook}
 

@@ -1,6 +1,6 @@
 -- What the entry rules say of the words of a job that weights are made from: costs and scales at most 2^20, by their bits, and k at most 65535. Assumes nothing.
 use Rattle.std.specs.Prelude.{ℕ, ◌+◌, ◌*◌, ◌≤◌, ◌<◌, List, get_or}
-use Rattle.layout.specs.declared.Layout.{Layout}
+use Rattle.job.specs.declared.Layout.{Layout}
 
 pub record SmallBook (W : List ℕ) (lay : Layout) : Type 0 where
   pub adjust : get_or W lay.opts 0 ≤ 65535

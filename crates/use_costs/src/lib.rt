@@ -4,21 +4,21 @@
 ghost use Rattle.std.specs.Prelude.{◌≡◌, false, List, ◌+◌, ◌*◌, ◌≤◌, ◌<◌, T, get_or};
 ghost use Rattle.std.specs.Float.{binary32};
 ghost use Rattle.std.specs.Float.Ieee.{of_bits};
-ghost use Rattle.layout.specs.JobWords.{words_in};
+ghost use Rattle.job.specs.JobWords.{words_in};
 ghost use Rattle.definition.specs.declared.BlockData.{BlockData};
 ghost use Rattle.definition.specs.RegInfo.{class_at, value_at};
 ghost use Rattle.definition.specs.Uses.{cost_of};
 ghost use Rattle.definition.specs.Entry.{insts_of, small};
 ghost use Rattle.function.specs.Blocks.{block_of};
-ghost use Rattle.block_starts.specs.Table.{Encodes};
-ghost use Rattle.block_starts.specs.Table as table;
+ghost use Rattle.function.specs.Table.{Encodes};
+ghost use Rattle.function.specs.Table as table;
 ghost use Rattle.job.specs.Job.{job_in};
 ghost use Rattle.use_costs.specs.Book.{SmallBook};
 
-use block_starts::BlockStarts;
 use definition::{Block, ClassData, Inst, PhysReg, RegClass, Remat, UseKind, Value};
-use layout::Job;
-use spill_weight::{Cost, Plain, fixed_cost};
+use function::starts::BlockStarts;
+use job::Job;
+use weights::{Cost, Plain, fixed_cost};
 
 // Class c; an unknown class costs nothing. That its cost is small stays a clause: `ClassData` is the definition's type,
 // whose cost is a number as a table has it. That the book is small is one too: a struct with that fact would be made at four
@@ -65,7 +65,7 @@ pub fn remat_at(job: &Job, v: Value) -> Remat
     let n = lay.values.n;
     let at = lay.values.at;
     if k < n {
-        let d = coalescing::value_at(job.bytes, at + k * 3);
+        let d = values::value_at(job.bytes, at + k * 3);
         return d.remat;
     }
     Remat::Never
@@ -107,11 +107,11 @@ pub fn block_near(t: &BlockStarts, b: Block, inst: Inst) -> Block
     ensures { (result.0 < t.now.n)
         × ((bs : List BlockData) → Encodes t.now bs → inst.0 < insts_of bs → result.0 ≡ block_of bs inst.0) }
 {
-    let from = block_starts::start_at(t, b);
-    if from <= inst && inst < block_starts::start_at(t, Block(b.0 + 1)) {
+    let from = function::starts::start_at(t, b);
+    if from <= inst && inst < function::starts::start_at(t, Block(b.0 + 1)) {
         b
     } else {
-        block_starts::block_of(t, inst)
+        function::starts::block_of(t, inst)
     }
 }
 
@@ -120,6 +120,6 @@ pub fn frequency_of(t: &BlockStarts, b: Block) -> Plain
     requires { (b.0 ≤ t.now.n) × (get_or (table.words_in t.now) (t.now.at + b.0 * 2 + 1) 0 < 0x7f80_0000) }
     ensures { result.value ≡ of_bits binary32 (get_or (table.words_in t.now) (t.now.at + b.0 * 2 + 1) 0) }
 {
-    let value = floats::float_of(block_starts::bits_at(t, b));
+    let value = weights::floats::float_of(function::starts::bits_at(t, b));
     Plain { value }
 }

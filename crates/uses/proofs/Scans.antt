@@ -7,7 +7,7 @@ use native.Mathlib.Omega.{arith}
 use lib.Dec.{ltb}
 use lib.ListN.{length, get_or, take, drop}
 use borrow.Author.Tests.{le-ltb, lt-ltb}
-use Rattle.rows.specs.RowsAt.{rows_at, rows_at_start, rows_at_more, rows_at_done}
+use Rattle.words.specs.RowsAt.{rows_at, rows_at_start, rows_at_more, rows_at_done}
 use Rattle.definition.specs.declared.Inst.{Inst}
 use Rattle.definition.specs.declared.Use.{Use}
 use Rattle.definition.specs.Cuts.{uses_before, uses_from}

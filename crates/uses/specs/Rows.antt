@@ -1,8 +1,8 @@
 -- The rows of a use table. Assumes nothing.
 use Rattle.std.specs.Prelude.{ℕ, ◌+◌, ◌%◌, Bool, true, false, ◌&&◌, Option, Some, None, List, eqb, ltb, get_or}
-use Rattle.rows.specs.RowsAt.{rows_at}
-use Rattle.word_rows.specs.declared.lent.Rows.{Rows}
-use Rattle.word_rows.specs.Rows.{row_words}
+use Rattle.words.specs.RowsAt.{rows_at}
+use Rattle.words.specs.declared.rows.lent.Rows.{Rows}
+use Rattle.words.specs.Rows.{row_words}
 use Rattle.definition.specs.declared.PhysReg.{PhysReg}
 use Rattle.definition.specs.declared.Use.{Use}
 use Rattle.definition.specs.declared.UseKind.{UseKind}

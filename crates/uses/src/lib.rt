@@ -8,8 +8,10 @@ ghost use Rattle.definition.specs.Uses.{is_def, is_class_use, end_slot, end_poin
 ghost use Rattle.definition.specs.Cuts.{uses_before};
 ghost use Rattle.uses.specs.Rows.{kind_of, use_row, uses_in, typed_kind, fit, decoded_row};
 
+pub mod lists;
+
 use definition::{Inst, LiveRangePoint, PhysReg, RegClass, Use, UseKind};
-use word_rows::{Rows, word_of};
+use words::rows::{Rows, word_of};
 
 // The kind from its number and its four fields. Fields are taken modulo their UseKind types; a number above 9 is no kind and gives a conflict.
 // The number is a lent word and may be any: an enum of kinds would first be made of it, by this same match.

@@ -7,7 +7,7 @@ use Rattle.words.specs.Words.{words_of}
 use Rattle.words.specs.Laws.{words_part}
 use Rattle.definition.specs.declared.VirtReg.{VirtReg}
 use Rattle.virt_regs.specs.declared.OutLayout.{OutLayout}
-use Rattle.rows.specs.Part.{part}
+use Rattle.words.specs.Part.{part}
 use Rattle.virt_regs.specs.Encoding.{seg_base}
 use Rattle.virt_regs.specs.Reads.{segments_in}
 

@@ -1,7 +1,7 @@
 -- How many pieces and uses there are, and the running values of the rows. Assumes nothing.
 use Rattle.std.specs.Prelude.{◌≡◌, refl, List, [], ◌∷◌, ◌++◌, ℕ, ◌+◌, ◌*◌, ◌≤◌, length}
 use Rattle.std.proofs.Common.{sym, ap, ◌∙◌, append_assoc, add-zero, arith, length-append}
-use Rattle.rows.specs.Rows.{after, length_rows}
+use Rattle.words.specs.AnyRows.{after, length_rows}
 use Rattle.std.proofs.Math.Option.{Option}
 use Rattle.definition.specs.declared.VirtReg.{VirtReg}
 use Rattle.definition.specs.declared.Use.{Use}

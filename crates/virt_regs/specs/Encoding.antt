@@ -3,8 +3,8 @@ use Rattle.std.specs.Prelude.{◌≡◌, Bool, cond, List, [], ◌∷◌, ◌++�
 use Rattle.std.proofs.Math.Option.{Option, none, some}
 use Rattle.std.specs.Float.{binary32}
 use Rattle.std.specs.Float.Ieee.{to_bits, of_bits}
-use Rattle.rows.specs.Tab.{tab}
-use Rattle.rows.specs.Rows.{rows_of}
+use Rattle.words.specs.Tab.{tab}
+use Rattle.words.specs.AnyRows.{rows_of}
 use Rattle.definition.specs.declared.VirtReg.{VirtReg}
 use Rattle.definition.specs.declared.VirtRegGroup.{VirtRegGroup}
 use Rattle.definition.specs.declared.Use.{Use}
@@ -20,7 +20,7 @@ use Rattle.virt_regs.specs.declared.OutLayout.{OutLayout}
 use Rattle.virt_regs.specs.declared.Counts.{Counts}
 use Rattle.virt_regs.specs.declared.RegisterRow.{RegisterRow}
 use Rattle.virt_regs.specs.declared.PieceRow.{PieceRow}
-use Rattle.rows.specs.Tables.{Table, table, base_of, end_of, Tabled}
+use Rattle.words.specs.Tables.{Table, table, base_of, end_of, Tabled}
 use Rattle.virt_regs.specs.Each.{Each}
 
 -- the words of a group's row: the number of its places, and a word for each

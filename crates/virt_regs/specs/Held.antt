@@ -4,12 +4,12 @@ use mathlib.Core.List.{List}
 use Prim.Native.Nat.{ℕ, ◌*◌, ◌≤◌}
 use native.Mathlib.Omega.{arith}
 use lib.ListN.{length}
-use Rattle.rows.specs.Parts.{pad}
+use Rattle.words.specs.Parts.{pad}
 use Rattle.definition.specs.Types.{State}
 use Rattle.definition.specs.Place.{pieces_in, uses_in, uses_of, segs_of}
 use Rattle.virt_regs.specs.declared.OutLayout.{OutLayout}
-use Rattle.rows.specs.Part.{part}
-use Rattle.rows.specs.Tables.{tabled_long, fits_at, table_part}
+use Rattle.words.specs.Part.{part}
+use Rattle.words.specs.Tables.{tabled_long, fits_at, table_part}
 use Rattle.virt_regs.specs.Encoding.{group_row, tables, contents, seg_base, use_base, group_base, tables_end, all_pieces, register_rows, piece_rows, use_rows, group_rows, Holds}
 use Rattle.virt_regs.specs.Counting.{count_pieces, count_uses, length_registers, length_pieces, length_uses, length_groups}
 

@@ -11,9 +11,9 @@ use Rattle.std.proofs.Math.ListN.{length, get_or, take, drop, replicate, length-
 use Rattle.std.specs.Float.{binary32}
 use Rattle.std.specs.Float.Ieee.{to_bits, of_bits}
 use Rattle.std.proofs.Math.Seq.{split_at, length-take-le, take_at, get_or-append-add}
-use Rattle.rows.specs.Tab.{get_or_tab}
-use Rattle.rows.specs.Parts.{pad}
-use Rattle.rows.specs.Rows.{rows_of, after, rows_append, row_get}
+use Rattle.words.specs.Tab.{get_or_tab}
+use Rattle.words.specs.Parts.{pad}
+use Rattle.words.specs.AnyRows.{rows_of, after, rows_append, row_get}
 use Rattle.definition.specs.declared.VirtReg.{VirtReg}
 use Rattle.definition.specs.declared.VirtRegGroup.{VirtRegGroup}
 use Rattle.definition.specs.declared.Use.{Use}
@@ -25,8 +25,8 @@ use Rattle.definition.specs.Lines.{hint_in}
 use Rattle.definition.specs.Admit.{register_at, no_register, members_at, no_use}
 use Rattle.virt_regs.specs.declared.OutLayout.{OutLayout}
 use Rattle.virt_regs.specs.declared.PieceRow.{PieceRow}
-use Rattle.rows.specs.Part.{part, part_cut, part_middle}
-use Rattle.rows.specs.Tables.{table_word, cleared}
+use Rattle.words.specs.Part.{part, part_cut, part_middle}
+use Rattle.words.specs.Tables.{table_word, cleared}
 use Rattle.virt_regs.specs.Each.{each_none, each_get}
 use Rattle.virt_regs.specs.Encoding.{group_row, tables, contents, Weighs, Placed, seg_base, use_base, group_base, tables_end, group_word, place_word, hint_word, piece_row, use_words, group_words, all_pieces, past_pieces, used_by, still, each_register, each_piece, each_use, each_group, piece_rows, Holds}
 use Rattle.virt_regs.specs.Held.{held_long, fit_registers, fit_segments, part_segments}

@@ -9,8 +9,8 @@ use native.Mathlib.Omega.{arith}
 use Rattle.std.proofs.Math.ListN.{length, get_or, drop, length-append, get_or-append}
 use Rattle.std.specs.Float.Ieee.{binary32, of_bits}
 use Rattle.std.proofs.Math.Seq.{split_at, ext_get_or, get_or-append-add}
-use Rattle.rows.specs.Tab.{tab, length_tab, get_or_tab}
-use Rattle.rows.specs.RowsAt.{rows_at, length_rows_at, get_or_rows_at}
+use Rattle.words.specs.Tab.{tab, length_tab, get_or_tab}
+use Rattle.words.specs.RowsAt.{rows_at, length_rows_at, get_or_rows_at}
 use Rattle.definition.specs.declared.VirtReg.{VirtReg}
 use Rattle.definition.specs.declared.VirtRegGroup.{VirtRegGroup}
 use Rattle.definition.specs.declared.Use.{Use}

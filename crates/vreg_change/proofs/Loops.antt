@@ -5,7 +5,7 @@ use Prim.Native.Nat.{ℕ, zero, suc, ◌+◌, ◌-◌, ◌*◌, ◌≤◌, ◌<�
 use native.Mathlib.Omega.{arith}
 use lib.ListN.{get_or, set}
 use lib.Seq.{get_or-set_other}
-use Rattle.rows.specs.Tab.{tab, tab_more, tab_done}
+use Rattle.words.specs.Tab.{tab, tab_more, tab_done}
 use Rattle.words.specs.Words.{words_of}
 use Rattle.definition.specs.declared.VirtRegGroup.{VirtRegGroup}
 use Rattle.virt_regs.specs.declared.OutLayout.{OutLayout}

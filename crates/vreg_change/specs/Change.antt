@@ -11,9 +11,9 @@ use Rattle.std.proofs.lemmas.List.{set_split}
 use Rattle.std.proofs.lemmas.Bool.{eqb-false}
 use Rattle.std.specs.Float.Ieee.{binary32, to_bits}
 use Rattle.std.proofs.Math.Seq.{split_at}
-use Rattle.rows.specs.Tab.{tab, length_tab, get_or_tab}
-use Rattle.rows.specs.Parts.{set_past}
-use Rattle.rows.specs.Rows.{rows_of, rows_append, row_put}
+use Rattle.words.specs.Tab.{tab, length_tab, get_or_tab}
+use Rattle.words.specs.Parts.{set_past}
+use Rattle.words.specs.AnyRows.{rows_of, rows_append, row_put}
 use Rattle.definition.specs.declared.RegClass.{RegClass}
 use Rattle.definition.specs.declared.VirtReg.{VirtReg}
 use Rattle.definition.specs.declared.VirtRegGroup.{VirtRegGroup}
@@ -23,7 +23,7 @@ use Rattle.definition.specs.Place.{pieces_in, uses_in, uses_of, segs_of, with_we
 use Rattle.definition.specs.Admit.{members_at, no_register}
 use Rattle.virt_regs.specs.declared.OutLayout.{OutLayout}
 use Rattle.virt_regs.specs.declared.Counts.{Counts}
-use Rattle.rows.specs.Tables.{Tabled, put_word, put_zeros}
+use Rattle.words.specs.Tables.{Tabled, put_word, put_zeros}
 use Rattle.virt_regs.specs.Each.{Each, each_append, each_one, each_get, each_set, each_weaker}
 use Rattle.virt_regs.specs.Encoding.{group_row, tables, contents, group_base, place_word, group_words, all_pieces, past_pieces, still, each_register, each_group, register_rows, piece_rows, use_rows, group_rows, counts_of, Weighs, Placed, Typed, Holds}
 use Rattle.virt_regs.specs.Update.{update_split, length_update, each_update}

@@ -1,7 +1,7 @@
 -- What opening gaps asks of the tables. Assumes nothing.
 use Rattle.std.specs.Prelude.{◌≡◌, List, ◌++◌, ℕ, ◌+◌, ◌*◌, ◌^◌, ◌≤◌, ◌<◌, length, get_or, take, drop}
 use Rattle.std.proofs.Common.{sym, ap, ◌∙◌, arith, length-append, take-append-drop}
-use Rattle.rows.specs.Moves.{Gap}
+use Rattle.words.specs.Moves.{Gap}
 use Rattle.definition.specs.declared.VirtReg.{VirtReg}
 use Rattle.definition.specs.Types.{Piece, State}
 use Rattle.definition.specs.Place.{pieces_in, uses_in, uses_of, segs_of}

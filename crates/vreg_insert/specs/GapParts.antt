@@ -6,9 +6,9 @@ use native.Mathlib.Omega.{arith}
 use lib.ListN.{length, set, take, drop, replicate, length-append, length-replicate}
 use lib.Seq.{slice, take_at, drop_at, drop-append-add}
 use Rattle.std.proofs.lemmas.List.{drop-append-le}
-use Rattle.rows.specs.Parts.{pad, drop_replicate}
-use Rattle.rows.specs.Moves.{Gap}
-use Rattle.rows.specs.Tables.{Table, size_of, table_at, words_at, base_of, Tabled, change}
+use Rattle.words.specs.Parts.{pad, drop_replicate}
+use Rattle.words.specs.Moves.{Gap}
+use Rattle.words.specs.Tables.{Table, size_of, table_at, words_at, base_of, Tabled, change}
 
 -- a gap past_pieces the words x, in words and what is past_pieces them
 gap_between : (x y t gap O : List ℕ) (a e n : ℕ) → O ≡ x ++ (y ++ t) → length x ≡ a → length x + length y ≡ e

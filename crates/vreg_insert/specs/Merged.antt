@@ -3,7 +3,7 @@ use Rattle.std.specs.Prelude.{◌≡◌, refl, Bool, true, false, ◌||◌, List
 use Rattle.std.proofs.Common.{sym, ap, ◌∙◌, subst, append_assoc, zero-add, arith, length-append, length-drop, take-append-drop, length-take-le}
 use Rattle.std.proofs.Math.Seq.{split_at, take-append-add, drop-append-add}
 use Rattle.std.proofs.lemmas.List.{take-append-le, drop-append-le}
-use Rattle.rows.specs.Rows.{after, rows_append}
+use Rattle.words.specs.AnyRows.{after, rows_append}
 use Rattle.definition.specs.declared.LiveRangePoint.{LiveRangePoint}
 use Rattle.definition.specs.declared.VirtReg.{VirtReg}
 use Rattle.definition.specs.declared.Use.{Use}
@@ -13,7 +13,7 @@ use Rattle.definition.specs.Lines.{hint_in}
 use Rattle.definition.specs.Admit.{register_at, no_register}
 use Rattle.virt_regs.specs.declared.OutLayout.{OutLayout}
 use Rattle.virt_regs.specs.declared.Counts.{Counts}
-use Rattle.rows.specs.Tables.{Tabled, put_over}
+use Rattle.words.specs.Tables.{Tabled, put_over}
 use Rattle.virt_regs.specs.Each.{Each, each_append, each_front, each_back, each_weaker}
 use Rattle.virt_regs.specs.Encoding.{tables, contents, seg_base, use_base, all_pieces, used_by, still, each_piece, each_use, piece_rows, use_rows, counts_of, Typed, Holds}
 use Rattle.virt_regs.specs.Update.{update_split, length_update, each_update}

@@ -7,9 +7,9 @@ use Prim.Native.Nat.{ℕ, suc, ◌+◌, ◌-◌, ◌*◌, ◌≤◌, ◌<◌}
 use Rattle.std.proofs.Math.Nat.{zero-add}
 use Rattle.std.proofs.Math.ListN.{length, get_or, take, drop, length-append, length-drop}
 use Rattle.std.proofs.Math.Seq.{split_at, length-take-le}
-use Rattle.rows.specs.Parts.{pad, pad_set, pad_get_or, set_past, get_d_past, length_pad}
-use Rattle.rows.specs.Moves.{Gap}
-use Rattle.rows.specs.Rows.{rows_of, after, rows_append}
+use Rattle.words.specs.Parts.{pad, pad_set, pad_get_or, set_past, get_d_past, length_pad}
+use Rattle.words.specs.Moves.{Gap}
+use Rattle.words.specs.AnyRows.{rows_of, after, rows_append}
 use Rattle.definition.specs.declared.VirtReg.{VirtReg}
 use Rattle.definition.specs.Types.{Piece, Register, State}
 use Rattle.definition.specs.Place.{pieces_in, uses_in, uses_of, segs_of, with_pieces, update}
@@ -17,7 +17,7 @@ use Rattle.definition.specs.Lines.{hint_in}
 use Rattle.definition.specs.Admit.{register_at, no_register}
 use Rattle.virt_regs.specs.declared.OutLayout.{OutLayout}
 use Rattle.virt_regs.specs.declared.Counts.{Counts}
-use Rattle.rows.specs.Tables.{Tabled, change}
+use Rattle.words.specs.Tables.{Tabled, change}
 use Rattle.virt_regs.specs.Encoding.{tables, contents, seg_base, use_base, hint_word, all_pieces, past_pieces, used_by, each_register, each_piece, register_rows, piece_rows, use_rows, counts_of, Holds, still, each_use}
 use Rattle.virt_regs.specs.Update.{update_split}
 use Rattle.virt_regs.specs.Counting.{all_append, count_pieces, count_uses, after_registers, after_pieces, length_registers, uses_append, length_pieces, length_uses}

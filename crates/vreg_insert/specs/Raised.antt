@@ -7,9 +7,9 @@ use Prim.Native.Nat.{ℕ, zero, suc, ◌+◌, ◌-◌, ◌*◌, ◌≤◌, ◌<�
 use native.Mathlib.Omega.{arith}
 use Rattle.std.proofs.Math.ListN.{length, replicate, length-append, get_or-append}
 use Rattle.std.proofs.lemmas.List.{set-append_left}
-use Rattle.rows.specs.Parts.{pad, length_pad, set_append_add}
-use Rattle.rows.specs.Rows.{rows_of, after, rows_append, length_rows}
-use Rattle.rows.specs.Tables.{Table, size_of, table_at, words_at, base_of, Tabled, fits_at, change}
+use Rattle.words.specs.Parts.{pad, length_pad, set_append_add}
+use Rattle.words.specs.AnyRows.{rows_of, after, rows_append, length_rows}
+use Rattle.words.specs.Tables.{Table, size_of, table_at, words_at, base_of, Tabled, fits_at, change}
 
 -- m added to word i and to each s words behind it, k of them
 unfoldable pub raised : ℕ → ℕ → List ℕ → ℕ → ℕ → List ℕ

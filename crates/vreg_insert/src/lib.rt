@@ -75,9 +75,9 @@ fn open_rows(out: &mut [u8], ol: OutLayout, c: Counts, p: usize, u: usize, np: u
     ensures { Gaps₂ ol c p u np nu (words_of out.old) (words_of out.new) }
 {
     let a = ol.seg_base();
-    spans::open_gap(out, a + p * 7, a + c.segs * 7, np * 7);
+    words::span::open_gap(out, a + p * 7, a + c.segs * 7, np * 7);
     let b = ol.use_base();
-    spans::open_gap(out, b + u * 6, b + c.uses * 6, nu * 6);
+    words::span::open_gap(out, b + u * 6, b + c.uses * 6, nu * 6);
 }
 
 // Opens gaps for np pieces, with nu uses in all and a fixed hint where `hint` is, before piece k of register v.

@@ -1,15 +1,15 @@
 -- Pieces and uses written row by row, and a register added with them. Assumes nothing.
 use Rattle.std.specs.Prelude.{◌≡◌, refl, List, [], ◌∷◌, ◌++◌, ℕ, suc, ◌+◌, ◌-◌, ◌*◌, ◌≤◌, ◌<◌, length}
 use Rattle.std.proofs.Common.{sym, ap, ◌∙◌, subst, append-nil, zero-add, arith, length-append, length-take, length-drop}
-use Rattle.rows.specs.Parts.{splice, splice_none, splice_splice, length_splice}
-use Rattle.rows.specs.Rows.{rows_of, after, rows_append}
+use Rattle.words.specs.Parts.{splice, splice_none, splice_splice, length_splice}
+use Rattle.words.specs.AnyRows.{rows_of, after, rows_append}
 use Rattle.definition.specs.declared.Use.{Use}
 use Rattle.definition.specs.Types.{Piece, Register, State}
 use Rattle.definition.specs.Place.{pieces_in, uses_in, uses_of_pieces, uses_of, segs_of, add_register}
 use Rattle.virt_regs.specs.declared.OutLayout.{OutLayout}
 use Rattle.virt_regs.specs.declared.Counts.{Counts}
-use Rattle.rows.specs.Part.{part, part_ahead, part_behind, splice_swap}
-use Rattle.rows.specs.Tables.{Tabled, put_more}
+use Rattle.words.specs.Part.{part, part_ahead, part_behind, splice_swap}
+use Rattle.words.specs.Tables.{Tabled, put_more}
 use Rattle.virt_regs.specs.Each.{Each, each_append, each_one, each_weaker}
 use Rattle.virt_regs.specs.Encoding.{tables, contents, seg_base, use_base, group_base, tables_end, register_row, register_words, use_words, all_pieces, past_pieces, used_by, still, each_register, each_piece, each_use, register_rows, piece_rows, use_rows, counts_of, Weighs, Typed, Holds}
 use Rattle.virt_regs.specs.Counting.{all_append, uses_append, count_pieces, count_uses, count_uses_of, after_registers, after_pieces, length_registers, length_pieces, length_uses, placed_more}

@@ -2,7 +2,7 @@
 #![tactic(auto)]
 
 ghost use Rattle.std.specs.Prelude.{◌≡◌, List, ◌+◌, ◌*◌, ◌≤◌, ◌<◌, leb, length};
-ghost use Rattle.rows.specs.Parts.{splice};
+ghost use Rattle.words.specs.Parts.{splice};
 ghost use Rattle.words.specs.Words.{word_count, words_of};
 ghost use Rattle.definition.specs.Types.{Piece, State};
 ghost use Rattle.definition.specs.Place.{has_room, uses_of_pieces};

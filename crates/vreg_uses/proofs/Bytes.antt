@@ -7,14 +7,14 @@ use lib.ListN.{length, take, drop, length-drop}
 use lib.Seq.{take-take, drop-drop, length-take-le}
 use Rattle.words.specs.Words.{word_count, words_of}
 use Rattle.words.specs.Laws.{words_take, words_drop, words_part}
-use Rattle.layout.specs.declared.Layout.{Layout}
-use Rattle.layout.specs.Layout.{Fits}
-use Rattle.use_lists.specs.declared.Source.{Source}
-use Rattle.use_lists.specs.declared.Source.TheVariants.{Job, Added}
-use Rattle.use_lists.specs.declared.UseList.{UseList}
-use Rattle.use_lists.specs.Lists.{table_of, Within, part_of}
+use Rattle.job.specs.declared.Layout.{Layout}
+use Rattle.job.specs.Layout.{Fits}
+use Rattle.uses.specs.declared.lists.Source.{Source}
+use Rattle.uses.specs.declared.lists.Source.TheVariants.{Job, Added}
+use Rattle.uses.specs.declared.lists.UseList.{UseList}
+use Rattle.uses.specs.Lists.{table_of, Within, part_of}
 use Rattle.virt_regs.specs.declared.OutLayout.{OutLayout}
-use Rattle.rows.specs.Part.{part}
+use Rattle.words.specs.Part.{part}
 use Rattle.virt_regs.specs.Encoding.{use_base, tables_end}
 use Rattle.vreg_uses.specs.Shown.{table_at, rows_in, Listed, shown_words}
 

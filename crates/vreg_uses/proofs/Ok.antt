@@ -2,12 +2,12 @@
 use mathlib.Core.Path.{◌≡◌}
 use mathlib.Core.List.{List}
 use Prim.Native.Nat.{ℕ, ◌+◌, ◌*◌}
-use Rattle.layout.specs.declared.Layout.{Layout}
+use Rattle.job.specs.declared.Layout.{Layout}
 use Rattle.set_part.specs.declared.SetPart.{SetPart}
 use Rattle.set_part.specs.Part.{PartOk}
 use Rattle.set_part.proofs.Bounds.{first_le_end}
 use Rattle.virt_regs.specs.declared.OutLayout.{OutLayout}
-use Rattle.rows.specs.Part.{part}
+use Rattle.words.specs.Part.{part}
 use Rattle.vreg_uses.specs.Shown.{part_list, Listed, shown_words}
 use Rattle.vreg_uses.specs.Laws.{part_shown, part_listed}
 

@@ -7,28 +7,28 @@ use Prim.Native.Nat.{ℕ, suc, ◌+◌, ◌-◌, ◌*◌, ◌≤◌, ◌<◌}
 use native.Mathlib.Omega.{arith}
 use Rattle.std.proofs.Math.ListN.{length, take, drop, replicate, length-append}
 use Rattle.std.proofs.Math.Seq.{split_at, length-take-le}
-use Rattle.rows.specs.Parts.{pad}
-use Rattle.rows.specs.Rows.{rows_append}
-use Rattle.rows.specs.RowsAt.{Reads, rows_at_words}
+use Rattle.words.specs.Parts.{pad}
+use Rattle.words.specs.AnyRows.{rows_append}
+use Rattle.words.specs.RowsAt.{Reads, rows_at_words}
 use Rattle.definition.specs.declared.Use.{Use}
 use Rattle.definition.specs.Types.{Piece, State, inst}
 use Rattle.definition.specs.Place.{pieces_in, uses_in, uses_of, segs_of}
 use Rattle.uses.specs.Rows.{kind_of, use_row, uses_at}
-use Rattle.layout.specs.declared.Layout.{Layout}
+use Rattle.job.specs.declared.Layout.{Layout}
 use Rattle.set_part.specs.declared.SetPart.{SetPart}
-use Rattle.use_lists.specs.declared.Source.TheVariants.{Added}
-use Rattle.use_lists.specs.declared.UseList.{UseList}
-use Rattle.use_lists.specs.Lists.{table_of}
+use Rattle.uses.specs.declared.lists.Source.TheVariants.{Added}
+use Rattle.uses.specs.declared.lists.UseList.{UseList}
+use Rattle.uses.specs.Lists.{table_of}
 use Rattle.virt_regs.specs.declared.OutLayout.{OutLayout}
 use Rattle.virt_regs.specs.declared.PieceRow.{PieceRow}
-use Rattle.rows.specs.Part.{part, part_get, part_cut, part_middle}
+use Rattle.words.specs.Part.{part, part_get, part_cut, part_middle}
 use Rattle.virt_regs.specs.Encoding.{use_base, group_base, all_pieces, still, each_use, use_rows, Holds}
 use Rattle.virt_regs.specs.Held.{held_long, fit_uses}
 use Rattle.virt_regs.specs.Counting.{uses_append, count_pieces, count_uses, length_uses}
 use Rattle.virt_regs.specs.Reads.{no_piece, piece_at, first_use, piece_held}
 use Rattle.virt_regs.specs.View.{uses_held}
 use Rattle.vreg_uses.specs.Shown.{part_list, piece_list, table_at, Listed, shown_words}
-use Rattle.layout.specs.Layout as layout
+use Rattle.job.specs.Layout as layout
 
 -- a use is read from the six words of its row
 reads_use : Reads 6 use_row

@@ -1,13 +1,13 @@
 -- The use list of a part and of a piece, and the words that a list shows. Assumes nothing.
 use Rattle.std.specs.Prelude.{List, ℕ, ◌+◌, ◌-◌, ◌*◌, ◌≤◌}
-use Rattle.layout.specs.declared.Layout.{Layout}
+use Rattle.job.specs.declared.Layout.{Layout}
 use Rattle.set_part.specs.declared.SetPart.{SetPart}
-use Rattle.use_lists.specs.declared.Source.{Source}
-use Rattle.use_lists.specs.declared.Source.TheVariants.{Job, Added}
-use Rattle.use_lists.specs.declared.UseList.{UseList}
-use Rattle.use_lists.specs.Lists.{table_of}
+use Rattle.uses.specs.declared.lists.Source.{Source}
+use Rattle.uses.specs.declared.lists.Source.TheVariants.{Job, Added}
+use Rattle.uses.specs.declared.lists.UseList.{UseList}
+use Rattle.uses.specs.Lists.{table_of}
 use Rattle.virt_regs.specs.declared.OutLayout.{OutLayout}
-use Rattle.rows.specs.Part.{part}
+use Rattle.words.specs.Part.{part}
 use Rattle.virt_regs.specs.Encoding.{seg_base, use_base}
 use Rattle.virt_regs.specs.Reads.{piece_in}
 

@@ -3,13 +3,13 @@
 
 ghost use Rattle.std.specs.Prelude.{◌≡◌, ◌+◌, ◌*◌, ◌≤◌, ◌<◌};
 ghost use Rattle.words.specs.Words.{word_count, words_of};
-ghost use Rattle.layout.specs.JobWords.{words_in};
+ghost use Rattle.job.specs.JobWords.{words_in};
 ghost use Rattle.virt_regs.specs.Encoding.{tables_end};
 ghost use Rattle.vreg_uses.specs.Shown.{part_list, piece_list, Listed, shown_words};
 
-use layout::Job;
+use job::Job;
 use set_part::SetPart;
-use use_lists::{Source, UseList};
+use uses::lists::{Source, UseList};
 use virt_regs::OutLayout;
 
 // While a set is built: the uses of a part are a part of the job's.
@@ -49,7 +49,7 @@ pub fn list_rows<'a>(job: &Job<'a>, out: &'a [u8], ol: OutLayout, list: UseList)
     let end = at + lay.uses.n * 6;
     let base = ol.use_base();
     let behind = ol.group_base();
-    use_lists::use_list(
+    uses::lists::use_list(
         &job.bytes[at * 4..end * 4],
         &out[base * 4..behind * 4],
         list,

@@ -1,11 +1,11 @@
 -- `count_insts`: the count of `live_insts` as long as it is at most 4096. Assumes nothing.
 use Rattle.std.specs.Prelude.{◌≡◌, List, ℕ, ◌+◌, ◌-◌, ◌*◌, ◌≤◌, ◌<◌, max}
 use Rattle.std.proofs.Common.{arith}
-use Rattle.rows.specs.RowsAt.{rows_at}
+use Rattle.words.specs.RowsAt.{rows_at}
 use Rattle.definition.specs.declared.Inst.{Inst}
-use Rattle.live_insts.specs.declared.LiveRangeSegment.{LiveRangeSegment}
-use Rattle.live_insts.specs.Ranges.{range_at, new_insts, range_insts}
-use Rattle.live_insts.proofs.Counting.{Counting, count_room, count_done}
+use Rattle.live_range.specs.declared.insts.LiveRangeSegment.{LiveRangeSegment}
+use Rattle.live_range.specs.Ranges.{range_at, new_insts, range_insts}
+use Rattle.live_range.proofs.Counting.{Counting, count_room, count_done}
 
 abbrev pub Counts : List ℕ → ℕ → ℕ → ℕ → Type 0
 Counts W at n r = (1 ≤ r) × (r ≤ 4096)

@@ -14,7 +14,7 @@ use Rattle.definition.specs.Types.{State}
 use Rattle.definition.specs.Weights.{min_f}
 use Rattle.definition.specs.Admit.{register_at, members_at}
 use Rattle.definition.specs.Place.{least_weight}
-use Rattle.floats.proofs.Bits.{bits_back}
+use Rattle.weights.proofs.Bits.{bits_back}
 use Rattle.virt_regs.specs.declared.OutLayout.{OutLayout}
 use Rattle.virt_regs.specs.Encoding.{group_base, place_word, Weighs}
 use Rattle.vreg_weight.specs.Members.{Members}

@@ -5,7 +5,7 @@ use Prim.Native.Nat.{ℕ, ◌+◌, ◌-◌, ◌*◌, ◌≤◌, ◌<◌}
 use native.Mathlib.Omega.{arith}
 use lib.ListN.{length}
 use lib.Ieee.{Float, binary32, to_bits, of_bits}
-use Rattle.rows.specs.RowsAt.{rows_at}
+use Rattle.words.specs.RowsAt.{rows_at}
 use Rattle.definition.specs.declared.ClassData.{ClassData}
 use Rattle.definition.specs.declared.Options.{Options}
 use Rattle.definition.specs.declared.RegClass.{RegClass}
@@ -14,9 +14,9 @@ use Rattle.definition.specs.RegInfo.{zero_f, class_at, value_at}
 use Rattle.definition.specs.LiveRange.{live_insts}
 use Rattle.definition.specs.Weights.{sum_uses, sum_segs, weight_of}
 use Rattle.definition.specs.Place.{uses_of, segs_of}
-use Rattle.spill_weight.specs.Costs.{weight_from}
-use Rattle.spill_weight.proofs.Sums.{weight_from_lem}
-use Rattle.live_insts.specs.Ranges.{range_at, range_insts}
+use Rattle.weights.specs.Costs.{weight_from}
+use Rattle.weights.proofs.Sums.{weight_from_lem}
+use Rattle.live_range.specs.Ranges.{range_at, range_insts}
 use Rattle.virt_regs.specs.declared.OutLayout.{OutLayout}
 use Rattle.virt_regs.specs.Encoding.{seg_base}
 use Rattle.vreg_weight.specs.Shown.{Shown, FirstShown, shown_first, shown_insts}

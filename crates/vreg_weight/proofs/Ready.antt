@@ -9,8 +9,8 @@ use Rattle.words.specs.Words.{word_count, words_of}
 use Rattle.words.specs.Laws.{words_small}
 use Rattle.definition.specs.Entry.{entry}
 use Rattle.function.specs.Blocks.{Starts}
-use Rattle.layout.specs.declared.Layout.{Layout}
-use Rattle.layout.specs.Layout.{Fits}
+use Rattle.job.specs.declared.Layout.{Layout}
+use Rattle.job.specs.Layout.{Fits}
 use Rattle.definition.proofs.Entries.{accepted_blocks}
 use Rattle.use_costs.proofs.Accepted.{accepted_book}
 use Rattle.vreg_weight.specs.Weighed.{job_in, Weighable}

@@ -5,7 +5,7 @@ use Prim.Native.Nat.{ℕ, ◌+◌, ◌-◌, ◌*◌, ◌≤◌, ◌<◌}
 use native.Mathlib.Omega.{arith}
 use lib.ListN.{length, get_or}
 use lib.Ieee.{Float, binary32, of_bits}
-use Rattle.rows.specs.RowsAt.{rows_at, rows_at_start, rows_at_more, rows_at_done, length_rows_at}
+use Rattle.words.specs.RowsAt.{rows_at, rows_at_start, rows_at_more, rows_at_done, length_rows_at}
 use Rattle.definition.specs.declared.BlockData.{BlockData}
 use Rattle.definition.specs.declared.Options.{Options}
 use Rattle.definition.specs.declared.Remat.{Remat}
@@ -15,11 +15,11 @@ use Rattle.definition.specs.Uses.{cost_of}
 use Rattle.definition.specs.Entry.{insts_of}
 use Rattle.definition.specs.SplitPlacement.{freq_at}
 use Rattle.definition.specs.Weights.{scaled, add_cost, sum_uses}
-use Rattle.spill_weight.specs.Costs.{SmallScales}
+use Rattle.weights.specs.Costs.{SmallScales}
 use Rattle.function.specs.Blocks.{Starts, block_row, blocks_at, block_of}
 use Rattle.function.specs.BlockLaws.{block_holds, starts_frequency}
-use Rattle.layout.specs.declared.Layout.{Layout}
-use Rattle.layout.specs.Layout.{options_row}
+use Rattle.job.specs.declared.Layout.{Layout}
+use Rattle.job.specs.Layout.{options_row}
 use Rattle.job.specs.Job.{job_by, job_of}
 use Rattle.uses.specs.Rows.{use_row, uses_at}
 use Rattle.use_costs.specs.Book.{SmallBook}

@@ -12,7 +12,7 @@ use Rattle.definition.specs.Weights.{min_f}
 use Rattle.definition.specs.Admit.{register_at, members_at}
 use Rattle.definition.specs.Place.{least_weight}
 use Rattle.virt_regs.specs.declared.OutLayout.{OutLayout}
-use Rattle.rows.specs.Part.{part, part_get}
+use Rattle.words.specs.Part.{part, part_get}
 use Rattle.virt_regs.specs.Encoding.{seg_base, group_base, tables_end, place_word, Weighs, Holds}
 use Rattle.virt_regs.specs.Held.{fit_registers}
 use Rattle.virt_regs.specs.Reads.{member_held, member_lt, size_le, weight_held, weighs_held}

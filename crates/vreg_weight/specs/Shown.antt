@@ -3,9 +3,9 @@ use Rattle.std.specs.Prelude.{◌≡◌, refl, List, [], ◌∷◌, ◌++◌, ma
 use Rattle.std.proofs.Common.{sym, ap, ◌∙◌, add-zero, arith, length-append, take_at, drop_at, get_or-append-add}
 use Rattle.std.proofs.Math.ListN.{get_or-append}
 use Rattle.std.proofs.Math.Seq.{split_at}
-use Rattle.rows.specs.Parts.{splice, get_d_past, get_or_splice_in, length_splice, drop_splice}
-use Rattle.rows.specs.Rows.{rows_of, rows_append}
-use Rattle.rows.specs.RowsAt.{rows_at, rows_at_cons, rows_at_append, rows_at_ext, length_rows_at, map-rows-at}
+use Rattle.words.specs.Parts.{splice, get_d_past, get_or_splice_in, length_splice, drop_splice}
+use Rattle.words.specs.AnyRows.{rows_of, rows_append}
+use Rattle.words.specs.RowsAt.{rows_at, rows_at_cons, rows_at_append, rows_at_ext, length_rows_at, map-rows-at}
 use Rattle.definition.specs.declared.Use.{Use}
 use Rattle.definition.specs.declared.VirtReg.{VirtReg}
 use Rattle.definition.specs.Types.{Piece, Register, State, val, point}
@@ -13,13 +13,13 @@ use Rattle.definition.specs.LiveRange.{live_insts}
 use Rattle.definition.specs.Admit.{register_at, no_register}
 use Rattle.definition.specs.Place.{total, uses_of_pieces, uses_of, segs_of}
 use Rattle.uses.specs.Rows.{use_row, uses_at}
-use Rattle.live_insts.specs.declared.LiveRangeSegment.{LiveRangeSegment}
-use Rattle.live_insts.specs.Ranges.{range_of, range_at, range_insts}
-use Rattle.live_insts.specs.Laws.{live_insts_ranges}
+use Rattle.live_range.specs.declared.insts.LiveRangeSegment.{LiveRangeSegment}
+use Rattle.live_range.specs.Ranges.{range_of, range_at, range_insts}
+use Rattle.live_range.specs.Laws.{live_insts_ranges}
 use Rattle.virt_regs.specs.declared.OutLayout.{OutLayout}
 use Rattle.virt_regs.specs.declared.PieceRow.{PieceRow}
-use Rattle.rows.specs.Part.{part_get}
-use Rattle.rows.specs.Tables.{table_word}
+use Rattle.words.specs.Part.{part_get}
+use Rattle.words.specs.Tables.{table_word}
 use Rattle.virt_regs.specs.Each.{Each}
 use Rattle.virt_regs.specs.Encoding.{tables, contents, seg_base, use_base, tables_end, piece_row, use_words, all_pieces, each_piece, each_use, used_by, still, piece_rows, use_rows, Holds}
 use Rattle.virt_regs.specs.Counting.{all_append, uses_append, count_uses, count_uses_of, length_pieces, length_uses}

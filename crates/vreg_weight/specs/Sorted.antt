@@ -13,8 +13,8 @@ use Rattle.definition.proofs.Fits.{SegsFit}
 use Rattle.definition.proofs.Entries.{accepted_ends, accepted_fit}
 use Rattle.definition.proofs.Places.{All}
 use Rattle.definition.proofs.Runs.{runs_all}
-use Rattle.live_insts.specs.Ranges.{range_of}
-use Rattle.live_insts.specs.Laws.{RangesFit, ranges_within, live_insts_ranges}
+use Rattle.live_range.specs.Ranges.{range_of}
+use Rattle.live_range.specs.Laws.{RangesFit, ranges_within, live_insts_ranges}
 use Rattle.virt_regs.specs.Each.{Each}
 
 -- from point q on: none empty, sorted, and none past the Boundary behind instruction m - 1

@@ -4,8 +4,8 @@ use Rattle.std.proofs.Common.{sym, subst, ltb-true}
 use Rattle.std.proofs.Math.Option.{none}
 use mathlib.Core.List.{List, [], ◌∷◌, ◌++◌}
 use Prim.Native.Nat.{ℕ, zero, suc, ◌+◌, ◌*◌, ◌<◌}
-use Rattle.rows.specs.Tab.{tab}
-use Rattle.rows.specs.RowsAt.{rows_at}
+use Rattle.words.specs.Tab.{tab}
+use Rattle.words.specs.RowsAt.{rows_at}
 use Rattle.definition.specs.declared.Inst.{Inst}
 use Rattle.definition.specs.declared.Hint.{Hint}
 use Rattle.definition.specs.declared.Use.{Use}
@@ -20,8 +20,8 @@ use Rattle.definition.proofs.Counts.{uses_turn}
 use Rattle.definition.proofs.Entries.{and_both, conj_all, every_all, lowest_none}
 use Rattle.definition.proofs.Places.{All}
 use Rattle.uses.specs.Rows.{use_row, uses_at}
-use Rattle.layout.specs.declared.Layout.{Layout}
-use Rattle.layout.specs.Layout.{segment_of, job_uses}
+use Rattle.job.specs.declared.Layout.{Layout}
+use Rattle.job.specs.Layout.{segment_of, job_uses}
 use Rattle.job.specs.Job.{job_by, job_of}
 use Rattle.virt_regs.specs.Each.{Each, each_append, each_weaker}
 use Rattle.vreg_weight.specs.Typed.{TypedUse, row_typed, turned_typed, param_typed}

@@ -12,8 +12,8 @@ use Rattle.definition.specs.Weights.{min_f}
 use Rattle.definition.specs.Admit.{register_at}
 use Rattle.definition.specs.Entry.{insts_of}
 use Rattle.function.specs.Blocks.{Starts}
-use Rattle.layout.specs.declared.Layout.{Layout}
-use Rattle.layout.specs.Layout.{Fits}
+use Rattle.job.specs.declared.Layout.{Layout}
+use Rattle.job.specs.Layout.{Fits}
 use Rattle.job.specs.Job.{job_of}
 use Rattle.use_costs.specs.Book.{SmallBook}
 use Rattle.virt_regs.specs.Each.{Each}

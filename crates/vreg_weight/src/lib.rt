@@ -15,7 +15,7 @@ ghost use Rattle.definition.specs.Weights.{min_f, sum_uses, sum_segs, weight_of}
 ghost use Rattle.definition.specs.Admit.{members_at};
 ghost use Rattle.definition.specs.Place.{least_weight, uses_of, segs_of};
 ghost use Rattle.uses.specs.Rows.{uses_in};
-ghost use Rattle.live_insts.specs.Ranges.{ranges_in, range_insts};
+ghost use Rattle.live_range.specs.Ranges.{ranges_in, range_insts};
 ghost use Rattle.virt_regs.specs.Encoding.{tables_end, Weighs};
 ghost use Rattle.vreg_weight.specs.Shown.{Shown, FirstShown};
 ghost use Rattle.vreg_weight.specs.Members.{Members};
@@ -26,14 +26,14 @@ ghost use Rattle.vreg_weight.specs.InWeighing.{weighed_job};
 mod weighing;
 mod weight_bits;
 
-use block_starts::BlockStarts;
 use definition::{Block, Inst, RegClass, Remat, VirtReg, VirtRegGroup};
 use frame::Frame;
-use spill_weight::Sum;
+use function::starts::BlockStarts;
 use virt_regs::OutLayout;
 pub use weighing::Weighing;
 pub use weight_bits::WeightBits;
-use word_rows::{Rows, row_at};
+use weights::Sum;
+use words::rows::{Rows, row_at};
 
 // The sum with the costs of uses. The block of the use before is tried first.
 pub fn sum_uses(by: &Weighing, uses: &Rows<6>, remat: Remat, sum: Sum) -> Sum
@@ -52,7 +52,7 @@ pub fn sum_uses(by: &Weighing, uses: &Rows<6>, remat: Remat, sum: Sum) -> Sum
         b = use_costs::block_near(&t, b, u.pos);
         let cost = use_costs::use_cost(job, u.kind);
         let frequency = use_costs::frequency_of(&t, b);
-        total = spill_weight::add_use(total, by.options, remat, cost, frequency);
+        total = weights::add_use(total, by.options, remat, cost, frequency);
     }
     total
 }
@@ -99,8 +99,8 @@ pub fn count_insts(pieces: &Rows<7>) -> u32
     let mut sum: u32 = 0;
     let mut counted = Inst(0);
     for i in 0..pieces.n {
-        let s = live_insts::range_at(pieces.words, row_at(pieces, i));
-        let more = live_insts::new_insts(counted, s);
+        let s = live_range::insts::range_at(pieces.words, row_at(pieces, i));
+        let more = live_range::insts::new_insts(counted, s);
         if 4096 - sum < more {
             return 4096;
         }
@@ -125,7 +125,7 @@ pub fn weight_of_pieces(
     let job = &fr.job;
     let ol = &fr.ol;
     let lay = &job.lay;
-    let options = layout::options_at(job.bytes, lay.opts);
+    let options = job::options_at(job.bytes, lay.opts);
     let by = Weighing { fr, work, options };
     let sum = sum_pieces(&by, out, p, n);
     let pieces = Rows {
@@ -135,8 +135,8 @@ pub fn weight_of_pieces(
     };
     let insts = count_insts(&pieces);
     let data = use_costs::class_data(job, c);
-    let w = spill_weight::weight(sum, insts, options.adjust, data.spillslots);
-    let value = floats::bits_of(w);
+    let w = weights::weight(sum, insts, options.adjust, data.spillslots);
+    let value = weights::floats::bits_of(w);
     WeightBits { value }
 }
 
@@ -156,7 +156,7 @@ pub fn lesser_at(out: &[u8], ol: OutLayout, m: u32, w: WeightBits) -> WeightBits
     if 0x7f800000 < bits {
         return w;
     }
-    let value = floats::lesser_bits(w.value, bits);
+    let value = weights::floats::lesser_bits(w.value, bits);
     WeightBits { value }
 }
 

@@ -6,7 +6,7 @@ use Prim.Native.Nat.{ℕ}
 use Rattle.definition.specs.Types.{Job}
 use Rattle.definition.specs.SheetForms.{job_in}
 use Rattle.definition.proofs.Places.{All}
-use Rattle.sheet_form.specs.declared.Reading.{Reading}
+use Rattle.sheet.specs.declared.either.Reading.{Reading}
 use Rattle.sheet_verdict.specs.Judged.{LeadsTo}
 use Rattle.weight_truth.specs.Truth.{TrueWeight}
 use Rattle.build_answer.specs.declared.BuildEnd.{BuildEnd}

@@ -4,7 +4,7 @@ use Rattle.std.proofs.Common.{arith}
 use Rattle.definition.specs.Types.{Register}
 use Rattle.definition.specs.Build.{Result}
 use Rattle.definition.specs.SheetForms.{SheetOut, given', refused', answer_text}
-use Rattle.printed.specs.Results.{Weighed, Fit, SameAnswer, told_apart}
+use Rattle.lines.specs.Results.{Weighed, Fit, SameAnswer, told_apart}
 use Rattle.virt_regs.specs.declared.OutLayout.{OutLayout}
 use Rattle.virt_regs.specs.Each.{Each}
 use Rattle.virt_regs.specs.Encoding.{Weighs}

@@ -14,7 +14,7 @@ use Rattle.job.specs.Job.{raw_job}
 use Rattle.virt_regs.specs.declared.OutLayout.{OutLayout}
 use Rattle.virt_regs.specs.Encoding.{room_of}
 use Rattle.entry.specs.declared.Entered.{Entered}
-use Rattle.sheet_form.specs.declared.Reading.{Reading}
+use Rattle.sheet.specs.declared.either.Reading.{Reading}
 use Rattle.build_answer.specs.declared.BuildEnd.{BuildEnd}
 use Rattle.build_answer.specs.Answered.{Answered}
 use Rattle.build_answer.specs.Sheets.{SheetAnswered, answered_lift, sheet_refused}

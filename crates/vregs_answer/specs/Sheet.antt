@@ -3,7 +3,7 @@ use Rattle.std.specs.Prelude.{List, ℕ}
 use Rattle.definition.specs.Limits.{vregs_room}
 use Rattle.definition.specs.SheetForms.{answer_to_sheet}
 use Rattle.virt_regs.specs.declared.OutLayout.{OutLayout}
-use Rattle.sheet_form.specs.declared.Reading.{Reading}
+use Rattle.sheet.specs.declared.either.Reading.{Reading}
 use Rattle.sheet_verdict.specs.Judged.{LeadsTo}
 use Rattle.build_answer.specs.declared.BuildEnd.{BuildEnd}
 use Rattle.build_answer.specs.Sheets.{SheetAnswered}

@@ -3,16 +3,19 @@
 
 ghost use Rattle.std.specs.Prelude.{◌≡◌, ◌≤◌, length};
 ghost use Rattle.words.specs.Words.{word_count, words_of};
-ghost use Rattle.work_layout.specs.Regions.{max_work};
-ghost use Rattle.sheet_places.specs.Places.{table_words};
-ghost use Rattle.sheet_form.specs.Front.{formed, open_form};
-ghost use Rattle.sheet_form.specs.Stream.{Streamed};
+ghost use Rattle.job.specs.Regions.{max_work};
+ghost use Rattle.sheet_rules.specs.Places.{table_words};
+ghost use Rattle.sheet.specs.Front.{formed, open_form};
+ghost use Rattle.sheet.specs.Stream.{Streamed};
 ghost use Rattle.vregs_answer.specs.Sheet.{vregs_tables, Answers};
 
+pub mod replay;
+pub mod report;
+pub mod run;
 mod space;
 
 use build_answer::{BuildEnd, refuse};
-use sheet_form::Reading;
+use sheet::either::Reading;
 pub use space::Space;
 use virt_regs::OutLayout;
 
@@ -39,7 +42,7 @@ pub fn answer_table(
     requires { Streamed (open_form table_words 1536) (formed cur (words_of table.now) (words_of written.now)) × (word_count table.now ≡ table_words) × (word_count written.now ≡ 1536) × (length out.old ≡ 460800) × (max_work ≤ word_count work.old) }
     ensures { Answers (length out.old) cur (words_of table.now) (words_of written.now) result out.new }
 {
-    spans::clear(out);
+    words::span::clear(out);
     match sheet_verdict::judge(cur, table, written, work) {
         Ok(e) => build::build_entered(table, e, out, vregs_tables(), work),
         Err(r) => refuse(r.number()),

@@ -1,8 +1,8 @@
 // What a program lends for a sheet and its answer.
 ghost use Rattle.std.specs.Prelude.{◌≡◌, ◌≤◌, length};
 ghost use Rattle.words.specs.Words.{word_count};
-ghost use Rattle.sheet_places.specs.Places.{table_words};
-ghost use Rattle.work_layout.specs.Regions.{max_work};
+ghost use Rattle.sheet_rules.specs.Places.{table_words};
+ghost use Rattle.job.specs.Regions.{max_work};
 
 // A page, the reader's two tables, the result tables, and the work space.
 #[derive(Drop)]

@@ -19,7 +19,7 @@ use Rattle.definition.proofs.Entries.{accepted_adjust}
 use Rattle.definition.proofs.Places.{All, all_map}
 use Rattle.definition.proofs.Promises.{promise_weighed}
 use Rattle.definition.proofs.Forms.{answer_given}
-use Rattle.spill_weight.proofs.Sums.{accepted_plain}
+use Rattle.weights.proofs.Sums.{accepted_plain}
 use Rattle.weight_truth.specs.Truth.{FineWeight, F32Job, NearExact, TrueWeight, RankTrue, nonzeros, exact_sum}
 use Rattle.weight_truth.proofs.Sums.{sum_near}
 use Rattle.weight_truth.proofs.Truth.{fine_count, weight_true}

@@ -25,12 +25,12 @@ use Rattle.definition.specs.RegInfo.{zero_f, value_at}
 use Rattle.definition.specs.Uses.{one_f, cost_of}
 use Rattle.definition.specs.Entry.{plain, small}
 use Rattle.definition.specs.Weights.{scaled, is_zero_f, add_cost, sum_uses, sum_segs}
-use Rattle.floats.specs.Nonneg.{nonneg}
-use Rattle.floats.proofs.Nonneg.{plain_nonneg, add_nonneg, mul_nonneg}
-use Rattle.floats.proofs.Bits.{small_plain}
-use Rattle.spill_weight.specs.Costs.{PlainJob}
-use Rattle.spill_weight.proofs.Costs.{scaled_plain}
-use Rattle.spill_weight.proofs.Sums.{cost_small}
+use Rattle.weights.specs.Nonneg.{nonneg}
+use Rattle.weights.proofs.Nonneg.{plain_nonneg, add_nonneg, mul_nonneg}
+use Rattle.weights.proofs.Bits.{small_plain}
+use Rattle.weights.specs.Costs.{PlainJob}
+use Rattle.weights.proofs.Costs.{scaled_plain}
+use Rattle.weights.proofs.Sums.{cost_small}
 use Rattle.weight_truth.specs.Truth.{Fine, FineUses, FineSegs}
 use Rattle.weight_truth.specs.Truth.{fine_mul, fine_add, fine_scale, fine_term, fine_use, fine_uses, fine_segs}
 use Rattle.weight_truth.specs.Truth.{scaled_cost, freq_of, units, exact_scale, exact_use, exact_uses, exact_sum, F32Job}

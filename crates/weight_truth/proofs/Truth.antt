@@ -16,8 +16,8 @@ use Rattle.definition.specs.RegInfo.{zero_f, class_at}
 use Rattle.definition.specs.LiveRange.{live_insts}
 use Rattle.definition.specs.Entry.{plain}
 use Rattle.definition.specs.Weights.{sum_segs, min_f, max_f, normalized, weight_of}
-use Rattle.floats.proofs.Nonneg.{plain_nonneg, div_nonneg, count_positive}
-use Rattle.spill_weight.specs.Costs.{PlainJob}
+use Rattle.weights.proofs.Nonneg.{plain_nonneg, div_nonneg, count_positive}
+use Rattle.weights.specs.Costs.{PlainJob}
 use Rattle.weight_truth.specs.Truth.{Fine, FineQuotient, fine_quotient, FineWeight, exact_sum, nonzeros}
 use Rattle.weight_truth.specs.Truth.{unskipped_in, distance}
 use Rattle.weight_truth.specs.Truth.{Near, NearExact, F32Job}

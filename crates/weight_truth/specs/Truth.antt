@@ -16,7 +16,7 @@ use Rattle.definition.specs.Uses.{cost_of}
 use Rattle.definition.specs.SplitPlacement.{freq_at}
 use Rattle.definition.specs.Weights.{scaled, is_zero_f, add_cost, sum_uses, sum_segs}
 use Rattle.definition.specs.Place.{segs_of}
-use Rattle.floats.proofs.Bits.{whole}
+use Rattle.weights.proofs.Bits.{whole}
 
 -- ---- "the exact fraction of whole numbers for the same sum": its numerator
 

@@ -4,8 +4,8 @@ use Rattle.std.proofs.Math.Seq.{paste}
 use Rattle.std.specs.Int.{w32, to_le_bytes}
 use borrow.Rule.Slice.PartMut.{put_mid}
 use Rattle.std.proofs.lemmas.List.Edits.{paste_more}
-use Rattle.rows.specs.Parts.{splice, splice_paste}
-use Rattle.rows.specs.Moves.{stores_4}
+use Rattle.words.specs.Parts.{splice, splice_paste}
+use Rattle.words.specs.Moves.{stores_4}
 use Rattle.words.specs.Words.{word_count, words_of}
 use Rattle.words.specs.Laws.{length_words, word_set}
 

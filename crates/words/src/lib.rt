@@ -2,8 +2,11 @@
 #![tactic(auto)]
 
 ghost use Rattle.std.specs.Prelude.{◌≡◌, ◌+◌, ◌≤◌, ◌<◌, set, get_or};
-ghost use Rattle.rows.specs.Parts.{splice};
+ghost use Rattle.words.specs.Parts.{splice};
 ghost use Rattle.words.specs.Words.{word_count, words_of};
+
+pub mod rows;
+pub mod span;
 
 // Reads word i.
 pub fn word_at(s: &[u8], i: usize) -> u32

@@ -1,6 +1,6 @@
 use mathlib.Core.Path.{sym}
 use native.Mathlib.Omega.{arith}
-use Rattle.operands.proofs.Twice.{never}
+use Rattle.values.proofs.Twice.{never}
 use Rattle.class_walk.proofs.Walking.{ahead_start, ahead_next, ahead_end, meets_none}
 use Rattle.class_walk.proofs.walk_uses.Goals as goal
 

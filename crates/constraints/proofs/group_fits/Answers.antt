@@ -1,6 +1,6 @@
 use mathlib.Core.Path.{sym, ◌∙◌}
 use borrow.Author.Tests.{ne_eqb}
-use Rattle.operands.proofs.Twice.{never}
+use Rattle.values.proofs.Twice.{never}
 use Rattle.constraints.proofs.Admitted.{fits_first, fits_index, fits_mapping, fits_sets}
 use Rattle.constraints.proofs.group_fits.Goals.{then-same, else-same}
 use Rattle.constraints.proofs.group_fits.Goals as goal

@@ -4,11 +4,11 @@ use mathlib.Core.Path.{◌≡◌, refl, ◌∙◌}
 use Rattle.words.specs.Words.{words_of}
 use Rattle.words.specs.Laws.{length_words, words_small}
 use Rattle.function.specs.Blocks.{blocks_at, start_words}
-use Rattle.rows.specs.Parts.{splice}
-use Rattle.block_starts.specs.declared.table.BlockStarts.{BlockStarts}
-use Rattle.block_starts.specs.Table.{words_in}
+use Rattle.words.specs.Parts.{splice}
+use Rattle.function.specs.declared.starts.table.BlockStarts.{BlockStarts}
+use Rattle.function.specs.Table.{words_in}
 use Rattle.split_placement.proofs.Chosen.{Judges}
-use Rattle.block_starts.proofs.Made.{table_made}
+use Rattle.function.proofs.Made.{table_made}
 use Rattle.cut_moves.proofs.Same.{Open, open_order, open_there, open_finite, table_chosen}
 use Rattle.cut_moves.proofs.Found.{opened, no_more, above, listed}
 use Rattle.cut_moves.proofs.put_sorted.Goals.{After-judging-to}

@@ -1,6 +1,6 @@
 use Rattle.std.specs.Prelude.{◌≡◌, length}
 use Rattle.words.specs.Words.{words_of}
-use Rattle.layout.specs.JobWords.{words_in}
+use Rattle.job.specs.JobWords.{words_in}
 use Rattle.definition.specs.Build.{as_own}
 use Rattle.frame.specs.InFrame.{marked_use}
 use Rattle.job.specs.Job.{job_in}

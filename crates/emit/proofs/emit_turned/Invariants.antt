@@ -1,6 +1,6 @@
 use Rattle.std.specs.Prelude.{◌≡◌, ◌-◌, length}
 use Rattle.words.specs.Words.{words_of}
-use Rattle.rows.specs.Tab.{tab}
+use Rattle.words.specs.Tab.{tab}
 use Rattle.emit.specs.InWalk.{turned_in, UsesAdd}
 use Rattle.emit.proofs.emit_turned.Given as goal
 

@@ -1,6 +1,6 @@
 use Rattle.std.specs.Prelude.{◌≡◌, ◌+◌, ◌-◌, ◌*◌, length}
 use Rattle.words.specs.Words.{words_of}
-use Rattle.rows.specs.Tab.{tab}
+use Rattle.words.specs.Tab.{tab}
 use Rattle.virt_regs.specs.Encoding.{use_base}
 use Rattle.emit.specs.InWalk.{tables_in, use_in, UsesAdd}
 use Rattle.emit.proofs.emit_uses.Given as goal

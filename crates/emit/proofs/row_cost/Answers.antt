@@ -1,6 +1,6 @@
 use lib.Ieee.{of_bits}
 use Rattle.std.proofs.Common.{rules}
-use Rattle.spill_weight.proofs.Costs.{zero_small, half_small}
+use Rattle.weights.proofs.Costs.{zero_small, half_small}
 use Rattle.emit.specs.Told.{cost_by}
 use Rattle.emit.proofs.row_cost.Goals as goal
 

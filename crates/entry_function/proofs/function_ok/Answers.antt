@@ -1,5 +1,5 @@
 use mathlib.Core.Path.{sym}
-use Rattle.operands.proofs.Twice.{never}
+use Rattle.values.proofs.Twice.{never}
 use Rattle.entry_function.proofs.Tests.{index_under, index_fits, function_1, function_2, function_3, function_4, function_5}
 use Rattle.entry_function.proofs.function_ok.Goals as goal
 

@@ -1,7 +1,7 @@
 use Rattle.std.proofs.Common.{rules, tests}
 use Rattle.words.specs.Words.{words_of}
 use Rattle.definition.specs.Entry.{leader_ok}
-use Rattle.coalescing.specs.Rows.{value_row, values_at}
+use Rattle.values.specs.ValueRows.{value_row, values_at}
 use Rattle.job.specs.Job.{raw_job}
 use Rattle.function.specs.Every.{every_row_from_all}
 use Rattle.entry_function.proofs.leaders_ok.Goals as goal

@@ -3,7 +3,7 @@ use lib.ListN.{get_or}
 use Rattle.std.proofs.Common.{rules, tests}
 use Rattle.words.specs.Words.{words_of}
 use Rattle.definition.specs.Types.{val}
-use Rattle.coalescing.specs.Rows.{vgroup_row}
+use Rattle.values.specs.ValueRows.{vgroup_row}
 use Rattle.function.specs.Every.{every_from_all}
 use Rattle.entry_function.specs.Counts.{known}
 use Rattle.entry_function.proofs.Tests.{every_member}

@@ -1,7 +1,7 @@
 use Rattle.std.proofs.Common.{rules, tests}
 use Rattle.words.specs.Words.{words_of}
 use Rattle.definition.specs.Entry.{operand_ok}
-use Rattle.operands.specs.Rows.{operand_row, operands_at}
+use Rattle.values.specs.OperandRows.{operand_row, operands_at}
 use Rattle.job.specs.Job.{raw_job}
 use Rattle.function.specs.Every.{every_row_from_all}
 use Rattle.entry_function.proofs.operands_ok.Goals as goal

@@ -1,7 +1,7 @@
 use Rattle.std.proofs.Common.{rules, tests}
 use Rattle.words.specs.Words.{words_of}
 use Rattle.definition.specs.Entry.{vgroup_ok}
-use Rattle.coalescing.specs.Rows.{vgroup_row, vgroups_at}
+use Rattle.values.specs.ValueRows.{vgroup_row, vgroups_at}
 use Rattle.job.specs.Job.{raw_job}
 use Rattle.function.specs.Every.{every_row_from_all}
 use Rattle.entry_function.proofs.vgroups_ok.Goals as goal

@@ -1,6 +1,6 @@
 use native.Mathlib.Omega.{arith}
 use Rattle.words.specs.Laws.{length_words, words_small}
-use Rattle.block_starts.proofs.Made.{table_made}
+use Rattle.function.proofs.Made.{table_made}
 use Rattle.find_cut.proofs.cut_by.Goals as goal
 
 pub returns : goal.returns

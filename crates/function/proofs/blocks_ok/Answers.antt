@@ -1,5 +1,5 @@
 use Rattle.std.proofs.Common.{rules, tests}
-use Rattle.word_rows.specs.Rows.{row_words}
+use Rattle.words.specs.Rows.{row_words}
 use Rattle.definition.specs.Entry.{block_ok}
 use Rattle.function.specs.Blocks.{block_row}
 use Rattle.function.specs.Every.{every_row_from_all}

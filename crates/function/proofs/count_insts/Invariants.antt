@@ -1,4 +1,4 @@
-use Rattle.word_rows.specs.Rows.{row_words}
+use Rattle.words.specs.Rows.{row_words}
 use Rattle.function.proofs.Rows.{Counting}
 use Rattle.function.proofs.count_insts.Given as goal
 

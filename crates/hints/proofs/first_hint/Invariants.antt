@@ -1,5 +1,5 @@
 use Prim.Native.Nat.{◌-◌}
-use Rattle.word_rows.specs.Rows.{row_words}
+use Rattle.words.specs.Rows.{row_words}
 use Rattle.hints.proofs.Searching.{Searching}
 use Rattle.hints.proofs.first_hint.Given as goal
 

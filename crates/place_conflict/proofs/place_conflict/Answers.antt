@@ -49,8 +49,7 @@ make_room-at-requires c = let k = c.requires.1 in
 pub emit_conflict-told-requires-clause-fits : goal.emit_conflict-told-requires-clause-fits
 emit_conflict-told-requires-clause-fits c = let k = c.requires.1 in
     let x = c.args.x in
-    let e = c.map_new-free.ensures x.value x.pos x.param in
-    (
+    let e = c.map_new-free.ensures x.value x.pos x.param in (
       weighable_kept _ _ _ _ _ _ _ c.requires.0 (ready_then _ _ _ _ _ _ e.outside k.apart k.ready) (omega (arith, c.map_new-free)),
       rows_ok _ _ _ _ e.outside k.apart _ _ _ _ (omega (arith, c.map_new-free)) k.rows,
       omega (arith, c.make_room-at, k.long),

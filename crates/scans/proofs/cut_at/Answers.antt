@@ -1,9 +1,9 @@
 use native.Mathlib.Omega.{arith}
 use mathlib.Core.Path.{refl, sym, ◌∙◌}
 use Rattle.std.proofs.lemmas.Map.Keys.{ge_from_not_lt}
-use Rattle.rows.specs.RowsAt.{length_rows_at}
+use Rattle.words.specs.RowsAt.{length_rows_at}
 use Rattle.function.specs.Blocks.{block_row}
-use Rattle.layout.specs.JobWords.{words_in}
+use Rattle.job.specs.JobWords.{words_in}
 use Rattle.scans.proofs.Steps.{early_behind, late_behind, by_side}
 use Rattle.scans.proofs.cut_at.Goals as goal
 

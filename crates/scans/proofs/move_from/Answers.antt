@@ -1,6 +1,5 @@
 use native.Mathlib.Omega.{arith}
 use mathlib.Core.Path.{refl}
-
 use Rattle.scans.proofs.Scanning.{resume, ended_through, ended_before}
 use Rattle.scans.proofs.Steps.{back_fresh, move_whole, move_halt, move_part}
 use Rattle.scans.proofs.move_from.Goals as goal

@@ -2,8 +2,8 @@ use Prim.Native.Nat.{ℕ, ◌<◌}
 use mathlib.Core.Path.{ap, ◌∙◌}
 use native.Mathlib.Omega.{arith}
 use lib.ListN.{get_or}
-use Rattle.sheet_form.specs.Front.{Formed, run_form}
-use Rattle.agree.specs.Agree.{all_bytes}
+use Rattle.sheet.specs.Front.{Formed, run_form}
+use Rattle.sheet_laws.specs.Agree.{all_bytes}
 use Rattle.sheet_verdict.specs.Fed.{both_open}
 use Rattle.sheet_verdict.proofs.feed_sheet.Goals as goal
 

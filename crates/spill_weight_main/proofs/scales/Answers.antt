@@ -8,7 +8,7 @@ use Rattle.definition.specs.declared.Remat.{Remat}
 use Rattle.definition.specs.declared.Remat.TheVariants.{CheaperThanLoad, Indirect}
 use Rattle.definition.specs.Entry.{small}
 use Rattle.definition.specs.Weights.{scaled, add_cost}
-use Rattle.spill_weight.specs.Costs.{base_cost, SmallScales}
+use Rattle.weights.specs.Costs.{base_cost, SmallScales}
 use Rattle.spill_weight_main.proofs.scales.Goals as goal
 
 -- `spill_weight_main::scales` meets its contract: each sum computed. Assumes nothing.

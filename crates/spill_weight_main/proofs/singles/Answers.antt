@@ -1,7 +1,7 @@
 use borrow.Author.Tests.{eq-eqb}
 use lib.Ieee.{of_bits, to_bits, add, mul, div, lt, of_int}
 use Rattle.definition.specs.Weights.{add_cost, min_f, normalized}
-use Rattle.spill_weight.specs.Costs.{weight_from}
+use Rattle.weights.specs.Costs.{weight_from}
 use Rattle.spill_weight_main.specs.Terms.{add_term, bits_from}
 use Rattle.spill_weight_main.proofs.singles.Goals as goal
 

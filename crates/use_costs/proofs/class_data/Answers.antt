@@ -1,5 +1,5 @@
 use lib.Ieee.{of_bits}
-use Rattle.spill_weight.proofs.Costs.{zero_small}
+use Rattle.weights.proofs.Costs.{zero_small}
 use Rattle.use_costs.proofs.Reading.{class_known, class_past}
 use Rattle.use_costs.proofs.class_data.Goals as goal
 

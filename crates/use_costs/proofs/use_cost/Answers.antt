@@ -1,7 +1,7 @@
 use lib.Ieee.{of_bits}
 use Rattle.std.proofs.Common.{rules}
 use Rattle.definition.specs.Uses.{cost_of}
-use Rattle.spill_weight.proofs.Costs.{zero_small, half_small}
+use Rattle.weights.proofs.Costs.{zero_small, half_small}
 use Rattle.use_costs.proofs.use_cost.Goals as goal
 
 pub invariant_of-fixed_cost : goal.invariant_of-fixed_cost

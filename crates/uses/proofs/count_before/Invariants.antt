@@ -1,5 +1,5 @@
 use Prim.Native.Nat.{◌≤◌}
-use Rattle.word_rows.specs.Rows.{row_words}
+use Rattle.words.specs.Rows.{row_words}
 use Rattle.uses.proofs.Scans.{CountsOn}
 use Rattle.uses.proofs.count_before.Given as goal
 

@@ -1,5 +1,5 @@
 use native.Mathlib.Omega.{arith}
-use Rattle.live_insts.proofs.Counting.{count_start, count_next}
+use Rattle.live_range.proofs.Counting.{count_start, count_next}
 use Rattle.vreg_weight.proofs.Insts.{count_over, count_all}
 use Rattle.vreg_weight.proofs.count_insts.Goals as goal
 

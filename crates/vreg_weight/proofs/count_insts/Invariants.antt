@@ -1,6 +1,6 @@
 use Prim.Native.Nat.{◌≤◌}
-use Rattle.word_rows.specs.Rows.{row_words}
-use Rattle.live_insts.proofs.Counting.{Counting}
+use Rattle.words.specs.Rows.{row_words}
+use Rattle.live_range.proofs.Counting.{Counting}
 use Rattle.vreg_weight.proofs.count_insts.Given as goal
 
 abbrev pub invariant-loop-i : goal.invariant-loop-i

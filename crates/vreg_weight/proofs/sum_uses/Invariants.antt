@@ -1,4 +1,4 @@
-use Rattle.word_rows.specs.Rows.{row_words}
+use Rattle.words.specs.Rows.{row_words}
 use Rattle.vreg_weight.specs.InWeighing.{weighed_job}
 use Rattle.vreg_weight.proofs.Sums.{Summing}
 use Rattle.vreg_weight.proofs.sum_uses.Given as goal

@@ -1,2 +1,0 @@
-pub mod Pages
-pub mod Laws

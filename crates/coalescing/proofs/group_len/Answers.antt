@@ -1,7 +1,0 @@
-use native.Mathlib.Omega.{arith}
-use Rattle.words.specs.Words.{words_of}
-use Rattle.coalescing.proofs.Members.{group_long}
-use Rattle.coalescing.proofs.group_len.Goals as goal
-
-pub returns : goal.returns
-returns c = omega (arith, group_long (words_of c.args.t.now) c.args.i)

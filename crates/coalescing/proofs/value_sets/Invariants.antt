@@ -1,7 +1,0 @@
-use Rattle.word_rows.specs.Rows.{row_words}
-use Rattle.coalescing.specs.Rows.{vgroup_row, values_in}
-use Rattle.coalescing.proofs.Members.{Filling}
-use Rattle.coalescing.proofs.value_sets.Given as goal
-
-abbrev pub invariant-loop-k : goal.invariant-loop-k
-invariant-loop-k l = Filling (values_in l.values) (vgroup_row (row_words l.values) l.i) l.k l.out

@@ -1,2 +1,0 @@
-// The two conversions of a job sheet: the laws are in specs.
-#![tactic(auto)]

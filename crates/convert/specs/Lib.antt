@@ -1,0 +1,3 @@
+pub mod Settled
+pub mod Shown
+pub mod Moved

@@ -1,3 +1,0 @@
-pub mod Margins
-pub mod Promised
-pub mod Table

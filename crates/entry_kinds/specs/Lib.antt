@@ -1,2 +1,0 @@
-pub mod Tests
-pub mod InJob

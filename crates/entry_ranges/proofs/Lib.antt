@@ -1,0 +1,2 @@
+pub mod HintTests
+pub mod SegmentTests

@@ -1,8 +1,0 @@
-use native.Mathlib.Omega.{arith}
-use Rattle.floats.proofs.Bits.{small_test}
-use Rattle.floats.proofs.is_small.Goals as goal
-
--- `floats::is_small` meets its contract. Assumes nothing.
-
-pub returns : goal.returns
-returns c = small_test c.args.bits (omega arith)

@@ -1,3 +1,0 @@
-pub mod Ranges
-pub mod Laws
-pub mod Cases

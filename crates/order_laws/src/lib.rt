@@ -1,2 +1,0 @@
-// The order on whole jobs: the laws are in specs.
-#![tactic(auto)]

@@ -1,7 +1,0 @@
-use Rattle.order_run.proofs.Finish.{ordered_put}
-use Rattle.order_run.proofs.order.Goals as goal
-
-pub returns : goal.returns
-returns g c =
-    ordered_put _ _ _ _ _ _ _ c.in-Ok.ensures c.in-Ok-read_job.ensures _ c.answer-r.ensures _ _ _ c.or.ensures
-    c.put.ensures

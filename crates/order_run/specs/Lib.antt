@@ -1,3 +1,0 @@
-pub mod Tapes
-pub mod Reads
-pub mod Runs

@@ -1,4 +1,0 @@
-pub mod Round
-pub mod Clean
-pub mod Unprint
-pub mod Results

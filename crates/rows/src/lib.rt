@@ -1,2 +1,0 @@
-// Lemmas on rows of words in flat tables; no code.
-#![tactic(auto)]

@@ -1,3 +1,0 @@
-pub mod Comparing
-pub mod Home
-pub mod Ways

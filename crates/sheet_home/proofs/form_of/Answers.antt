@@ -1,6 +1,0 @@
-use mathlib.Core.Path.{◌∙◌}
-use Rattle.sheet_home.proofs.Ways.{form_is}
-use Rattle.sheet_home.proofs.form_of.Goals as goal
-
-pub returns : goal.returns
-returns c = c.is_second.ensures ∙ form_is _ _ _ _ c.feed_sheet-cur.ensures.leads

@@ -1,4 +1,0 @@
-pub mod Read
-pub mod Laws
-pub mod Answers
-pub mod Verdict

@@ -1,2 +1,0 @@
-// What stands where in the table that the records of a job sheet fill. The laws are in specs.
-#![tactic(auto)]

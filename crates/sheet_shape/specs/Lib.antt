@@ -1,3 +1,0 @@
-pub mod Present
-pub mod Columns
-pub mod Shape

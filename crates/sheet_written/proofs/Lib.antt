@@ -1,3 +1,0 @@
-pub mod Agree
-pub mod Firsts
-pub mod Sets

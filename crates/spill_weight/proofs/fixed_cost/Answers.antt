@@ -1,8 +1,0 @@
-use lib.Ieee.{of_bits}
-use Rattle.std.proofs.Common.{rules}
-use Rattle.spill_weight.proofs.Costs.{zero_small, one_small}
-use Rattle.spill_weight.proofs.fixed_cost.Goals as goal
-
-pub invariant_of-result : goal.invariant_of-result
-unfolding of_bits
-invariant_of-result c = record { small = search (rules, zero_small, one_small) }

@@ -1,0 +1,10 @@
+pub mod Values
+pub mod Members
+pub mod Same
+pub mod Rows
+pub mod Links
+pub mod Store
+pub mod Turns
+pub mod Search
+pub mod Twice
+pub mod Only

@@ -1,0 +1,4 @@
+pub mod ValueRows
+pub mod OperandRows
+pub mod Chains
+pub mod InIndex
