@@ -1,5 +1,5 @@
 #!/usr/bin/env python3
-"""Holds the words of crates/weight_truth to exact numbers: the checker computes them for every register of each sheet.
+"""Holds the words of crates/build_answer to exact numbers: the checker computes them for every register of each sheet.
 
     gen PROFILE SEED COUNT | eval_weights.py EXACT [--most BYTES]
 
@@ -43,7 +43,7 @@ use Rattle.definition.specs.Build.{Result}
 use Rattle.definition.specs.Entry.{answer}
 use Rattle.definition.specs.Text.{bytes}
 use Rattle.definition.specs.JobSheet.{job_of_sheet}
-use Rattle.weight_truth.specs.Truth.{distance, exact_sum, fine_quotient, fine_segs, nonzeros}
+use Rattle.build_answer.specs.Truth.{distance, exact_sum, fine_quotient, fine_segs, nonzeros}
 
 text : List String → List ℕ
 text [] = []

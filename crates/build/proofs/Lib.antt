@@ -1,2 +1,4 @@
 pub mod Shaped
 pub mod Whole
+pub mod One
+pub mod All

@@ -26,18 +26,18 @@ use Rattle.job.specs.Regions.{max_work}
 use Rattle.entry.specs.Accepted.{Accepted, Prepared}
 use Rattle.entry.proofs.Numbers.{answer_built, answer_refused}
 use Rattle.std.specs.Prelude.{Ok, Err}
-use Rattle.place_end.specs.declared.NotPlaced.{NotPlaced}
-use Rattle.place_end.specs.Ends.{Placed, end_of}
-use Rattle.build_state.specs.Fits.{StandsAs}
-use Rattle.build_begin.specs.Begins.{begun, onward_begin, builds}
-use Rattle.build_begin.specs.Empty.{Clear, clear_zeros, empty_stands}
-use Rattle.build_begin.specs.Loop.{finished, build_from, build_begins}
+use Rattle.placing.specs.declared.end.NotPlaced.{NotPlaced}
+use Rattle.placing.specs.EndEnds.{Placed, end_of}
+use Rattle.steps.specs.Fits.{StandsAs}
+use Rattle.build.specs.Begins.{begun, onward_begin, builds}
+use Rattle.build.specs.Empty.{Clear, clear_zeros, empty_stands}
+use Rattle.build.specs.Loop.{finished, build_from, build_begins}
 use Rattle.build_answer.specs.declared.BuildEnd.{BuildEnd}
 use Rattle.build_answer.specs.Answered.{bytes_left, end_left, state_of, Answered}
 use Rattle.build_answer.specs.Held.{held_left, answered_refused}
 use Rattle.conflicts.specs.Conflicts.{EndsAs}
 use Rattle.conflicts.proofs.Going.{ended_state}
-use Rattle.build_sets.specs.Sets.{SetsReady}
+use Rattle.build.specs.SetsSets.{SetsReady}
 use Rattle.build.specs.Ends.{end_number, built_end, refused_end, Cleared}
 
 -- ---- numbers

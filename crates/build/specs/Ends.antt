@@ -3,8 +3,8 @@ use Rattle.std.specs.Prelude.{◌≡◌, List, ℕ, ◌+◌, ◌*◌, ◌<◌, l
 use Rattle.virt_regs.specs.declared.OutLayout.{OutLayout}
 use Rattle.virt_regs.specs.declared.Counts.{Counts}
 use Rattle.virt_regs.specs.Encoding.{tables_end}
-use Rattle.place_end.specs.declared.NotPlaced.{NotPlaced}
-use Rattle.place_end.specs.declared.NotPlaced.TheVariants.{Stopped, Full}
+use Rattle.placing.specs.declared.end.NotPlaced.{NotPlaced}
+use Rattle.placing.specs.declared.end.NotPlaced.TheVariants.{Stopped, Full}
 use Rattle.build_answer.specs.declared.BuildEnd.{BuildEnd}
 
 -- the number of the refusal

@@ -13,13 +13,15 @@ ghost use Rattle.entry.specs.Accepted.{Accepted, Prepared};
 ghost use Rattle.build_answer.specs.Answered.{out_layout_of, Answered};
 ghost use Rattle.build.specs.Ends.{end_number, built_end, Cleared};
 
+pub mod sets;
+
+use crate::sets::build_sets;
 use build_answer::{BuildEnd, out_layout, refuse, tables_bytes};
-use build_sets::build_sets;
 use definition::Refusal;
 use entry::{Entered, enter_prepared};
 use job::Job;
 use job_shape::{ShapedJob, find_layout};
-use place_end::NotPlaced;
+use placing::end::NotPlaced;
 use virt_regs::{Counts, OutLayout};
 use words::span::clear;
 

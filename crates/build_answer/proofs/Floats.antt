@@ -16,8 +16,8 @@ use Rattle.job.specs.declared.Layout.{Layout}
 use Rattle.job.specs.Job.{job_by, raw_job}
 use Rattle.job_shape.specs.Shape.{layout_of}
 use Rattle.job_shape.specs.Answer.{binary_job}
-use Rattle.weight_truth.specs.Truth.{F32Job}
-use Rattle.weight_truth.proofs.Floats.{CostFits, FreqFits, f32_job}
+use Rattle.build_answer.specs.Truth.{F32Job}
+use Rattle.build_answer.proofs.TruthFloats.{CostFits, FreqFits, f32_job}
 
 tab_all : {A : Type 0} (P : A → Type 0) (f : ℕ → A) → ((k : ℕ) → P (f k)) → (i n : ℕ) → All P (tab f i n)
 tab_all P f h i zero = tt

@@ -28,8 +28,8 @@ use Rattle.job_shape.specs.Answer.{binary_job, binary_answer}
 use Rattle.virt_regs.specs.declared.OutLayout.{OutLayout}
 use Rattle.virt_regs.specs.Encoding.{room_of}
 use Rattle.virt_regs.specs.View.{registers_in, groups_in}
-use Rattle.weight_truth.specs.Truth.{RankTrue, TrueWeight}
-use Rattle.weight_truth.proofs.Promises.{promise_weights, promise_ranks, promise_weights_sheet as sheet-weights}
+use Rattle.build_answer.specs.Truth.{RankTrue, TrueWeight}
+use Rattle.build_answer.proofs.TruthPromises.{promise_weights, promise_ranks, promise_weights_sheet as sheet-weights}
 use Rattle.build_answer.specs.declared.BuildEnd.{BuildEnd}
 use Rattle.build_answer.specs.Answered.{Answered, result_in}
 use Rattle.build_answer.specs.Sheets.{SheetAnswered}

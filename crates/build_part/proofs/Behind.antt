@@ -15,10 +15,10 @@ use Rattle.set_part.specs.declared.SetPart.{SetPart}
 use Rattle.virt_regs.specs.declared.Counts.{Counts}
 use Rattle.virt_regs.specs.declared.OutLayout.{OutLayout}
 use Rattle.job.specs.declared.work.WorkLayout.{WorkLayout}
-use Rattle.conflict_piece.specs.Conflict.{turned_rows_of, RowsOk}
-use Rattle.build_state.specs.Builds.{Builds}
+use Rattle.pieces.specs.Conflict.{turned_rows_of, RowsOk}
+use Rattle.steps.specs.Builds.{Builds}
 use Rattle.std.specs.Prelude.{Result, Ok, Err, IfOk}
-use Rattle.place_end.specs.declared.NotPlaced.{NotPlaced}
+use Rattle.placing.specs.declared.end.NotPlaced.{NotPlaced}
 use Rattle.build_part.specs.declared.StepsEnd.{StepsEnd}
 use Rattle.steps.specs.Laid.{Laid}
 use Rattle.steps.specs.Built.{Changed}
@@ -28,7 +28,7 @@ use Rattle.build_part.specs.Steps.{BuiltFit, BuildsTo, StepReady, Onward, turned
 use Rattle.definition.proofs.Fuel.{run}
 use Rattle.set_part.specs.Part.{part_segs}
 use Rattle.virt_regs.specs.Encoding.{room_of}
-use Rattle.build_state.specs.Fits.{StandsAs}
+use Rattle.steps.specs.Fits.{StandsAs}
 
 -- changes within a part of the part
 pub changed_on : (lay : Layout) (wl : WorkLayout) (sp sp₁ : SetPart) (n n₁ : ℕ) (K K₁ K₂ : List ℕ) → sp.first ≤ sp₁.first → sp₁.end ≡ sp.end → n ≤ n₁ → Changed lay wl sp n K K₁ → Changed lay wl sp₁ n₁ K₁ K₂

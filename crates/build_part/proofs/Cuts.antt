@@ -21,9 +21,9 @@ use Rattle.job.specs.Job.{job_of}
 use Rattle.set_part.specs.declared.SetPart.{SetPart}
 use Rattle.set_part.specs.Part.{PartOk, part_segs}
 use Rattle.set_part.proofs.Bounds.{first_le_end}
-use Rattle.set_cuts.specs.declared.Parts.{Parts}
-use Rattle.set_cuts.specs.Cut.{cut_part}
-use Rattle.set_cuts.proofs.Kept.{Sides}
+use Rattle.set_part.specs.declared.cuts.Parts.{Parts}
+use Rattle.set_part.specs.Cut.{cut_part}
+use Rattle.set_part.proofs.CutsKept.{Sides}
 use Rattle.virt_regs.specs.declared.Counts.{Counts}
 use Rattle.virt_regs.specs.declared.OutLayout.{OutLayout}
 use Rattle.virt_regs.specs.Encoding.{room_of, tables_end}
@@ -31,16 +31,16 @@ use Rattle.job.specs.declared.work.WorkLayout.{WorkLayout}
 use Rattle.constraints.specs.declared.Held.{Held}
 use Rattle.constraints.specs.Held.{held_of}
 use Rattle.constraints.specs.Ready.{Ready}
-use Rattle.part_maps.specs.Maps.{Outside}
-use Rattle.conflict_piece.specs.Conflict.{turned_rows_of, RowsOk}
+use Rattle.pieces.specs.Maps.{Outside}
+use Rattle.pieces.specs.Conflict.{turned_rows_of, RowsOk}
 use Rattle.vreg_weight.specs.Fair.{Fair}
 use Rattle.std.specs.Prelude.{Result, Ok, Err}
-use Rattle.place_end.specs.declared.NotPlaced.{NotPlaced}
-use Rattle.place_end.specs.Ends.{Placed, placed_state, Answers, Ends}
-use Rattle.place_part.specs.Asked.{new_pieces, Asked}
-use Rattle.place_laws.specs.Held.{HeldFits}
-use Rattle.build_state.specs.Builds.{Builds}
-use Rattle.build_state.specs.Fits.{StandsAs}
+use Rattle.placing.specs.declared.end.NotPlaced.{NotPlaced}
+use Rattle.placing.specs.EndEnds.{Placed, placed_state, Answers, Ends}
+use Rattle.place.specs.Asked.{new_pieces, Asked}
+use Rattle.placing.specs.Held.{HeldFits}
+use Rattle.steps.specs.Builds.{Builds}
+use Rattle.steps.specs.Fits.{StandsAs}
 use Rattle.steps.specs.Laid.{uses_left, Laid}
 use Rattle.steps.proofs.Run.{run_cut}
 use Rattle.steps.proofs.Cut.{rows_kept, rows_ok_kept, cut_bounds, cut_parts, left_segs, left_kinds, fair_left, right_kept, right_left, laid_right}

@@ -23,19 +23,19 @@ use Rattle.virt_regs.specs.Encoding.{room_of}
 use Rattle.job.specs.declared.work.WorkLayout.{WorkLayout}
 use Rattle.constraints.specs.declared.Held.{Held}
 use Rattle.constraints.specs.Held.{held_of}
-use Rattle.part_maps.specs.Maps.{Outside}
-use Rattle.conflict_piece.specs.Conflict.{turned_rows_of}
+use Rattle.pieces.specs.Maps.{Outside}
+use Rattle.pieces.specs.Conflict.{turned_rows_of}
 use Rattle.vreg_weight.specs.Fair.{Fair}
 use Rattle.std.specs.Prelude.{Result, Ok, Err}
-use Rattle.place_end.specs.declared.NotPlaced.{NotPlaced}
-use Rattle.place_end.specs.declared.NotPlaced.TheVariants as not_placed
-use Rattle.place_end.specs.Ends.{Placed, DoneAs, Answers, Ends}
-use Rattle.place_part.specs.Asked.{new_pieces, Standing, Asked}
-use Rattle.place_laws.specs.Held.{HeldFits}
-use Rattle.build_state.specs.Builds.{Builds}
-use Rattle.build_state.specs.Fits.{StandsAs}
-use Rattle.build_state.specs.Held.{held_fits}
-use Rattle.build_state.specs.Placing.{part_fits}
+use Rattle.placing.specs.declared.end.NotPlaced.{NotPlaced}
+use Rattle.placing.specs.declared.end.NotPlaced.TheVariants as not_placed
+use Rattle.placing.specs.EndEnds.{Placed, DoneAs, Answers, Ends}
+use Rattle.place.specs.Asked.{new_pieces, Standing, Asked}
+use Rattle.placing.specs.Held.{HeldFits}
+use Rattle.steps.specs.Builds.{Builds}
+use Rattle.steps.specs.Fits.{StandsAs}
+use Rattle.steps.specs.Held.{held_fits}
+use Rattle.steps.specs.Placing.{part_fits}
 use Rattle.steps.specs.Laid.{Laid}
 use Rattle.steps.proofs.Run.{run_whole, run_halt}
 use Rattle.steps.proofs.Cut.{rows_kept, rows_ok_kept, fair_part, part_kinds}

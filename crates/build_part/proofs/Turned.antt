@@ -23,7 +23,7 @@ use Rattle.job.specs.declared.Layout.{Layout}
 use Rattle.job.specs.Job.{job_of}
 use Rattle.set_part.specs.declared.SetPart.{SetPart}
 use Rattle.set_part.specs.Part.{PartOk, marked_use, part_segs}
-use Rattle.turned.specs.Turned.{turned_row}
+use Rattle.set_part.specs.Turned.{turned_row}
 use Rattle.virt_regs.specs.declared.Counts.{Counts}
 use Rattle.virt_regs.specs.declared.OutLayout.{OutLayout}
 use Rattle.job.specs.declared.work.WorkLayout.{WorkLayout}
@@ -35,16 +35,16 @@ use Rattle.constraints.proofs.Kept.{stands_kept}
 use Rattle.scans.specs.declared.Move as code
 use Rattle.scans.specs.declared.Move.TheVariants as code_move
 use Rattle.scans.specs.Answers.{move_of}
-use Rattle.class_walk.specs.Walks.{asked_of}
-use Rattle.class_walk.proofs.Lists.{tab_none, tab_next}
-use Rattle.class_walk.proofs.Admitting.{admit_any}
+use Rattle.scans.specs.Walks.{asked_of}
+use Rattle.scans.proofs.Lists.{tab_none, tab_next}
+use Rattle.scans.proofs.Admitting.{admit_any}
 use Rattle.steps.specs.Turns.{turned_once, turned_words}
 use Rattle.steps.specs.Laid.{uses_left, Laid}
 use Rattle.steps.proofs.Turn.{row_number, once_before, once_long, once_stands}
 use Rattle.steps.proofs.Changed.{changed_none}
 use Rattle.steps.proofs.Cut.{part_scanned}
 use Rattle.std.specs.Prelude.{Result, Ok, Err, IfOk}
-use Rattle.place_end.specs.declared.NotPlaced.{NotPlaced}
+use Rattle.placing.specs.declared.end.NotPlaced.{NotPlaced}
 use Rattle.build_part.specs.declared.Step.{Step}
 use Rattle.build_part.specs.declared.Step.TheVariants.{On, Over}
 use Rattle.build_part.specs.Steps.{StepReady, Moves, OnwardBy, StepTo}

@@ -16,21 +16,21 @@ use Rattle.job.specs.declared.Layout.{Layout}
 use Rattle.job.specs.Job.{job_of}
 use Rattle.set_part.specs.declared.SetPart.{SetPart}
 use Rattle.set_part.specs.Part.{PartOk, part_segs}
-use Rattle.turned.specs.declared.TurnedRow.{TurnedRow}
-use Rattle.turned.specs.Turned.{turned_row}
+use Rattle.set_part.specs.declared.mark.TurnedRow.{TurnedRow}
+use Rattle.set_part.specs.Turned.{turned_row}
 use Rattle.virt_regs.specs.declared.Counts.{Counts}
 use Rattle.virt_regs.specs.declared.OutLayout.{OutLayout}
 use Rattle.virt_regs.specs.Encoding.{room_of}
 use Rattle.job.specs.declared.work.WorkLayout.{WorkLayout}
-use Rattle.conflict_piece.specs.Conflict.{turned_rows_of}
-use Rattle.build_state.specs.Fits.{StandsAs}
+use Rattle.pieces.specs.Conflict.{turned_rows_of}
+use Rattle.steps.specs.Fits.{StandsAs}
 use Rattle.steps.specs.Turns.{turned_once, TurnRoom}
 use Rattle.steps.specs.Laid.{Laid}
 use Rattle.steps.proofs.Run.{run_turn}
 use Rattle.steps.proofs.Turn.{row_number, once_stands, turn_inside, turn_number, turn_rows, turn_segs, turn_left, turn_room, laid_turn}
 use Rattle.steps.proofs.Changed.{changed_none, changed_turn}
 use Rattle.std.specs.Prelude.{Result, Ok}
-use Rattle.place_end.specs.declared.NotPlaced.{NotPlaced}
+use Rattle.placing.specs.declared.end.NotPlaced.{NotPlaced}
 use Rattle.build_part.specs.declared.Step.{Step}
 use Rattle.build_part.specs.declared.Step.TheVariants.{On}
 use Rattle.build_part.specs.Steps.{OnwardBy, Stepped, StepTo}

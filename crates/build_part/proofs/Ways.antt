@@ -17,8 +17,8 @@ use Rattle.job.specs.declared.Layout.{Layout}
 use Rattle.job.specs.Job.{job_of}
 use Rattle.set_part.specs.declared.SetPart.{SetPart}
 use Rattle.set_part.specs.Part.{part_segs}
-use Rattle.set_cuts.specs.Cut.{cut_part}
-use Rattle.turned.specs.Turned.{turned_row}
+use Rattle.set_part.specs.Cut.{cut_part}
+use Rattle.set_part.specs.Turned.{turned_row}
 use Rattle.virt_regs.specs.declared.Counts.{Counts}
 use Rattle.virt_regs.specs.declared.OutLayout.{OutLayout}
 use Rattle.virt_regs.specs.Encoding.{room_of}
@@ -26,15 +26,15 @@ use Rattle.job.specs.declared.work.WorkLayout.{WorkLayout}
 use Rattle.constraints.specs.declared.Held.{Held}
 use Rattle.constraints.specs.Held.{held_of}
 use Rattle.constraints.specs.Ready.{Stands}
-use Rattle.conflict_piece.specs.Conflict.{turned_rows_of}
+use Rattle.pieces.specs.Conflict.{turned_rows_of}
 use Rattle.vreg_weight.specs.Fair.{Fair}
 use Rattle.std.specs.Prelude.{Result, Ok, Err, Option, Some, None}
-use Rattle.place_end.specs.declared.NotPlaced.{NotPlaced}
-use Rattle.place_end.specs.declared.NotPlaced.TheVariants as not_placed
-use Rattle.place_end.specs.Ends.{Placed, Ends}
-use Rattle.place_part.specs.Asked.{new_pieces, Standing, Asked}
-use Rattle.place_laws.specs.Held.{HeldFits}
-use Rattle.build_state.specs.Fits.{StandsAs}
+use Rattle.placing.specs.declared.end.NotPlaced.{NotPlaced}
+use Rattle.placing.specs.declared.end.NotPlaced.TheVariants as not_placed
+use Rattle.placing.specs.EndEnds.{Placed, Ends}
+use Rattle.place.specs.Asked.{new_pieces, Standing, Asked}
+use Rattle.placing.specs.Held.{HeldFits}
+use Rattle.steps.specs.Fits.{StandsAs}
 use Rattle.steps.specs.Turns.{turned_once}
 use Rattle.build_part.specs.declared.Next.{Next}
 use Rattle.build_part.specs.declared.Step.{Step}

@@ -11,7 +11,7 @@ use Rattle.set_part.specs.declared.SetPart.{SetPart}
 use Rattle.definition.specs.declared.RegClass.{RegClass}
 use Rattle.virt_regs.specs.declared.Counts.{Counts}
 use Rattle.constraints.specs.declared.Held.{Held}
-use Rattle.place_end.specs.declared.NotPlaced.{NotPlaced}
+use Rattle.placing.specs.declared.end.NotPlaced.{NotPlaced}
 use Rattle.definition.specs.Admit.{Move}
 use Rattle.definition.specs.declared.Stop.{Stop}
 use Rattle.build_part.specs.declared.Next.{Next}

@@ -15,7 +15,7 @@ use Rattle.job.specs.declared.Layout.{Layout}
 use Rattle.job.specs.Job.{job_of}
 use Rattle.set_part.specs.declared.SetPart.{SetPart}
 use Rattle.set_part.specs.Part.{part_segs, marked_use}
-use Rattle.set_cuts.specs.Cut.{cut_part}
+use Rattle.set_part.specs.Cut.{cut_part}
 use Rattle.virt_regs.specs.declared.OutLayout.{OutLayout}
 use Rattle.virt_regs.specs.declared.Counts.{Counts}
 use Rattle.virt_regs.specs.Encoding.{room_of}
@@ -23,11 +23,11 @@ use Rattle.job.specs.declared.work.WorkLayout.{WorkLayout}
 use Rattle.constraints.specs.declared.Held.{Held}
 use Rattle.constraints.specs.Held.{held_of}
 use Rattle.constraints.specs.Ready.{Stands}
-use Rattle.conflict_piece.specs.Conflict.{turned_rows_of, RowsOk}
-use Rattle.place_end.specs.declared.NotPlaced.{NotPlaced}
-use Rattle.place_end.specs.Ends.{end_of}
-use Rattle.build_state.specs.Builds.{Builds}
-use Rattle.build_state.specs.Fits.{StandsAs}
+use Rattle.pieces.specs.Conflict.{turned_rows_of, RowsOk}
+use Rattle.placing.specs.declared.end.NotPlaced.{NotPlaced}
+use Rattle.placing.specs.EndEnds.{end_of}
+use Rattle.steps.specs.Builds.{Builds}
+use Rattle.steps.specs.Fits.{StandsAs}
 use Rattle.scans.specs.Answers.{Passed}
 use Rattle.steps.specs.Laid.{uses_left, Laid}
 use Rattle.steps.specs.Built.{Changed}

@@ -14,7 +14,7 @@ use Rattle.virt_regs.specs.Encoding.{room_of}
 use Rattle.job.specs.declared.work.WorkLayout.{WorkLayout}
 use Rattle.constraints.specs.Held.{held_of}
 use Rattle.constraints.specs.Ready.{Stands}
-use Rattle.conflict_piece.specs.Conflict.{turned_rows_of}
+use Rattle.pieces.specs.Conflict.{turned_rows_of}
 use Rattle.steps.specs.Laid.{uses_left, Laid}
 use Rattle.steps.specs.Built.{Changed}
 use Rattle.build_part.specs.declared.Settled.{Settled}

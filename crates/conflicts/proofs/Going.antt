@@ -14,12 +14,12 @@ use Rattle.virt_regs.specs.declared.OutLayout.{OutLayout}
 use Rattle.virt_regs.specs.declared.Counts.{Counts}
 use Rattle.virt_regs.specs.Encoding.{room_of}
 use Rattle.job.specs.declared.work.WorkLayout.{WorkLayout}
-use Rattle.conflict_piece.specs.Conflict.{turned_rows_of}
-use Rattle.conflict_round.proofs.Kept.{rows_none, rows_part}
+use Rattle.pieces.specs.Conflict.{turned_rows_of}
+use Rattle.conflicts.proofs.RoundKept.{rows_none, rows_part}
 use Rattle.std.specs.Prelude.{Ok, Err}
-use Rattle.place_end.specs.declared.NotPlaced.{NotPlaced}
-use Rattle.place_end.specs.Ends.{Placed}
-use Rattle.build_state.specs.Fits.{StandsAs}
+use Rattle.placing.specs.declared.end.NotPlaced.{NotPlaced}
+use Rattle.placing.specs.EndEnds.{Placed}
+use Rattle.steps.specs.Fits.{StandsAs}
 use Rattle.conflicts.specs.Conflicts.{Between, Rounded, EndsAs, Given}
 use Rattle.conflicts.proofs.Kept.{between_none, between_then, between_ready, rounded_rows, rounded_known}
 

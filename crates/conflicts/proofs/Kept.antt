@@ -12,10 +12,10 @@ use Rattle.virt_regs.specs.declared.Counts.{Counts}
 use Rattle.job.specs.declared.work.WorkLayout.{WorkLayout}
 use Rattle.constraints.specs.Ready.{Ready}
 use Rattle.constraints.proofs.Kept.{ready_kept}
-use Rattle.part_maps.specs.Maps.{MapApart, Outside}
-use Rattle.conflict_piece.specs.Conflict.{turned_row_at, turned_rows_of, RowsOk}
-use Rattle.conflict_round.specs.Rounds.{row_words, TurnedApart, Elsewhere}
-use Rattle.conflict_round.proofs.Kept.{row_same, rows_equal, row_number}
+use Rattle.pieces.specs.Maps.{MapApart, Outside}
+use Rattle.pieces.specs.Conflict.{turned_row_at, turned_rows_of, RowsOk}
+use Rattle.conflicts.specs.Rounds.{row_words, TurnedApart, Elsewhere}
+use Rattle.conflicts.proofs.RoundKept.{row_same, rows_equal, row_number}
 use Rattle.steps.specs.Turns.{TurnRoom}
 use Rattle.conflicts.specs.Conflicts.{Between, Rounded, Given}
 

@@ -1,5 +1,9 @@
 pub mod Kept
 pub mod Reading
-pub mod Round
+pub mod RoundLemmas
 pub mod Rounding
 pub mod Going
+pub mod RoundKept
+pub mod Swap
+pub mod Trying
+pub mod Runs

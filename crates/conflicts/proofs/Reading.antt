@@ -22,12 +22,12 @@ use Rattle.job.specs.Job.{job_by, job_of}
 use Rattle.virt_regs.specs.declared.OutLayout.{OutLayout}
 use Rattle.job.specs.declared.work.WorkLayout.{WorkLayout}
 use Rattle.constraints.specs.Ready.{Ready}
-use Rattle.conflict_piece.specs.Conflict.{row_use, turned_row_at, turned_rows_of, param_by}
-use Rattle.conflict_round.proofs.Kept.{rows_more, rows_long}
-use Rattle.place_end.specs.declared.NotPlaced.TheVariants as not_placed
-use Rattle.place_end.specs.Ends.{Placed}
+use Rattle.pieces.specs.Conflict.{row_use, turned_row_at, turned_rows_of, param_by}
+use Rattle.conflicts.proofs.RoundKept.{rows_more, rows_long}
+use Rattle.placing.specs.declared.end.NotPlaced.TheVariants as not_placed
+use Rattle.placing.specs.EndEnds.{Placed}
 use Rattle.std.specs.Prelude.{Err}
-use Rattle.conflict_piece.specs.declared.First.{First}
+use Rattle.pieces.specs.declared.conflict.First.{First}
 use Rattle.conflicts.specs.Conflicts.{EndsAs, IsFirst}
 
 abbrev param_of : ℕ → ℕ → Option ℕ

@@ -14,13 +14,13 @@ use Rattle.virt_regs.specs.declared.OutLayout.{OutLayout}
 use Rattle.virt_regs.specs.declared.Counts.{Counts}
 use Rattle.virt_regs.specs.Encoding.{room_of}
 use Rattle.job.specs.declared.work.WorkLayout.{WorkLayout}
-use Rattle.conflict_piece.specs.Conflict.{turned_rows_of, RowsOk, param_by}
-use Rattle.conflict_round.proofs.Kept.{rows_none}
+use Rattle.pieces.specs.Conflict.{turned_rows_of, RowsOk, param_by}
+use Rattle.conflicts.proofs.RoundKept.{rows_none}
 use Rattle.std.specs.Prelude.{Result, Ok, Err}
-use Rattle.place_end.specs.declared.NotPlaced.{NotPlaced}
-use Rattle.place_end.specs.Ends.{Placed}
-use Rattle.build_state.specs.Fits.{StandsAs}
-use Rattle.conflict_piece.specs.declared.First.{First}
+use Rattle.placing.specs.declared.end.NotPlaced.{NotPlaced}
+use Rattle.placing.specs.EndEnds.{Placed}
+use Rattle.steps.specs.Fits.{StandsAs}
+use Rattle.pieces.specs.declared.conflict.First.{First}
 use Rattle.conflicts.specs.declared.RoundEnd.{RoundEnd}
 use Rattle.conflicts.specs.Conflicts.{Rounded, EndsAs, Given, IsFirst, RoundAs}
 use Rattle.conflicts.proofs.Kept.{rounded_none, rounded_then, between_ready}

@@ -10,14 +10,14 @@ use Rattle.virt_regs.specs.declared.OutLayout.{OutLayout}
 use Rattle.virt_regs.specs.declared.Counts.{Counts}
 use Rattle.job.specs.declared.work.WorkLayout.{WorkLayout}
 use Rattle.constraints.specs.Ready.{Ready}
-use Rattle.part_maps.specs.Maps.{MapApart}
-use Rattle.conflict_piece.specs.Conflict.{turned_rows_of, RowsOk, param_by}
-use Rattle.place_end.specs.declared.NotPlaced.{NotPlaced}
-use Rattle.place_end.specs.Ends.{Placed, end_of}
+use Rattle.pieces.specs.Maps.{MapApart}
+use Rattle.pieces.specs.Conflict.{turned_rows_of, RowsOk, param_by}
+use Rattle.placing.specs.declared.end.NotPlaced.{NotPlaced}
+use Rattle.placing.specs.EndEnds.{Placed, end_of}
 use Rattle.steps.specs.Turns.{TurnRoom}
-use Rattle.build_state.specs.Builds.{Builds}
-use Rattle.build_state.specs.Fits.{StandsAs}
-use Rattle.conflict_piece.specs.declared.First.{First}
+use Rattle.steps.specs.Builds.{Builds}
+use Rattle.steps.specs.Fits.{StandsAs}
+use Rattle.pieces.specs.declared.conflict.First.{First}
 use Rattle.conflicts.specs.declared.RoundEnd.{RoundEnd}
 
 -- K' is K but for the words of the mapping and those from the turned rows on

@@ -9,8 +9,8 @@ use Rattle.frame.specs.declared.lent.Frame.{Frame}
 use Rattle.definition.specs.declared.ValueSet.{ValueSet}
 use Rattle.definition.specs.declared.RegClass.{RegClass}
 use Rattle.virt_regs.specs.declared.Counts.{Counts}
-use Rattle.place_end.specs.Ends.{Placed}
-use Rattle.place_end.specs.declared.NotPlaced.{NotPlaced}
+use Rattle.placing.specs.EndEnds.{Placed}
+use Rattle.placing.specs.declared.end.NotPlaced.{NotPlaced}
 use Rattle.conflicts.specs.declared.RoundEnd.{RoundEnd}
 use Rattle.conflicts.specs.Conflicts as conflicts
 

@@ -10,21 +10,23 @@ ghost use Rattle.definition.specs.Entry.{insts_of};
 ghost use Rattle.definition.specs.Build as build;
 ghost use Rattle.job.specs.Job.{job_in};
 ghost use Rattle.virt_regs.specs.Encoding.{room_of};
-ghost use Rattle.conflict_piece.specs.Conflict.{turned_row_at, param_by};
+ghost use Rattle.pieces.specs.Conflict.{turned_row_at, param_by};
 ghost use Rattle.conflicts.specs.Conflicts.{Between, Rounded, IsFirst};
 ghost use Rattle.constraints.specs.InFrame.{Ready};
-ghost use Rattle.part_maps.specs.InFrame.{MapApart};
-ghost use Rattle.conflict_piece.specs.InFrame.{turned_rows_of, RowsOk};
-ghost use Rattle.build_state.specs.InFrame.{StandsAs, Builds};
+ghost use Rattle.pieces.specs.MapsInFrame.{MapApart};
+ghost use Rattle.pieces.specs.ConflictInFrame.{turned_rows_of, RowsOk};
+ghost use Rattle.steps.specs.StateInFrame.{StandsAs, Builds};
 ghost use Rattle.steps.specs.InFrame.{TurnRoom};
 ghost use Rattle.conflicts.specs.InFrame.{Given, EndsAs, RoundAs};
 
-use conflict_piece::{First, turned_use};
-use conflict_round::{one_value, run_end, try_rows};
+pub mod round;
+
+use crate::round::{one_value, run_end, try_rows};
 use definition::{RegClass, Stop, Value, ValueSet};
 use frame::Frame;
-use place_conflict::place_conflict;
-use place_end::NotPlaced;
+use pieces::conflict::{First, turned_use};
+use place::conflict::place_conflict;
+use placing::end::NotPlaced;
 use virt_regs::Counts;
 
 // A round placed a register: the rows in use then, and the first of the rows left over.

@@ -19,9 +19,9 @@ use Rattle.definition.specs.Admit.{mapped_at, sets_at, same_sets, mapping_fits, 
 use Rattle.std.specs.Prelude.{Some, None}
 use Rattle.std.specs.Prelude as code
 use Rattle.reginfo.specs.Rows.{found_of}
-use Rattle.members.specs.declared.Joined.{Joined}
-use Rattle.members.specs.Places.{option_of, joined_of}
-use Rattle.members.proofs.Narrowing.{found_some, found_none, bind_some, bind_none}
+use Rattle.constraints.specs.declared.members.Joined.{Joined}
+use Rattle.constraints.specs.Places.{option_of, joined_of}
+use Rattle.constraints.proofs.Narrowing.{found_some, found_none, bind_some, bind_none}
 use Rattle.constraints.specs.declared.GroupUse.{GroupUse}
 use Rattle.constraints.specs.declared.Ask.{Ask}
 use Rattle.constraints.specs.declared.Ask.TheVariants.{Any, Group}

@@ -27,8 +27,8 @@ use Rattle.values.proofs.Twice.{never}
 use Rattle.job.specs.declared.Layout.{Layout}
 use Rattle.job.specs.Job.{job_by, job_of}
 use Rattle.virt_regs.specs.Encoding.{group_word}
-use Rattle.members.specs.Places.{option_of}
-use Rattle.members.proofs.Places.{group_same}
+use Rattle.constraints.specs.Places.{option_of}
+use Rattle.constraints.proofs.Places.{group_same}
 use Rattle.job.specs.declared.work.WorkLayout.{WorkLayout}
 use Rattle.constraints.specs.declared.OperandGroup.{OperandGroup}
 use Rattle.constraints.specs.Ready.{operands_in, HasOperand, OperandIs, Says, Said}

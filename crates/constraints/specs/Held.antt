@@ -9,7 +9,7 @@ use Rattle.definition.specs.declared.VirtRegGroup.{VirtRegGroup}
 use Rattle.definition.specs.Types.{Job, State}
 use Rattle.definition.specs.Types as types
 use Rattle.definition.specs.Admit.{guard, group_fits, in_group}
-use Rattle.members.specs.Places.{option_of}
+use Rattle.constraints.specs.Places.{option_of}
 use Rattle.constraints.specs.declared.Held.{Held}
 use Rattle.constraints.specs.declared.HeldGroup.{HeldGroup}
 

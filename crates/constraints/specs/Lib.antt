@@ -2,3 +2,4 @@ pub mod Held
 pub mod Asks
 pub mod Ready
 pub mod InFrame
+pub mod Places

@@ -17,7 +17,7 @@ use Rattle.job.specs.Layout.{Fits}
 use Rattle.job.specs.Job.{job_of}
 use Rattle.virt_regs.specs.declared.OutLayout.{OutLayout}
 use Rattle.virt_regs.specs.Encoding.{group_word, Holds}
-use Rattle.members.specs.Places.{option_of}
+use Rattle.constraints.specs.Places.{option_of}
 use Rattle.constraints.specs.declared.Ask.{Ask}
 use Rattle.constraints.specs.declared.Ask.TheVariants.{Any, Class, Group}
 use Rattle.job.specs.declared.work.WorkLayout.{WorkLayout}

@@ -10,11 +10,13 @@ ghost use Rattle.definition.specs.Admit as admission;
 ghost use Rattle.values.specs.OperandRows.{last_place};
 ghost use Rattle.job.specs.Job.{job_in};
 ghost use Rattle.virt_regs.specs.Encoding.{tables_end, Holds};
-ghost use Rattle.members.specs.Places.{option_of};
+ghost use Rattle.constraints.specs.Places.{option_of};
 ghost use Rattle.constraints.specs.Held.{group_of, held_of, admission_of, into_group};
 ghost use Rattle.constraints.specs.Asks.{ask_of};
 ghost use Rattle.constraints.specs.Ready.{operands_in, Backed, HasOperand};
 ghost use Rattle.constraints.specs.InFrame.{Ready, Stands, OperandIs, Said};
+
+pub mod members;
 
 use definition::{Inst, RegClass, Use, UseKind, ValueSet, VirtReg, VirtRegGroup};
 use frame::Frame;
@@ -129,7 +131,7 @@ fn operand_group(fr: &Frame, work: &[u8], k: usize) -> OperandGroup
     let mapping = wl.mapping;
     let w = words::word_at(work, mapping + k);
     OperandGroup {
-        mapped: members::number_in(w).map(VirtRegGroup),
+        mapped: crate::members::number_in(w).map(VirtRegGroup),
         sets: values::value_sets(&job::rows::values(job), row),
     }
 }
@@ -177,7 +179,7 @@ fn admit_into(
     if !group_fits(held.group, i, g) {
         return None;
     }
-    let n = members::in_group(fr, out, held.class, held.target, k, g.mapped, i)?;
+    let n = crate::members::in_group(fr, out, held.class, held.target, k, g.mapped, i)?;
     let sets = g.sets;
     let group = HeldGroup {
         index: i,

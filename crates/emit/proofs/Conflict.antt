@@ -27,8 +27,8 @@ use Rattle.vreg_weight.specs.Sorted.{Sorted}
 use Rattle.vreg_weight.specs.Sound.{each_left, each_right}
 use Rattle.vreg_weight.specs.Weighed.{Inside}
 use Rattle.vreg_weight.specs.Fair.{Fair, fair_inside}
-use Rattle.conflict_piece.specs.Conflict.{row_use, turned_rows_of, param_by, open_count, conflict_row}
-use Rattle.conflict_piece.proofs.Rows.{rows_uses, piece_uses, open_count_lem, row_words}
+use Rattle.pieces.specs.Conflict.{row_use, turned_rows_of, param_by, open_count, conflict_row}
+use Rattle.pieces.proofs.ConflictRows.{rows_uses, piece_uses, open_count_lem, row_words}
 use Rattle.emit.specs.declared.near.Near.{Near}
 use Rattle.emit.specs.declared.tally.Costs.{Costs}
 use Rattle.emit.specs.declared.tally.Tally.{Tally}

@@ -30,7 +30,7 @@ use Rattle.virt_regs.specs.declared.OutLayout.{OutLayout}
 use Rattle.virt_regs.specs.Each.{Each}
 use Rattle.vreg_weight.specs.Weighed.{Inside, BitsOf}
 use Rattle.vreg_weight.specs.Fair.{Fair, fair_insts, fair_inside}
-use Rattle.part_pieces.proofs.Rows.{segs_to, own_snoc, own_length, own_segs, own_uses_lem}
+use Rattle.pieces.proofs.PartRows.{segs_to, own_snoc, own_length, own_segs, own_uses_lem}
 use Rattle.emit.specs.declared.tally.Tally.{Tally}
 use Rattle.emit.specs.Told.{InsideRun, own_piece, range_in, counted_by, Told, PieceAdds}
 use Rattle.emit.proofs.Pieces.{touched_more}

@@ -18,9 +18,9 @@ use Rattle.virt_regs.specs.declared.OutLayout.{OutLayout}
 use Rattle.virt_regs.specs.declared.PieceRow.{PieceRow}
 use Rattle.virt_regs.specs.Encoding.{seg_base, tables_end, piece_words, each_piece}
 use Rattle.virt_regs.specs.Counting.{uses_append, count_uses_of}
-use Rattle.vreg_put.specs.Written.{Written, written_none, written_piece}
-use Rattle.part_pieces.specs.Rows.{row_of}
-use Rattle.part_pieces.proofs.Rows.{row_words}
+use Rattle.vregs_write.specs.Written.{Written, written_none, written_piece}
+use Rattle.pieces.specs.Rows.{row_of}
+use Rattle.pieces.proofs.PartRows.{row_words}
 use Rattle.emit.specs.declared.near.Near.{Near}
 use Rattle.emit.specs.declared.tally.Costs.{Costs}
 use Rattle.emit.specs.declared.tally.Tally.{Tally}

@@ -25,7 +25,7 @@ use Rattle.function.specs.BlockLaws.{block_holds, starts_frequency}
 use Rattle.job.specs.declared.Layout.{Layout}
 use Rattle.set_part.specs.Part.{marked_use}
 use Rattle.uses.specs.Rows.{use_row}
-use Rattle.use_costs.proofs.Reading.{near_here}
+use Rattle.vreg_weight.proofs.Reading.{near_here}
 use Rattle.virt_regs.specs.Encoding.{use_words}
 use Rattle.emit.specs.declared.near.Near.{Near}
 use Rattle.emit.specs.Told.{NearFits, NearAt, cost_by, use_adds}

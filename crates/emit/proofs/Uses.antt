@@ -11,7 +11,7 @@ use Rattle.definition.specs.Weights.{sum_uses}
 use Rattle.weights.proofs.Sums.{uses_append}
 use Rattle.virt_regs.specs.declared.OutLayout.{OutLayout}
 use Rattle.virt_regs.specs.Encoding.{use_base, tables_end, use_words}
-use Rattle.vreg_put.specs.Written.{Written, written_use}
+use Rattle.vregs_write.specs.Written.{Written, written_use}
 use Rattle.emit.specs.declared.tally.Costs.{Costs}
 use Rattle.emit.specs.Told.{NearFits, use_adds, UsesAdd}
 

@@ -6,7 +6,7 @@ use Rattle.definition.specs.declared.Remat.{Remat}
 use Rattle.definition.specs.declared.Use.{Use}
 use Rattle.definition.specs.Types.{Piece}
 use Rattle.frame.specs.InFrame.{marked_use}
-use Rattle.conflict_piece.specs.InFrame.{row_use}
+use Rattle.pieces.specs.ConflictInFrame.{row_use}
 use Rattle.virt_regs.specs.declared.OutLayout.{OutLayout}
 use Rattle.vreg_weight.specs.InWeighing.{weighed_job}
 use Rattle.vreg_weight.specs.declared.weighing.Weighing.{Weighing}

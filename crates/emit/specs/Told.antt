@@ -21,7 +21,7 @@ use Rattle.live_range.specs.Ranges.{new_insts}
 use Rattle.set_part.specs.declared.PartSeg.{PartSeg}
 use Rattle.set_part.specs.Part.{seg_by}
 use Rattle.virt_regs.specs.declared.OutLayout.{OutLayout}
-use Rattle.vreg_put.specs.Written.{Written}
+use Rattle.vregs_write.specs.Written.{Written}
 use Rattle.vreg_weight.specs.Fair.{Fair, fair_insts}
 use Rattle.emit.specs.declared.near.Near.{Near}
 use Rattle.emit.specs.declared.tally.Costs.{Costs}

@@ -21,7 +21,7 @@ ghost use Rattle.definition.specs.Build.{as_own, opening, conflict_piece};
 ghost use Rattle.job.specs.Job.{job_in};
 ghost use Rattle.uses.specs.Rows.{use_row};
 ghost use Rattle.set_part.specs.Part as part;
-ghost use Rattle.use_costs.specs.Book.{SmallBook};
+ghost use Rattle.vreg_weight.specs.Book.{SmallBook};
 ghost use Rattle.live_range.specs.Ranges.{new_insts};
 ghost use Rattle.virt_regs.specs.Encoding.{use_base, tables_end, use_words};
 ghost use Rattle.vreg_weight.specs.Weighed.{Inside, BitsOf};
@@ -29,8 +29,8 @@ ghost use Rattle.vreg_weight.specs.Fair.{Fair};
 ghost use Rattle.vreg_weight.specs.InFrame.{Weighable};
 ghost use Rattle.vreg_weight.specs.InWeighing.{weighed_job};
 ghost use Rattle.frame.specs.InFrame.{part_segs, PartOk};
-ghost use Rattle.conflict_piece.specs.Conflict.{param_by, open_count};
-ghost use Rattle.conflict_piece.specs.InFrame.{turned_rows_of, RowsOk};
+ghost use Rattle.pieces.specs.Conflict.{param_by, open_count};
+ghost use Rattle.pieces.specs.ConflictInFrame.{turned_rows_of, RowsOk};
 ghost use Rattle.emit.specs.Told.{NearFits, NearAt, kind_use, cost_by, use_adds, InsideRun, own_piece, range_in};
 ghost use Rattle.emit.specs.Told.{Counted, Told};
 ghost use Rattle.emit.specs.InWalk.{tables_in, blocks_in, use_in, turned_in, UsesOk, UsesAdd, PieceAdds};
@@ -38,14 +38,14 @@ ghost use Rattle.emit.specs.InWalk.{tables_in, blocks_in, use_in, turned_in, Use
 mod near;
 mod tally;
 
-use conflict_piece::{First, conflict_row};
 use definition::{Block, Inst, PhysReg, RegClass, Remat};
 use frame::Frame;
 use function::starts::{BlockStarts, start_at};
 use job::Job;
 use live_range::insts::LiveRangeSegment;
 pub use near::Near;
-use part_pieces::piece_row;
+use pieces::conflict::{First, conflict_row};
+use pieces::part::piece_row;
 use set_part::{PartSeg, SetPart};
 pub use tally::{Costs, Tally};
 use vreg_weight::{Weighing, WeightBits};
@@ -108,7 +108,7 @@ fn class_cost(job: &Job, c: u32) -> Cost
     requires { SmallBook (words_in job.now) job.now.lay }
     ensures { result.value ≡ (class_at (job_in job.now) (record { 0 = c })).cost }
 {
-    let d = use_costs::class_data(job, RegClass(c));
+    let d = vreg_weight::costs::class_data(job, RegClass(c));
     Cost { value: d.cost }
 }
 
@@ -116,7 +116,7 @@ fn class_cost(job: &Job, c: u32) -> Cost
 fn reg_cost(job: &Job, r: u32) -> Cost
     ensures { result.value ≡ cost_by (job_in job.now) 0 r 0 }
 {
-    fixed_cost(use_costs::in_memory(job, PhysReg(r)))
+    fixed_cost(vreg_weight::costs::in_memory(job, PhysReg(r)))
 }
 
 // The cost of a use, off the words of its row: its kind's number and the first two fields.
@@ -164,7 +164,7 @@ fn near_at(by: &Weighing, pos: Inst) -> Near
     Near {
         low: start_at(&t, b),
         high: start_at(&t, Block(b.0 + 1)),
-        freq: use_costs::frequency_of(&t, b),
+        freq: vreg_weight::costs::frequency_of(&t, b),
     }
 }
 
@@ -305,8 +305,8 @@ fn emit_piece(by: &Weighing, s: PartSeg, out: &mut [u8], p: usize, u: usize, t: 
     ensures { PieceAdds by.now p u (own_piece (use_in by.now) s) (words_of out.old) t (words_of out.new) result }
 {
     let row = piece_row(s, u);
-    vreg_put::put_piece(out, by.fr.ol, p, row);
-    let remat = use_costs::remat_at(&by.fr.job, s.value);
+    vregs_write::put::put_piece(out, by.fr.ol, p, row);
+    let remat = vreg_weight::costs::remat_at(&by.fr.job, s.value);
     let costs = emit_uses(by, remat, s.first, s.end, out, u, t.costs);
     let range = LiveRangeSegment {
         from: s.from,
@@ -393,8 +393,8 @@ pub fn emit_conflict(
     let by = Weighing { fr, work, options };
     let k = usize::from(x.param.is_some());
     let row = conflict_row(x.value, x.pos, x.param, u, k + (b - a));
-    vreg_put::put_piece(out, fr.ol, p, row);
-    let remat = use_costs::remat_at(job, x.value);
+    vregs_write::put::put_piece(out, fr.ol, p, row);
+    let remat = vreg_weight::costs::remat_at(job, x.value);
     let t = no_pieces(near);
     let begun = emit_opening(&by, remat, x.pos, x.param, out, u, t.costs);
     let costs = emit_turned(&by, remat, a, b, out, u + k, begun);
@@ -413,7 +413,7 @@ pub fn weight_of(job: &Job, c: RegClass, total: Sum, insts: u32) -> WeightBits
 {
     let lay = &job.lay;
     let k = word_at(job.bytes, lay.opts);
-    let data = use_costs::class_data(job, c);
+    let data = vreg_weight::costs::class_data(job, c);
     let w = weights::weight(total, insts, k, data.spillslots);
     let value = weights::floats::bits_of(w);
     WeightBits { value }

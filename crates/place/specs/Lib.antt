@@ -1,5 +1,5 @@
-pub mod Ready
-pub mod Room
-pub mod Lists
-pub mod Counted
-pub mod Laws
+pub mod Asked
+pub mod PartInFrame
+pub mod Piece
+pub mod Asks
+pub mod ConflictInFrame

@@ -58,7 +58,7 @@ pub fn lowest_common(a: u32, b: u32) -> Option<RegClass>
 }
 
 // The mask of class c; that of an unknown class is empty. Not one with the defaults of other tables
-// (use_costs::class_data, set_runs, scans::cost_bits): a line each, and the default is another value.
+// (vreg_weight::costs::class_data, set_runs, scans::cost_bits): a line each, and the default is another value.
 fn mask_of(classes: &Rows<4>, c: RegClass) -> u32
     ensures { result ≡ mask_in (classes_in classes.now) c }
 {

@@ -18,8 +18,8 @@ use Rattle.weights.proofs.Bits.{le_bits}
 use Rattle.reginfo.specs.Rows.{class_row}
 use Rattle.job.specs.declared.Layout.{Layout}
 use Rattle.job.specs.Job.{job_of}
-use Rattle.use_costs.specs.Book.{SmallBook}
-use Rattle.use_costs.proofs.Reading.{class_known, class_past}
+use Rattle.vreg_weight.specs.Book.{SmallBook}
+use Rattle.vreg_weight.proofs.Reading.{class_known, class_past}
 
 module _ (W : List ℕ) (lay : Layout) (c : RegClass) (k : ℕ) where
   abbrev pub Costs : ℕ → Type 0

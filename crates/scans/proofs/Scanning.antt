@@ -19,9 +19,9 @@ use Rattle.definition.proofs.Scans.{scan_step, scan_snoc, held_through, held_bef
 use Rattle.constraints.specs.declared.Held.{Held}
 use Rattle.constraints.specs.Held.{held_of, admission_of}
 use Rattle.constraints.proofs.Admitted.{answer_yes, answer_no, held_class}
-use Rattle.class_walk.specs.declared.Walk.{Walk}
-use Rattle.class_walk.specs.Walks.{with_class, Walked, WalkedBack}
-use Rattle.class_walk.proofs.Lists.{tab_none, tab_next, tab_parts, back_none, back_next, back_parts, down_back, length_back}
+use Rattle.scans.specs.declared.walk.Walk.{Walk}
+use Rattle.scans.specs.Walks.{with_class, Walked, WalkedBack}
+use Rattle.scans.proofs.Lists.{tab_none, tab_next, tab_parts, back_none, back_next, back_parts, down_back, length_back}
 use Rattle.scans.specs.declared.ScanAnswer.{ScanAnswer}
 use Rattle.scans.specs.Answers.{ended, scan_of, back_of, shifted, Ends}
 

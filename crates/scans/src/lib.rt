@@ -12,7 +12,7 @@ ghost use Rattle.definition.specs.Entry.{insts_of};
 ghost use Rattle.definition.specs.SplitPlacement.{side_of};
 ghost use Rattle.definition.specs.RegInfo.{class_at};
 ghost use Rattle.definition.specs.Admit.{admit, fresh, turning, cut_side, parted, move};
-ghost use Rattle.use_costs.specs.Book.{SmallBook};
+ghost use Rattle.vreg_weight.specs.Book.{SmallBook};
 ghost use Rattle.function.specs.Blocks.{blocks_at};
 ghost use Rattle.job.specs.Job.{job_in};
 ghost use Rattle.virt_regs.specs.Encoding.{tables_end};
@@ -20,6 +20,8 @@ ghost use Rattle.constraints.specs.Held.{held_of, admission_of};
 ghost use Rattle.scans.specs.Answers.{scan_of, back_of, Ends, Passed, move_of};
 ghost use Rattle.frame.specs.InFrame.{marked_use};
 ghost use Rattle.constraints.specs.InFrame.{Ready, Stands};
+
+pub mod walk;
 
 use constraints::Held;
 use definition::{Inst, RegClass, Side, Stop, Use};
@@ -59,7 +61,7 @@ pub fn marked_use(fr: &Frame, work: &[u8], n: usize) -> Use
 {
     let job = &fr.job;
     let wl = &fr.wl;
-    turned::marked_use(job, work, wl.marks, n)
+    set_part::mark::marked_use(job, work, wl.marks, n)
 }
 
 // What is held before any use.
@@ -97,7 +99,7 @@ pub fn scan_uses(fr: &Frame, out: &[u8], work: &[u8], first: Held, a: usize, b: 
     let mut held = first;
     let mut n = a;
     while n < b {
-        let w = class_walk::walk_uses(fr, work, held.class, n, b);
+        let w = crate::walk::walk_uses(fr, work, held.class, n, b);
         held = Held {
             class: w.class,
             ..held
@@ -137,7 +139,7 @@ pub fn scan_back(fr: &Frame, out: &[u8], work: &[u8], first: Held, a: usize, e: 
     let mut held = first;
     let mut n = e + 1;
     while a < n {
-        let w = class_walk::walk_back(fr, work, held.class, a, n);
+        let w = crate::walk::walk_back(fr, work, held.class, a, n);
         held = Held {
             class: w.class,
             ..held

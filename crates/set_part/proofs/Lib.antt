@@ -4,3 +4,13 @@ pub mod Alike
 pub mod Whole
 pub mod Inside
 pub mod Walk
+pub mod Past
+pub mod Rows
+pub mod CutsRead
+pub mod Lists
+pub mod Sides
+pub mod CutsKept
+pub mod Holder
+pub mod Marks
+pub mod MarkKept
+pub mod MarkRead

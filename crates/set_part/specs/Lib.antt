@@ -1,1 +1,3 @@
 pub mod Part
+pub mod Cut
+pub mod Turned

@@ -5,6 +5,9 @@ ghost use Rattle.std.specs.Prelude.{◌≡◌, cond, ◌+◌, ◌≤◌, ◌<◌
 ghost use Rattle.set_part.specs.Part.{use_bound, part_row, whole_part};
 ghost use Rattle.job.specs.JobWords.{words_in};
 
+pub mod cuts;
+pub mod mark;
+
 use definition::{LiveRangePoint, UseFlags, Value};
 use job::Job;
 

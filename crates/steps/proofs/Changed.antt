@@ -7,13 +7,13 @@ use lib.ListN.{length}
 use Rattle.job.specs.declared.Layout.{Layout}
 use Rattle.set_part.specs.declared.SetPart.{SetPart}
 use Rattle.set_part.proofs.Bounds.{first_le_end}
-use Rattle.set_cuts.specs.declared.Parts.{Parts}
-use Rattle.set_cuts.proofs.Kept.{Sides}
-use Rattle.turned.specs.declared.TurnedRow.{TurnedRow}
+use Rattle.set_part.specs.declared.cuts.Parts.{Parts}
+use Rattle.set_part.proofs.CutsKept.{Sides}
+use Rattle.set_part.specs.declared.mark.TurnedRow.{TurnedRow}
 use Rattle.job.specs.declared.work.WorkLayout.{WorkLayout}
 use Rattle.constraints.specs.Ready.{Ready}
 use Rattle.constraints.proofs.Kept.{ready_kept}
-use Rattle.part_maps.specs.Maps.{MapApart, Outside}
+use Rattle.pieces.specs.Maps.{MapApart, Outside}
 use Rattle.steps.specs.Turns.{turned_once, TurnRoom}
 use Rattle.steps.specs.Built.{Changed}
 use Rattle.steps.proofs.Turn.{once_before, once_long}

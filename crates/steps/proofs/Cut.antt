@@ -29,14 +29,14 @@ use Rattle.set_part.specs.Part as set-part
 use Rattle.set_part.proofs.Uses.{part_uses, part_length}
 use Rattle.set_part.proofs.Alike.{part_words}
 use Rattle.set_part.proofs.Inside.{cut_open, cut_end}
-use Rattle.set_cuts.specs.Cut.{cut_part}
-use Rattle.set_cuts.proofs.Sides.{cut_left, cut_right}
-use Rattle.set_cuts.proofs.Kept.{Sides, cut_sides}
+use Rattle.set_part.specs.Cut.{cut_part}
+use Rattle.set_part.proofs.Sides.{cut_left, cut_right}
+use Rattle.set_part.proofs.CutsKept.{Sides, cut_sides}
 use Rattle.virt_regs.specs.Each.{Each}
 use Rattle.job.specs.declared.work.WorkLayout.{WorkLayout}
-use Rattle.part_maps.specs.Maps.{MapApart, Outside}
-use Rattle.part_maps.proofs.Kept.{ready_kept}
-use Rattle.conflict_piece.specs.Conflict.{row_use, turned_row_at, turned_rows_of, RowsOk}
+use Rattle.pieces.specs.Maps.{MapApart, Outside}
+use Rattle.pieces.proofs.Kept.{ready_kept}
+use Rattle.pieces.specs.Conflict.{row_use, turned_row_at, turned_rows_of, RowsOk}
 use Rattle.vreg_weight.specs.Fair.{Fair, fair_own}
 use Rattle.vreg_weight.specs.Sorted.{sorted_left, sorted_right}
 use Rattle.vreg_weight.specs.Sound.{each_left, each_right, each_all, sound_left, sound_right}

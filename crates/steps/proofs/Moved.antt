@@ -21,10 +21,10 @@ use Rattle.job.specs.Job.{job_by, job_of}
 use Rattle.set_part.specs.declared.SetPart.{SetPart}
 use Rattle.set_part.specs.Part.{PartOk, marked_use, part_segs}
 use Rattle.set_part.proofs.Bounds.{first_le_end}
-use Rattle.set_cuts.specs.declared.Parts.{Parts}
-use Rattle.set_cuts.specs.Cut.{cut_part}
-use Rattle.set_cuts.proofs.Sides.{cut_left}
-use Rattle.set_cuts.proofs.Kept.{cut_sides}
+use Rattle.set_part.specs.declared.cuts.Parts.{Parts}
+use Rattle.set_part.specs.Cut.{cut_part}
+use Rattle.set_part.proofs.Sides.{cut_left}
+use Rattle.set_part.proofs.CutsKept.{cut_sides}
 use Rattle.constraints.specs.declared.Held.{Held}
 use Rattle.constraints.specs.Held.{held_of}
 use Rattle.scans.specs.declared.ScanAnswer.{ScanAnswer}

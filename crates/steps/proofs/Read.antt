@@ -11,8 +11,8 @@ use Rattle.words.specs.Parts.{splice}
 use Rattle.job.specs.declared.Layout.{Layout}
 use Rattle.set_part.specs.declared.SetPart.{SetPart}
 use Rattle.set_part.specs.Part.{PartOk}
-use Rattle.turned.specs.declared.TurnedRow.{TurnedRow}
-use Rattle.turned.specs.Turned.{turned_row}
+use Rattle.set_part.specs.declared.mark.TurnedRow.{TurnedRow}
+use Rattle.set_part.specs.Turned.{turned_row}
 use Rattle.job.specs.declared.work.WorkLayout.{WorkLayout}
 use Rattle.steps.specs.Turns.{turned_words, turned_once, TurnRoom}
 use Rattle.steps.proofs.Turn.{row_number}

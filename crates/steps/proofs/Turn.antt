@@ -26,18 +26,18 @@ use Rattle.set_part.specs.declared.SetPart.{SetPart}
 use Rattle.set_part.specs.Part.{PartOk, part_segs, marked_use}
 use Rattle.set_part.proofs.Uses.{part_use, part_count}
 use Rattle.set_part.proofs.Alike.{part_words}
-use Rattle.turned.specs.declared.TurnedRow.{TurnedRow}
-use Rattle.turned.specs.Turned.{turned_row, turned_in, row_turned}
-use Rattle.turned.proofs.Marks.{turn_part}
-use Rattle.turned.proofs.Kept.{kept_part}
+use Rattle.set_part.specs.declared.mark.TurnedRow.{TurnedRow}
+use Rattle.set_part.specs.Turned.{turned_row, turned_in, row_turned}
+use Rattle.set_part.proofs.Marks.{turn_part}
+use Rattle.set_part.proofs.MarkKept.{kept_part}
 use Rattle.virt_regs.specs.declared.OutLayout.{OutLayout}
 use Rattle.virt_regs.specs.Each.{Each}
 use Rattle.job.specs.declared.work.WorkLayout.{WorkLayout}
 use Rattle.constraints.specs.Ready.{Ready, Stands}
 use Rattle.constraints.proofs.Kept.{Same, ready_kept, stands_kept}
-use Rattle.part_maps.specs.Maps.{MapApart}
-use Rattle.conflict_piece.specs.Conflict.{row_use, turned_row_at, turned_rows_of, RowsOk}
-use Rattle.conflict_piece.proofs.Rows.{row_stands}
+use Rattle.pieces.specs.Maps.{MapApart}
+use Rattle.pieces.specs.Conflict.{row_use, turned_row_at, turned_rows_of, RowsOk}
+use Rattle.pieces.proofs.ConflictRows.{row_stands}
 use Rattle.vreg_weight.specs.Sorted.{sorted_turn}
 use Rattle.vreg_weight.specs.Sound.{sound_turn_at}
 use Rattle.steps.specs.Turns.{turned_words, turned_once, TurnRoom}

@@ -16,8 +16,8 @@ use Rattle.set_part.specs.Part.{PartOk, part_segs}
 use Rattle.virt_regs.specs.Each.{Each}
 use Rattle.job.specs.declared.work.WorkLayout.{WorkLayout}
 use Rattle.constraints.specs.Ready.{Ready}
-use Rattle.part_maps.specs.Maps.{MapApart}
-use Rattle.conflict_piece.specs.Conflict.{RowsOk}
+use Rattle.pieces.specs.Maps.{MapApart}
+use Rattle.pieces.specs.Conflict.{RowsOk}
 use Rattle.vreg_weight.specs.Sorted.{Sorted}
 use Rattle.vreg_weight.specs.Sound.{Sound}
 use Rattle.steps.specs.Turns.{TurnRoom}

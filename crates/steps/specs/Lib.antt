@@ -2,3 +2,9 @@ pub mod Turns
 pub mod Laid
 pub mod Built
 pub mod InFrame
+pub mod Fits
+pub mod Builds
+pub mod Held
+pub mod Placing
+pub mod Rounds
+pub mod StateInFrame

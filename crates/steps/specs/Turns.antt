@@ -2,7 +2,7 @@
 use Rattle.std.specs.Prelude.{ℕ, ◌+◌, ◌*◌, ◌≤◌, cond, is_some, unwrap_or, List, [], ◌∷◌, set}
 use Rattle.words.specs.Parts.{splice}
 use Rattle.job.specs.declared.Layout.{Layout}
-use Rattle.turned.specs.declared.TurnedRow.{TurnedRow}
+use Rattle.set_part.specs.declared.mark.TurnedRow.{TurnedRow}
 use Rattle.job.specs.declared.work.WorkLayout.{WorkLayout}
 
 -- value, use number, whether it has a parameter, the parameter

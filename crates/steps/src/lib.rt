@@ -14,10 +14,10 @@ ghost use Rattle.definition.specs.Place.{uses_of};
 ghost use Rattle.definition.proofs.Fits.{SegsFit};
 ghost use Rattle.hints.specs.Hints.{hint_at};
 ghost use Rattle.job.specs.Job.{job_in};
-ghost use Rattle.set_cuts.specs.Cut.{cut_part};
+ghost use Rattle.set_part.specs.Cut.{cut_part};
 ghost use Rattle.virt_regs.specs.Encoding.{tables_end};
 ghost use Rattle.constraints.specs.Held.{held_of};
-ghost use Rattle.turned.specs.Turned.{turned_row};
+ghost use Rattle.set_part.specs.Turned.{turned_row};
 ghost use Rattle.steps.specs.Turns.{turned_words, turned_once};
 ghost use Rattle.scans.specs.Answers.{Passed};
 ghost use Rattle.frame.specs.InFrame.{marked_use, part_segs, PartOk};
@@ -28,7 +28,7 @@ use constraints::Held;
 use definition::{Inst, RegClass};
 use frame::Frame;
 use set_part::SetPart;
-use turned::TurnedRow;
+use set_part::mark::TurnedRow;
 
 // Turned row n.
 fn put_turned(work: &mut [u8], turned: usize, n: usize, row: TurnedRow)
@@ -48,9 +48,9 @@ pub fn turn_one(fr: &Frame, work: &mut [u8], sp: SetPart, i: usize, n: usize)
 {
     let job = &fr.job;
     let wl = &fr.wl;
-    let row = turned::turned_at(job, work, wl.marks, sp, i);
+    let row = set_part::mark::turned_at(job, work, wl.marks, sp, i);
     put_turned(work, wl.turned, n, row);
-    turned::mark(work, wl.marks, sp.first + i);
+    set_part::mark::mark(work, wl.marks, sp.first + i);
 }
 
 // The sides of a cut, and what is held of the uses before it.
@@ -83,7 +83,7 @@ pub fn cut_front(
         → scan (job_in fr.now.job) st (uses_of (left_cut (job_in fr.now.job).hints p (part_segs fr.now work.now sp))) (fresh top) ≡ through (held_of result.held) }
 {
     let job = &fr.job;
-    let parts = set_cuts::cut_part(job, sp, p);
+    let parts = set_part::cuts::cut_part(job, sp, p);
     let left = parts.left;
     let right = parts.right;
     if left.end == end {

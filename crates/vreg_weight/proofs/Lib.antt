@@ -3,3 +3,5 @@ pub mod Pieces
 pub mod Insts
 pub mod Least
 pub mod Ready
+pub mod Reading
+pub mod Accepted

@@ -12,7 +12,7 @@ use Rattle.function.specs.Blocks.{Starts}
 use Rattle.job.specs.declared.Layout.{Layout}
 use Rattle.job.specs.Layout.{Fits}
 use Rattle.definition.proofs.Entries.{accepted_blocks}
-use Rattle.use_costs.proofs.Accepted.{accepted_book}
+use Rattle.vreg_weight.proofs.Accepted.{accepted_book}
 use Rattle.vreg_weight.specs.Weighed.{job_in, Weighable}
 use Rattle.vreg_weight.proofs.Sums.{blocks_long}
 

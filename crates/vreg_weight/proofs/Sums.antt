@@ -22,8 +22,8 @@ use Rattle.job.specs.declared.Layout.{Layout}
 use Rattle.job.specs.Layout.{options_row}
 use Rattle.job.specs.Job.{job_by, job_of}
 use Rattle.uses.specs.Rows.{use_row, uses_at}
-use Rattle.use_costs.specs.Book.{SmallBook}
-use Rattle.use_costs.proofs.Reading.{bits_small}
+use Rattle.vreg_weight.specs.Book.{SmallBook}
+use Rattle.vreg_weight.proofs.Reading.{bits_small}
 use Rattle.virt_regs.specs.Each.{Each}
 use Rattle.vreg_weight.specs.Weighed.{Inside}
 

@@ -7,3 +7,4 @@ pub mod Sound
 pub mod Fair
 pub mod InFrame
 pub mod InWeighing
+pub mod Book

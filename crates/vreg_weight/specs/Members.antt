@@ -16,7 +16,7 @@ use Rattle.words.specs.Part.{part, part_get}
 use Rattle.virt_regs.specs.Encoding.{seg_base, group_base, tables_end, place_word, Weighs, Holds}
 use Rattle.virt_regs.specs.Held.{fit_registers}
 use Rattle.virt_regs.specs.Reads.{member_held, member_lt, size_le, weight_held, weighs_held}
-use Rattle.vreg_put.specs.Written.{Written}
+use Rattle.vregs_write.specs.Written.{Written}
 
 -- The row of group g in O is its members in st, and each member's row has its weight.
 pub record Members (ol : OutLayout) (O : List ℕ) (st : State) (g : VirtRegGroup) : Type 0 where

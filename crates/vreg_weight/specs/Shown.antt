@@ -25,7 +25,7 @@ use Rattle.virt_regs.specs.Encoding.{tables, contents, seg_base, use_base, table
 use Rattle.virt_regs.specs.Counting.{all_append, uses_append, count_uses, count_uses_of, length_pieces, length_uses}
 use Rattle.virt_regs.specs.Held.{held_long, fit_segments, fit_uses}
 use Rattle.virt_regs.specs.Reads.{first_piece, first_use, piece_in, segments_in, first_held, count_held, segments_held, pieces_in_lem}
-use Rattle.vreg_put.specs.Written.{Written}
+use Rattle.vregs_write.specs.Written.{Written}
 use Rattle.vreg_weight.specs.Typed.{TypedUse, use_back}
 use lib.Seq.{get_or-drop}
 

@@ -15,7 +15,7 @@ use Rattle.function.specs.Blocks.{Starts}
 use Rattle.job.specs.declared.Layout.{Layout}
 use Rattle.job.specs.Layout.{Fits}
 use Rattle.job.specs.Job.{job_of}
-use Rattle.use_costs.specs.Book.{SmallBook}
+use Rattle.vreg_weight.specs.Book.{SmallBook}
 use Rattle.virt_regs.specs.Each.{Each}
 use Rattle.virt_regs.specs.Encoding.{Weighs}
 

@@ -23,6 +23,7 @@ ghost use Rattle.vreg_weight.specs.Weighed.{Inside, BitsOf, lesser_at};
 ghost use Rattle.vreg_weight.specs.InFrame.{Weighable};
 ghost use Rattle.vreg_weight.specs.InWeighing.{weighed_job};
 
+pub mod costs;
 mod weighing;
 mod weight_bits;
 
@@ -49,9 +50,9 @@ pub fn sum_uses(by: &Weighing, uses: &Rows<6>, remat: Remat, sum: Sum) -> Sum
     let mut b = Block(0);
     for i in 0..uses.n {
         let u = uses::use_at(uses.words, row_at(uses, i));
-        b = use_costs::block_near(&t, b, u.pos);
-        let cost = use_costs::use_cost(job, u.kind);
-        let frequency = use_costs::frequency_of(&t, b);
+        b = crate::costs::block_near(&t, b, u.pos);
+        let cost = crate::costs::use_cost(job, u.kind);
+        let frequency = crate::costs::frequency_of(&t, b);
         total = weights::add_use(total, by.options, remat, cost, frequency);
     }
     total
@@ -70,7 +71,7 @@ pub fn sum_piece(by: &Weighing, out: &[u8], sum: Sum, i: usize) -> Sum
     if ol.uses < first + n {
         return sum;
     }
-    let remat = use_costs::remat_at(job, row.value);
+    let remat = crate::costs::remat_at(job, row.value);
     let uses = Rows {
         words: out,
         at: ol.use_base() + first * 6,
@@ -134,7 +135,7 @@ pub fn weight_of_pieces(
         n,
     };
     let insts = count_insts(&pieces);
-    let data = use_costs::class_data(job, c);
+    let data = crate::costs::class_data(job, c);
     let w = weights::weight(sum, insts, options.adjust, data.spillslots);
     let value = weights::floats::bits_of(w);
     WeightBits { value }

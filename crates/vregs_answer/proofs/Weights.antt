@@ -8,7 +8,7 @@ use Rattle.definition.specs.SheetForms.{job_in}
 use Rattle.definition.proofs.Places.{All}
 use Rattle.sheet.specs.declared.either.Reading.{Reading}
 use Rattle.sheet_verdict.specs.Judged.{LeadsTo}
-use Rattle.weight_truth.specs.Truth.{TrueWeight}
+use Rattle.build_answer.specs.Truth.{TrueWeight}
 use Rattle.build_answer.specs.declared.BuildEnd.{BuildEnd}
 use Rattle.build_answer.specs.Answered.{result_in}
 use Rattle.build_answer.proofs.Promises.{promise_weights_sheet}

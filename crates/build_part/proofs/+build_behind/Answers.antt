@@ -2,7 +2,7 @@
 use native.Mathlib.Omega.{arith}
 use mathlib.Core.Path.{ap, ◌∙◌}
 use Rattle.std.specs.Prelude.{Ok}
-use Rattle.place_end.specs.Ends.{err_kept}
+use Rattle.placing.specs.EndEnds.{err_kept}
 use Rattle.build_part.proofs.Behind.{step_ends, step_fails, onward, behind_ready, behind_built}
 use Rattle.build_part.proofs.+build_behind.Goals as goal
 

@@ -1,6 +1,6 @@
 use mathlib.Core.Path.{refl, ap}
 use Prim.Native.Nat.{◌/◌}
-use Rattle.place_end.specs.Ends.{err_kept}
+use Rattle.placing.specs.EndEnds.{err_kept}
 use Rattle.build_part.proofs.Parts.{over_ok}
 use Rattle.build_part.proofs.Ways.{step_halt, next_taken, next_halts, next_asked, next_known, next_over, next_on, next_stops}
 use Rattle.build_part.proofs.Turned.{ready_turned, after_turns}

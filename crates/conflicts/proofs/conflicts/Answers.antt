@@ -1,7 +1,7 @@
 use mathlib.Core.Path.{refl, ◌∙◌}
 use native.Mathlib.Omega.{arith}
-use Rattle.conflict_round.proofs.Kept.{rows_now}
-use Rattle.place_end.specs.Ends.{err_kept}
+use Rattle.conflicts.proofs.RoundKept.{rows_now}
+use Rattle.placing.specs.EndEnds.{err_kept}
 use Rattle.conflicts.proofs.Kept.{between_then, given_now, given_part}
 use Rattle.conflicts.proofs.Going.{going_start, going_next, going_stop, going_end}
 use Rattle.conflicts.proofs.conflicts.Goals as goal

@@ -1,8 +1,8 @@
 use mathlib.Core.Path.{refl, ◌∙◌}
-use Rattle.conflict_round.proofs.Kept.{rows_now}
-use Rattle.place_end.specs.Ends.{err_kept}
+use Rattle.conflicts.proofs.RoundKept.{rows_now}
+use Rattle.placing.specs.EndEnds.{err_kept}
 use Rattle.conflicts.proofs.Kept.{rounded_tried}
-use Rattle.conflicts.proofs.Round.{tried_to, tried_requires, tried_none, tried_further, tried_rounded, tried_left, tried_on, tried_off}
+use Rattle.conflicts.proofs.RoundLemmas.{tried_to, tried_requires, tried_none, tried_further, tried_rounded, tried_left, tried_on, tried_off}
 use Rattle.conflicts.proofs.place_round.Goals as goal
 
 pub returns-then-next-a : goal.returns-then-next-a

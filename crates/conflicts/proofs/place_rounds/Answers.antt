@@ -1,7 +1,7 @@
 use mathlib.Core.Path.{refl, sym, ◌∙◌}
 use native.Mathlib.Omega.{arith}
-use Rattle.conflict_round.proofs.Kept.{rows_now}
-use Rattle.place_end.specs.Ends.{err_kept}
+use Rattle.conflicts.proofs.RoundKept.{rows_now}
+use Rattle.placing.specs.EndEnds.{err_kept}
 use Rattle.conflicts.proofs.Kept.{rounded_then, given_now}
 use Rattle.conflicts.proofs.Rounding.{rounding_start, rounding_next, rounding_stop, rounding_end}
 use Rattle.conflicts.proofs.place_rounds.Goals as goal

@@ -1,5 +1,5 @@
 use Rattle.job.specs.Job.{job_in}
-use Rattle.members.proofs.Narrowing.{job_classes}
+use Rattle.constraints.proofs.Narrowing.{job_classes}
 use Rattle.constraints.proofs.Admitted.{class_yes, class_no}
 use Rattle.constraints.proofs.admit_class.Goals as goal
 

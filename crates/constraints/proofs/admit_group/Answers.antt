@@ -1,5 +1,5 @@
 use Rattle.job.specs.Job.{job_in}
-use Rattle.members.proofs.Narrowing.{job_classes}
+use Rattle.constraints.proofs.Narrowing.{job_classes}
 use Rattle.constraints.proofs.Admitted.{group_no, group_yes}
 use Rattle.constraints.proofs.Operand.{said_some, said_none}
 use Rattle.constraints.proofs.admit_group.Goals as goal

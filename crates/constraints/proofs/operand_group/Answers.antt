@@ -1,7 +1,7 @@
 use mathlib.Core.Path.{sym, ap, ◌∙◌}
 use native.Mathlib.Omega.{arith}
 use Rattle.definition.specs.Types.{vrgroup}
-use Rattle.members.proofs.Places.{mapped_is, group_read}
+use Rattle.constraints.proofs.Places.{mapped_is, group_read}
 use Rattle.constraints.proofs.Operand.{group_known, operand_says}
 use Rattle.constraints.proofs.operand_group.Goals as goal
 

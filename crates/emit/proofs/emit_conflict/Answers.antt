@@ -5,7 +5,7 @@ use Rattle.vreg_weight.proofs.Sums.{options_are}
 use Rattle.emit.proofs.Pieces.{told_none}
 use Rattle.emit.proofs.Conflict.{opening_inside, turned_inside, conflict_low, conflict_few, conflict_told, count_open, near_same}
 use Rattle.std.specs.Prelude.{◌≡◌, cond}
-use Rattle.conflict_piece.specs.Conflict.{open_count}
+use Rattle.pieces.specs.Conflict.{open_count}
 use Rattle.emit.proofs.emit_conflict.Goals as goal
 
 pub invariant_of-by : goal.invariant_of-by

@@ -1,6 +1,6 @@
 use native.Mathlib.Omega.{arith}
 use Rattle.words.specs.Laws.{length_words}
-use Rattle.conflict_piece.proofs.Rows.{open_room}
+use Rattle.pieces.proofs.ConflictRows.{open_room}
 use Rattle.emit.proofs.Use.{param_words}
 use Rattle.emit.proofs.Conflict.{open_none, open_some, open_inside}
 use Rattle.emit.proofs.emit_opening.Goals as goal

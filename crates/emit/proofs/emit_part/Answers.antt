@@ -1,7 +1,7 @@
 use mathlib.Core.Path.{refl, ◌∙◌}
 use native.Mathlib.Omega.{arith}
 use Rattle.vreg_weight.proofs.Sums.{options_are}
-use Rattle.part_pieces.proofs.Rows.{row_bounds}
+use Rattle.pieces.proofs.PartRows.{row_bounds}
 use Rattle.emit.proofs.Pieces.{told_none}
 use Rattle.emit.proofs.Parts.{told_start, told_next, told_room, told_all, fair_within}
 use Rattle.emit.proofs.emit_part.Goals as goal

@@ -4,7 +4,7 @@ use Rattle.job.specs.JobWords.{words_in}
 use Rattle.definition.specs.Build.{as_own}
 use Rattle.frame.specs.InFrame.{marked_use}
 use Rattle.job.specs.Job.{job_in}
-use Rattle.part_pieces.proofs.Rows.{segs_to}
+use Rattle.pieces.proofs.PartRows.{segs_to}
 use Rattle.emit.specs.Told.{Told}
 use Rattle.emit.proofs.emit_part.Given as goal
 

@@ -1,5 +1,5 @@
 use native.Mathlib.Omega.{arith}
-use Rattle.members.proofs.Narrowing.{job_classes}
+use Rattle.constraints.proofs.Narrowing.{job_classes}
 use Rattle.scans.proofs.Scanning.{backward_start, backward_walk, backward_refused, backward_next, backward_stop, backward_end}
 use Rattle.scans.proofs.scan_back.Goals as goal
 

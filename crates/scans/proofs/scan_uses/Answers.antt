@@ -1,5 +1,5 @@
 use native.Mathlib.Omega.{arith}
-use Rattle.members.proofs.Narrowing.{job_classes}
+use Rattle.constraints.proofs.Narrowing.{job_classes}
 use Rattle.scans.proofs.Scanning.{forward_start, forward_walk, forward_refused, forward_next, forward_stop, forward_end}
 use Rattle.scans.proofs.scan_uses.Goals as goal
 

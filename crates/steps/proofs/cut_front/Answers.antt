@@ -1,5 +1,5 @@
 use mathlib.Core.Path.{ap}
-use Rattle.set_cuts.specs.declared.Parts.{Parts}
+use Rattle.set_part.specs.declared.cuts.Parts.{Parts}
 use Rattle.steps.proofs.Moved.{parts_are, front_range, front_held, front_passed}
 use Rattle.steps.proofs.cut_front.Goals as goal
 

@@ -1,4 +1,0 @@
-pub mod Kept
-pub mod Swap
-pub mod Trying
-pub mod Runs

@@ -1,5 +1,0 @@
-use Rattle.conflict_round.proofs.Trying.{admit_is}
-use Rattle.conflict_round.proofs.admit_row.Goals as goal
-
-pub returns : goal.returns
-returns c st hs = admit_is _ _ _ _ _ _ _ _ _ _ _ c.requires.0 c.requires.4 c.requires.3 c.turned_use-u.ensures (λ b. c.admit.ensures st hs b)

@@ -1,3 +1,0 @@
-pub mod Way
-pub mod Filling
-pub mod Setting

@@ -1,3 +1,0 @@
-pub mod Kept
-pub mod Operand
-pub mod Going

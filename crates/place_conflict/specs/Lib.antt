@@ -1,3 +1,0 @@
-pub mod Piece
-pub mod Asks
-pub mod InFrame

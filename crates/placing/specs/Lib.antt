@@ -1,0 +1,17 @@
+pub mod Ready
+pub mod Room
+pub mod Lists
+pub mod Counted
+pub mod Laws
+pub mod EndEnds
+pub mod InFrame
+pub mod Kept
+pub mod Held
+pub mod Weighed
+pub mod Plan
+pub mod Planned
+pub mod Asked
+pub mod PlanEnds
+pub mod Way
+pub mod Filling
+pub mod Setting

@@ -1,4 +1,0 @@
-pub mod Plan
-pub mod Planned
-pub mod Asked
-pub mod Ends

@@ -1,4 +1,0 @@
-pub mod Holder
-pub mod Marks
-pub mod Kept
-pub mod Read

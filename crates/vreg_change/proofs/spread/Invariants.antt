@@ -1,5 +1,0 @@
-use Rattle.vreg_change.proofs.Loops.{Spreading}
-use Rattle.vreg_change.proofs.spread.Given as goal
-
-abbrev pub invariant-loop-i : goal.invariant-loop-i
-invariant-loop-i l = Spreading l.ol l.g l.class.0 l.weight l.i-end l.initial.out l.i l.out

@@ -1,8 +1,0 @@
-use Rattle.std.proofs.Common.{rules, tests, arith}
-use Rattle.words.specs.Words.{words_of}
-use Rattle.vreg_find.proofs.Scans.{meets_all}
-use Rattle.vreg_find.proofs.meets.Goals as goal
-
-pub returns : goal.returns
-returns c = let a = c.args in
-    meets_all a.ol (words_of a.out.now) a.first a.count a.k a.a a.b (omega arith) c.any.ensures.ran (λ x t q k. search (rules, tests))

@@ -1,6 +1,0 @@
-use Rattle.words.specs.Words.{words_of}
-use Rattle.vreg_insert.proofs.Turns.{Raising}
-use Rattle.vreg_insert.proofs.raise.Given as goal
-
-abbrev pub invariant-loop-k : goal.invariant-loop-k
-invariant-loop-k l = Raising l.m l.s l.n l.at (words_of l.initial.out) l.k (words_of l.out)

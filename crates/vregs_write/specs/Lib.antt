@@ -1,0 +1,10 @@
+pub mod Written
+pub mod ChangeFlat
+pub mod Change
+pub mod Ends
+pub mod Raised
+pub mod GapParts
+pub mod InsertFlat
+pub mod Opened
+pub mod Merged
+pub mod Ask
