@@ -11,8 +11,12 @@ use Rattle.placing.specs.Filling.{row_within}
 use Rattle.placing.specs.Way.{planned_way}
 use Rattle.placing.specs.Setting.{can_decide, can_open, can_write, tells, touched, is_filling, can_finish, ends_not, ends_made}
 use Rattle.place.specs.PartInFrame.{new_pieces}
-use Rattle.place.proofs.Rows.{part_measured, part_rows, asked_small, asked_setting, standing_setting, ready_then, fair_then, told_then}
+use Rattle.place.proofs.Rows.{part_measured, part_rows, asked_groups, asked_small, asked_setting, standing_setting, ready_then, fair_then, told_then}
 use Rattle.place.proofs.part.place_part.Goals as goal
+
+pub map_new-free-requires : goal.map_new-free-requires
+map_new-free-requires c = let a = c.requires in
+    (a.ready, a.apart, a.part, asked_groups a)
 
 pub overflow_sub-new-2 : goal.overflow_sub-new-2
 overflow_sub-new-2 c = first_le_end _ _ _ c.requires.part
