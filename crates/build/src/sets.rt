@@ -5,25 +5,25 @@
 // bank.
 //
 // The scan goes over the part's uses from the first on and holds what they ask (scans): a class, which each class use
-// narrows to the common subclass of it and its own (scans::walk, on numbers); and from the first group use on an index,
-// the group and value sets of its operand, and a register to be merged into (constraints, members). If all uses are
+// narrows to the common subclass of it and its own (scans::walk, on numbers); and from the first group use on an
+// index, the group and value sets of its operand, and a register to be merged into (constraints). If all uses are
 // admitted, the part becomes one register. If one is not, the end, the scan back from it finds the use that it can't
 // share a register with, the start.
 //
 // Start and end in two instructions: the part is cut between them, where a block runs seldom, early or late by the
-// costs of the two classes held (split_placement, set_part::cuts). In one instruction: the end is turned, or the start where
-// the end is a definition. A turned use is marked and stays where it is as a conflict, which asks nothing; it is kept
-// in a row of the work space for later (turned, steps). Behind a turned end the scan goes on with what it holds, since
-// all before it is as it was; a turned start lies before, so that all is scanned again (build_part, `turn_uses`). A
-// definition can't be turned, and an end without a start is a stop too.
+// costs of the two classes held (split_placement, set_part::cuts). In one instruction: the end is turned, or the start
+// where the end is a definition. A turned use is marked and stays where it is as a conflict, which asks nothing; it is
+// kept in a row of the work space for later (set_part::mark, steps). Behind a turned end the scan goes on with what it
+// holds, since all before it is as it was; a turned start lies before, so that all is scanned again (build_part,
+// `turn_uses`). A definition can't be turned, and an end without a start is a stop too.
 //
 // What has gone through becomes a register in four steps (place::part). Where a new group is to be made, its group
-// operands are mapped to it. Then it is decided what the pieces become, and nothing is written for that (plan): a
-// register of no group; one that leads a new group; one in an empty place of a group that is there; or pieces among
-// those of the register at that place; or a stop; or, if it is none, a table that is full. Then room is made for the
-// pieces, and one walk writes them with their uses and tells what the row needs: the sum of costs, the instructions
-// touched, the hint (emit). Last the rows of the register and of its group are set, with the least weight of its
-// members (finish).
+// operands are mapped to it. Then it is decided what the pieces become, and nothing is written for that
+// (placing::plan): a register of no group; one that leads a new group; one in an empty place of a group that is there;
+// or pieces among those of the register at that place; or a stop; or, if it is none, a table that is full. Then room
+// is made for the pieces, and one walk writes them with their uses and tells what the row needs: the sum of costs, the
+// instructions touched, the hint (emit). Last the rows of the register and of its group are set, with the least weight
+// of its members (placing::finish).
 //
 // Behind a cut the same is done with the part that is left, as a recursion, each time with fewer class uses
 // (build_part, `build_behind`). When all of the set is placed, its turned uses become conflict registers, instruction
