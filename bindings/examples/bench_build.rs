@@ -4,9 +4,12 @@
 //! Timed on the Rust's side is `VirtRegs::build_initial_vregs` alone. Live ranges, uses and sorted hints, the table of
 //! split placement, the tables of blocks and operands and the leaders of the sets are ready before, one copy for each
 //! call where the pass uses them up; the tables that it fills are those of the call before, cleared but allocated.
+//! Timed beside it is the Rust from a decoded job to the result: all that is named above made anew, and then the pass.
 //! Timed on our side is the whole exported function: the entry tests, the indexes it makes in the work space, zeros in
 //! all tables that are lent, and the pass. The binary job, the tables and the work space are there before. It is taken
 //! with tables that just hold the result, with the rows that the job's own counts name, and with the usual ones.
+//! Behind the groups of jobs come shapes of one segment: uses of one class, a cut at every instruction, and a use turned
+//! at every instruction.
 //! Jobs that are refused are left out: without the watch the Rust does not find every stop.
 
 mod common;
@@ -23,6 +26,8 @@ use reference::internal::coalescing::Coalescing;
 use reference::internal::hints::Hints;
 use reference::internal::spill_allocator::SpillAllocator;
 use reference::internal::split_placement::SplitPlacement;
+use reference::internal::uses::Uses;
+use reference::internal::value_live_ranges::ValueLiveRanges;
 use reference::internal::virt_regs::VirtRegs;
 use reference::internal::virt_regs::builder::VirtRegBuilder;
 use reference::{Options, Stats, union_find};
@@ -66,13 +71,7 @@ struct Rust<'a> {
 
 impl<'a> Rust<'a> {
     fn new(job: &'a Job) -> Self {
-        let function = Function::new(job);
-        let (_, _, mut hints) = feed::empty_ranges(job, &function);
-        feed::fill_hints(job, &mut hints);
-        let mut placement = SplitPlacement::new();
-        placement.prepare(&function);
-        let leaders: Vec<u32> = job.values.iter().map(|value| value.leader).collect();
-        union_find::set_leaders(&leaders);
+        let (function, hints, placement) = Self::ready(job);
         Self {
             job,
             function,
@@ -91,30 +90,59 @@ impl<'a> Rust<'a> {
         }
     }
 
-    /// The time of so many calls.
+    /// What the pass reads of a job, besides ranges and uses; the leaders of its sets are set.
+    fn ready(job: &'a Job) -> (Function<'a>, Hints, SplitPlacement) {
+        let function = Function::new(job);
+        let (_, _, mut hints) = feed::empty_ranges(job, &function);
+        feed::fill_hints(job, &mut hints);
+        let mut placement = SplitPlacement::new();
+        placement.prepare(&function);
+        let leaders: Vec<u32> = job.values.iter().map(|value| value.leader).collect();
+        union_find::set_leaders(&leaders);
+        (function, hints, placement)
+    }
+
+    /// The ranges and the uses of its job, which a call uses up.
+    fn inputs(&self) -> (ValueLiveRanges, Uses) {
+        let (mut ranges, mut uses, _) = feed::empty_ranges(self.job, &self.function);
+        feed::fill_ranges(self.job, &mut uses, &mut ranges);
+        (ranges, uses)
+    }
+
+    fn pass(&mut self, ranges: &mut ValueLiveRanges, uses: &mut Uses) {
+        self.regs.build_initial_vregs(
+            black_box(&self.function),
+            &self.function,
+            ranges,
+            &mut self.coalescing,
+            uses,
+            &self.hints,
+            &self.placement,
+            &mut self.spill,
+            &mut self.builder,
+            &mut Stats,
+            &self.options,
+        );
+        black_box(&self.regs);
+    }
+
+    /// The time of so many calls of the pass.
     fn time(&mut self, calls: usize) -> f64 {
-        let mut inputs = Vec::new();
-        for _ in 0..calls {
-            let (mut ranges, mut uses, _) = feed::empty_ranges(self.job, &self.function);
-            feed::fill_ranges(self.job, &mut uses, &mut ranges);
-            inputs.push((ranges, uses));
-        }
+        let mut inputs: Vec<_> = (0..calls).map(|_| self.inputs()).collect();
         let start = Instant::now();
         for (ranges, uses) in &mut inputs {
-            self.regs.build_initial_vregs(
-                black_box(&self.function),
-                &self.function,
-                ranges,
-                &mut self.coalescing,
-                uses,
-                &self.hints,
-                &self.placement,
-                &mut self.spill,
-                &mut self.builder,
-                &mut Stats,
-                &self.options,
-            );
-            black_box(&self.regs);
+            self.pass(ranges, uses);
+        }
+        start.elapsed().as_nanos() as f64
+    }
+
+    /// The time of so many ways from the decoded job to the result.
+    fn time_all(&mut self, calls: usize) -> f64 {
+        let start = Instant::now();
+        for _ in 0..calls {
+            (self.function, self.hints, self.placement) = Self::ready(black_box(self.job));
+            let (mut ranges, mut uses) = self.inputs();
+            self.pass(&mut ranges, &mut uses);
         }
         start.elapsed().as_nanos() as f64
     }
@@ -169,11 +197,13 @@ fn median(mut times: Vec<f64>) -> f64 {
     }
 }
 
-/// The Rust; ours with tables that just hold the result, with the job's own rows, with the usual ones.
-const SIDES: usize = 4;
+/// The Rust's pass; ours with tables that just hold the result, with the job's own rows, with the usual ones; the Rust from
+/// a decoded job to the result.
+const SIDES: usize = 5;
 const EXACT: usize = 1;
 const OWN: usize = 2;
 const USUAL: usize = 3;
+const ALL: usize = 4;
 
 /// Nanoseconds for one call on each side, the sides taken by turns.
 fn times(sides: &mut [&mut dyn FnMut(usize) -> f64; SIDES]) -> [f64; SIDES] {
@@ -204,11 +234,13 @@ fn measure(job: &Job) -> Option<[f64; SIDES]> {
     let mut own = ours(Rows::for_job(&bytes));
     let mut usual = ours(Rows::USUAL);
     let mut rust = Rust::new(job);
+    let mut whole = Rust::new(job);
     Some(times(&mut [
         &mut |calls| rust.time(calls),
         &mut |calls| exact.time(calls),
         &mut |calls| own.time(calls),
         &mut |calls| usual.time(calls),
+        &mut |calls| whole.time_all(calls),
     ]))
 }
 
@@ -224,9 +256,52 @@ fn group(name: &str, jobs: impl Iterator<Item = Job>, count: usize) {
     let highest = ratios(EXACT).into_iter().fold(0.0, f64::max);
     let both = |side: usize| format!("{:.0} | {:.2}", time(side), median(ratios(side)));
     let (exact, own, usual) = (both(EXACT), both(OWN), both(USUAL));
-    let (jobs, rust) = (measured.len(), time(0));
+    let (jobs, rust, all) = (measured.len(), time(0), time(ALL));
+    let to_result = measured
+        .iter()
+        .map(|times| times[EXACT] / times[ALL])
+        .collect();
+    let to_result = median(to_result);
     println!(
-        "| {name} | {jobs} | {rust:.0} | {exact} | {lowest:.2} to {highest:.2} | {own} | {usual} |"
+        "| {name} | {jobs} | {rust:.0} | {exact} | {lowest:.2} to {highest:.2} | {own} | {usual} | {all:.0} | {to_result:.2} |"
+    );
+}
+
+/// A job of one segment over one block, with class uses of these classes at each instruction.
+fn shape(insts: usize, classes: impl Fn(usize) -> Vec<usize>) -> Job {
+    let (book, _) = CASE_A.split_once("block").expect("blocks");
+    let mut text = format!(
+        "{book}block {insts} 3f800000\nvalue 0 0 0\nseg 0 0 {} 0\n",
+        4 * insts
+    );
+    for inst in 0..insts {
+        for class in classes(inst) {
+            text.push_str(&format!("use 4 {inst} 0 {class}\n"));
+        }
+    }
+    text.push_str("end\n");
+    sheet::read(text.replace(' ', "\t").as_bytes()).expect("a sheet")
+}
+
+/// The shapes, each with so many uses.
+fn shapes(uses: usize) {
+    let one = |job| std::iter::once(job);
+    group(
+        &format!("one class, {uses} uses"),
+        one(shape(uses, |_| vec![1])),
+        1,
+    );
+    let cuts = shape(uses, |inst| vec![1 + inst % 2]);
+    group(
+        &format!("a cut at every instruction, {uses} uses"),
+        one(cuts),
+        1,
+    );
+    let turns = shape(uses / 2, |_| vec![1, 2]);
+    group(
+        &format!("a turn at every instruction, {uses} uses"),
+        one(turns),
+        1,
     );
 }
 
@@ -252,13 +327,16 @@ fn main() {
     println!();
     println!(
         "| Group | Jobs | Rust | Ours | Ratio | Lowest to highest | Ours, the job's own rows | Ratio \
-         | Ours, usual room | Ratio |"
+         | Ours, usual room | Ratio | Rust, job to result | Ours to that |"
     );
-    println!("|---|---:|---:|---:|---:|---:|---:|---:|---:|---:|");
+    println!("|---|---:|---:|---:|---:|---:|---:|---:|---:|---:|---:|---:|");
     let case_a = sheet::read(CASE_A.replace(' ', "\t").as_bytes()).expect("a sheet");
     group("case A", std::iter::once(case_a), 1);
     group("small jobs", jobs_of("small", seed), jobs);
     group("class conflicts", jobs_of("classes", seed), jobs);
     group("groups", jobs_of("groups", seed), jobs);
     group("at the limits", jobs_of("limits", seed), jobs.div_ceil(4));
+    for uses in [16, 256, 4096] {
+        shapes(uses);
+    }
 }
