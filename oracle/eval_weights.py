@@ -20,8 +20,6 @@ import eval as sheets
 sys.path.insert(0, os.path.join(sheets.HERE, 'eval'))
 from frames import frame, frames
 
-CRATES = ('definition', 'floats', 'spill_weight', 'weight_truth')
-
 HEAD = """-- Sheets, and what is said of their registers. Assumes nothing.
 use mathlib.Core.Path.{◌≡◌, refl}
 use Prim.Native.Nat.{ℕ, suc, ◌+◌, ◌*◌, ◌^◌}
@@ -113,22 +111,41 @@ class Case:
         return f'({sheet}, {rows})'
 
 
-class Checker(sheets.Checker):
-    """As that of the sheets, over the crates that weight_truth stands on, their proofs with them."""
+def listed(root):
+    """The crates that each crate of crates.txt names."""
+    with open(os.path.join(root, 'crates.txt')) as lines:
+        rows = [line.split(':') for line in lines if line.strip() and not line.startswith('#')]
+    return {name.split()[0]: named.split() for name, named in rows}
 
-    crate, head = 'weight_truth', HEAD
+
+def below(named, crate):
+    """A crate with all that it stands on in the repository."""
+    found = [crate]
+    for name in found:
+        found += [it for it in named[name] if it in named and it not in found]
+    return found
+
+
+class Checker(sheets.Checker):
+    """As that of the sheets, in a crate of its own beside build_answer and all that this stands on."""
+
+    crate, head = 'exact_weights', HEAD
 
     def __init__(self, root):
         self.folder = tempfile.mkdtemp(prefix='eval-')
         self.seconds = 0.0
-        for name in CRATES:
-            shutil.copytree(os.path.join(root, 'crates', name), os.path.join(self.folder, 'crates', name),
-                            ignore=shutil.ignore_patterns('out'))
-        with open(os.path.join(root, 'crates.txt')) as f, open(os.path.join(self.folder, 'crates.txt'), 'w') as to:
-            to.writelines(line for line in f if line.split(':')[0] in CRATES)
-        self.proofs = os.path.join(self.folder, 'crates', 'weight_truth', 'proofs')
-        shutil.rmtree(self.proofs)
-        os.mkdir(self.proofs)
+        named = listed(root)
+        with open(os.path.join(self.folder, 'crates.txt'), 'w') as to:
+            for name in below(named, 'build_answer'):
+                shutil.copytree(os.path.join(root, 'crates', name), os.path.join(self.folder, 'crates', name),
+                                ignore=shutil.ignore_patterns('out'))
+                to.write(f"{name}: {' '.join(named[name])}\n")
+            to.write(f'{self.crate}: definition build_answer\n')
+        for part in ('src', 'proofs'):
+            os.makedirs(os.path.join(self.folder, 'crates', self.crate, part))
+        with open(os.path.join(self.folder, 'crates', self.crate, 'src', 'lib.rt'), 'w') as to:
+            to.write('// The weights of sheets in exact numbers.\n#![tactic(auto)]\n')
+        self.proofs = os.path.join(self.folder, 'crates', self.crate, 'proofs')
 
 
 def said_of(program, data, most):
@@ -142,7 +159,7 @@ def said_of(program, data, most):
 
 
 def main():
-    args = argparse.ArgumentParser(description='Holds the words of weight_truth to exact numbers.')
+    args = argparse.ArgumentParser(description='Holds the words of build_answer to exact numbers.')
     args.add_argument('exact')
     args.add_argument('--most', type=int, default=6000)
     args = args.parse_args()

@@ -55,7 +55,7 @@ for crate, text in sources(".rt", "src"):
     for name, body in re.findall(r"struct (\w+) \{\n(.*?)\n\}", code, re.S):
         if "," in body.strip().rstrip(",") and re.search(rf"pub (?:{FLAGS}): bool", body):
             place(1, crate, name, "a flag beside values")
-        if re.search(r"pub number: u32", body) and crate not in ("conflict_round",):
+        if re.search(r"pub number: u32", body) and crate not in ("conflicts",):
             place(1, crate, name, "a refusal's number")
         if re.search(r"pub (?:key|kind): u32", body):
             place(1, crate, name, "a kind's number")
