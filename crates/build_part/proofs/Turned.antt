@@ -202,32 +202,32 @@ module _ {t w n : ℕ} {W K O : List ℕ} {lay : Layout} {ol : OutLayout} {wl : 
 
 -- ---- a step that turns no use, and one that turns one
 
-settled_by : (a : ℕ) (m : code.Move) (k : code.Move) (x : Result Settled ℕ) → m ≡ k → move_of a k ≡ settles a x → move_of a m ≡ settles a x
-settled_by a m k x e q = ap (λ (y : code.Move). move_of a y) e ∙ q
+settled_by : (a : ℕ) (h : Held) (m : code.Move) (k : code.Move) (x : Result Settled ℕ) → m ≡ k → move_of a h k ≡ settles a h x → move_of a h m ≡ settles a h x
+settled_by a h m k x e q = ap (λ (y : code.Move). move_of a h y) e ∙ q
 
-pub settled_whole : (a : ℕ) (m : code.Move) (h : Held) → m ≡ code_move.Whole h → move_of a m ≡ settles a (Ok (Whole h))
+pub settled_whole : (a : ℕ) (h : Held) (m : code.Move) → m ≡ code_move.Whole → move_of a h m ≡ settles a h (Ok Whole)
 unfolding move_of
-settled_whole a m h e = settled_by a m (code_move.Whole h) (Ok (Whole h)) e refl
+settled_whole a h m e = settled_by a h m code_move.Whole (Ok Whole) e refl
 
-pub settled_turn : (a : ℕ) (m : code.Move) (k : ℕ) → m ≡ code_move.Turn k → move_of a m ≡ settles a (Err k)
+pub settled_turn : (a : ℕ) (h : Held) (m : code.Move) (k : ℕ) → m ≡ code_move.Turn k → move_of a h m ≡ settles a h (Err k)
 unfolding move_of
-settled_turn a m k e = settled_by a m (code_move.Turn k) (Err k) e refl
+settled_turn a h m k e = settled_by a h m (code_move.Turn k) (Err k) e refl
 
-pub settled_cut : (a : ℕ) (m : code.Move) (p : Inst) → m ≡ code_move.Cut p → move_of a m ≡ settles a (Ok (Cut p))
+pub settled_cut : (a : ℕ) (h : Held) (m : code.Move) (p : Inst) → m ≡ code_move.Cut p → move_of a h m ≡ settles a h (Ok (Cut p))
 unfolding move_of
-settled_cut a m p e = settled_by a m (code_move.Cut p) (Ok (Cut p)) e refl
+settled_cut a h m p e = settled_by a h m (code_move.Cut p) (Ok (Cut p)) e refl
 
-pub settled_halt : (a : ℕ) (m : code.Move) (s : Stop) → m ≡ code_move.Halt s → move_of a m ≡ settles a (Ok (Halt s))
+pub settled_halt : (a : ℕ) (h : Held) (m : code.Move) (s : Stop) → m ≡ code_move.Halt s → move_of a h m ≡ settles a h (Ok (Halt s))
 unfolding move_of
-settled_halt a m s e = settled_by a m (code_move.Halt s) (Ok (Halt s)) e refl
+settled_halt a h m s e = settled_by a h m (code_move.Halt s) (Ok (Halt s)) e refl
 
 -- the move of a part
-pub moves_settled : (K : List ℕ) (marks : ℕ) (W : List ℕ) (lay : Layout) (sp : SetPart) → PartOk W lay sp → (st : State) (top : RegClass) (r : code.Move)
-    → move_of sp.first r ≡ move (job_of W lay) st top (tab (marked_use K marks W lay) sp.first (sp.end - sp.first))
-    → (x y : Result Settled ℕ) → move_of sp.first r ≡ settles sp.first x → x ≡ y
-    → move (job_of W lay) st top (uses_of (part_segs K marks W lay sp)) ≡ settles sp.first y
-moves_settled K marks W lay sp ok st top r e x y es q =
+pub moves_settled : (K : List ℕ) (marks : ℕ) (W : List ℕ) (lay : Layout) (sp : SetPart) → PartOk W lay sp → (st : State) (top : RegClass) (h : Held) (r : code.Move)
+    → move_of sp.first h r ≡ move (job_of W lay) st top (tab (marked_use K marks W lay) sp.first (sp.end - sp.first))
+    → (x y : Result Settled ℕ) → move_of sp.first h r ≡ settles sp.first h x → x ≡ y
+    → move (job_of W lay) st top (uses_of (part_segs K marks W lay sp)) ≡ settles sp.first h y
+moves_settled K marks W lay sp ok st top h r e x y es q =
     ap (λ (us : List Use). move (job_of W lay) st top us) (part_scanned K marks W lay sp ok)
     ∙ sym e
     ∙ es
-    ∙ ap (λ (z : Result Settled ℕ). settles sp.first z) q
+    ∙ ap (λ (z : Result Settled ℕ). settles sp.first h z) q

@@ -12,6 +12,7 @@ use Rattle.set_part.specs.Part.{part_segs}
 use Rattle.virt_regs.specs.declared.OutLayout.{OutLayout}
 use Rattle.virt_regs.specs.Encoding.{room_of}
 use Rattle.job.specs.declared.work.WorkLayout.{WorkLayout}
+use Rattle.constraints.specs.declared.Held.{Held}
 use Rattle.constraints.specs.Held.{held_of}
 use Rattle.constraints.specs.Ready.{Stands}
 use Rattle.pieces.specs.Conflict.{turned_rows_of}
@@ -33,13 +34,13 @@ pub record Turning (t w : ℕ) (W K K' O : List ℕ) (lay : Layout) (ol : OutLay
       → run (job_of W lay) (room_of ol) vs top st (part_segs K wl.marks W lay sp) (turned_rows_of K wl.turned W lay 0 n)
       ≡ run (job_of W lay) (room_of ol) vs top st (part_segs K' wl.marks W lay sp) (turned_rows_of K' wl.turned W lay 0 n')
 
--- the step, as the definition has it
-abbrev pub settled_of : Settled → Move
-settled_of (Whole h) = whole (held_of h)
-settled_of (Cut p) = cut p
-settled_of (Halt s) = halt s
+-- the step where h is held, as the definition has it
+abbrev pub settled_of : Held → Settled → Move
+settled_of h Whole = whole (held_of h)
+settled_of h (Cut p) = cut p
+settled_of h (Halt s) = halt s
 
 -- a step, or the use to turn, which stands at a place from use number a on
-abbrev pub settles : ℕ → Result Settled ℕ → Move
-settles a (Ok s) = settled_of s
-settles a (Err k) = turn (k - a)
+abbrev pub settles : ℕ → Held → Result Settled ℕ → Move
+settles a h (Ok s) = settled_of h s
+settles a h (Err k) = turn (k - a)

@@ -37,16 +37,16 @@ pub struct StepsEnd {
     pub turned: usize,
 }
 
-// The step that is to be made where no use is turned: all is placed, with what is held; a cut is made; or a stop.
+// The step that is to be made where no use is turned: all is placed; a cut is made; or a stop.
 #[derive(Clone, Copy)]
 pub enum Settled {
-    Whole(Held),
+    Whole,
     Cut(Inst),
     Halt(Stop),
 }
 
 // Uses of a part are turned, `turned` in all then, and this is the step behind them. The scans that led to it went on from
-// the part's first use to use number `end`, holding `passed`.
+// the part's first use to use number `end`, holding `passed`: all uses, where all is placed.
 #[derive(Clone, Copy)]
 pub struct TurnsEnd {
     pub step: Settled,
@@ -76,10 +76,10 @@ pub enum Step {
 
 // A step that turns no use; else the use to be turned.
 fn settle(step: Move) -> Result<Settled, usize>
-    ensures { (a : ℕ) → move_of a step ≡ settles a result }
+    ensures { (a : ℕ) (h : Held) → move_of a h step ≡ settles a h result }
 {
     match step {
-        Move::Whole(held) => Ok(Settled::Whole(held)),
+        Move::Whole => Ok(Settled::Whole),
         Move::Turn(k) => Err(k),
         Move::Cut(p) => Ok(Settled::Cut(p)),
         Move::Halt(s) => Ok(Settled::Halt(s)),
@@ -98,7 +98,7 @@ fn turn_uses(
 ) -> TurnsEnd
     requires { Laid fr.now work.old sp n × Builds fr.now out.now × ((st : State) × Stands fr.now out.now work.old st) }
     ensures turning { Turning fr.now work.old work.new out.now top sp n result.turned }
-    ensures moves { Moves fr.now work.new out.now top sp (settled_of result.step) }
+    ensures moves { Moves fr.now work.new out.now top sp (settled_of result.passed result.step) }
     ensures passes { Passes fr.now work.new out.now top sp result.end result.passed }
 {
     let first = sp.first;
@@ -140,16 +140,16 @@ fn next_part(
     t: &TurnsEnd,
 ) -> Result<Next, Stop>
     requires { ((n : ℕ) × Laid fr.now work.now sp n) × Builds fr.now out.now × ((st : State) × Stands fr.now out.now work.now st)
-        × Moves fr.now work.now out.now top sp (settled_of t.now.step)
+        × Moves fr.now work.now out.now top sp (settled_of t.now.passed t.now.step)
         × Passes fr.now work.now out.now top sp t.now.end t.now.passed }
     ensures { NextOr fr.now work.now out.now top sp result }
 {
     match t.step {
-        Settled::Whole(held) => {
+        Settled::Whole => {
             let behind = None;
             Ok(Next {
                 part: sp,
-                held,
+                held: t.passed,
                 behind,
             })
         }

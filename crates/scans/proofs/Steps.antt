@@ -66,14 +66,14 @@ module _ (f : ℕ → Use) (a b n : ℕ) (l : a ≤ n) (m : n < b) where
       get_or_tab f a (b - a) (n - a) no_use (omega arith) ∙ ap f e
 
   -- the use at n turned
-  pub turn_def : (u : Use) (d : Bool) → u ≡ f n → d ≡ is_def u.kind → d ≡ true → move_of a (Halt TurnedDef) ≡ turning (tab f a (b - a)) (n - a)
+  pub turn_def : (u : Use) (d : Bool) → u ≡ f n → d ≡ is_def u.kind → d ≡ true → (h : Held) → move_of a h (Halt TurnedDef) ≡ turning (tab f a (b - a)) (n - a)
   unfolding move_of turning
-  turn_def u d eu ed t =
+  turn_def u d eu ed t h =
       sym (ap (λ (x : Bool). cond x (halt TurnedDef) (turn (n - a))) (ap (λ (w : Use). is_def w.kind) (use_here ∙ sym eu) ∙ sym ed ∙ t))
 
-  pub turn_use : (u : Use) (d : Bool) → u ≡ f n → d ≡ is_def u.kind → d ≡ false → move_of a (Turn n) ≡ turning (tab f a (b - a)) (n - a)
+  pub turn_use : (u : Use) (d : Bool) → u ≡ f n → d ≡ is_def u.kind → d ≡ false → (h : Held) → move_of a h (Turn n) ≡ turning (tab f a (b - a)) (n - a)
   unfolding move_of turning
-  turn_use u d eu ed t =
+  turn_use u d eu ed t h =
       sym (ap (λ (x : Bool). cond x (halt TurnedDef) (turn (n - a))) (ap (λ (w : Use). is_def w.kind) (use_here ∙ sym eu) ∙ sym ed ∙ t))
 
 -- start and end
@@ -104,9 +104,9 @@ module _ (job : Job) (side : Side) (f : ℕ → Use) (a b s e : ℕ) (ls : a ≤
 
   pub part_cut : (r : Inst) (bs : List BlockData) → eqb x.pos.0 y.pos.0 ≡ false → job.blocks ≡ bs
       → r.0 ≡ side_of side bs x.pos.0 y.pos.0
-      → move_of a (Cut r) ≡ parted job side (tab f a (b - a)) (s - a) (e - a)
+      → (h : Held) → move_of a h (Cut r) ≡ parted job side (tab f a (b - a)) (s - a) (e - a)
   unfolding move_of
-  part_cut r bs ne eb er =
+  part_cut r bs ne eb er h =
       parted_is (cut r)
       (ap (λ (n : ℕ). cut (inst n)) er
       ∙ ap (λ (l : List BlockData). cut (inst (side_of side l x.pos.0 y.pos.0))) (sym eb) ∙ rw ne)
@@ -141,7 +141,7 @@ module _ (job : Job) (st : State) (top : RegClass) (us : List Use) (h : types.He
       ap (λ (g : types.Held). from_end job st top us (scan job st us g)) (sym fr)
       ∙ ap (from_end job st top us) (sym er.0)
 
-  pub move_whole : r.failed ≡ None → move_of a (Whole r.held) ≡ move job st top us
+  pub move_whole : r.failed ≡ None → move_of a r.held Whole ≡ move job st top us
   unfolding move_of scan_of from_end
   move_whole q = sym (forth ∙ rw q)
 
@@ -172,13 +172,13 @@ module _ (job : Job) (st : State) (top : RegClass) (us : List Use) (h : types.He
         (sym fr)
         ∙ ap₂ (λ (d : Side) (s : Scan). from_start job d us (e - a) s) sides (sym eb.0))
 
-    pub move_halt : back.failed ≡ None → move_of a (Halt NoStart) ≡ move job st top us
+    pub move_halt : back.failed ≡ None → move_of a r.held (Halt NoStart) ≡ move job st top us
     unfolding move_of back_of from_start
     move_halt q = sym (back_forth ∙ rw q)
 
     pub move_part : (s : ℕ) (k : code.Move) → back.failed ≡ Some s → a ≤ s → s ≤ e
-        → move_of a k ≡ parted job side us (s - a) (e - a)
-        → move_of a k ≡ move job st top us
+        → move_of a r.held k ≡ parted job side us (s - a) (e - a)
+        → move_of a r.held k ≡ move job st top us
     unfolding back_of from_start
     move_part s k q l m p =
         let z : s - a ≡ e - a - (e - s) = omega arith in

@@ -38,9 +38,10 @@ unfoldable pub shifted : ℕ → Scan → Scan
 shifted k (through h) = through h
 shifted k (fails_at n) = fails_at (k + n)
 
-unfoldable pub move_of : ℕ → code.Move → Move
+-- a step where h is held, by numbers from use number a on
+unfoldable pub move_of : ℕ → Held → code.Move → Move
 unfolding held_of
-move_of a (Whole h) = whole (held_of h)
-move_of a (Turn n) = turn (n - a)
-move_of a (Cut p) = cut p
-move_of a (Halt s) = halt s
+move_of a h Whole = whole (held_of h)
+move_of a h (Turn n) = turn (n - a)
+move_of a h (Cut p) = cut p
+move_of a h (Halt s) = halt s

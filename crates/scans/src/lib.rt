@@ -37,16 +37,17 @@ pub struct ScanAnswer {
     pub held: Held,
 }
 
-// The step that the scans lead to: place all, with what is held; turn a use by its number; make a cut; or stop.
+// The step that the scans lead to: place all; turn a use by its number; make a cut; or stop.
 #[derive(Clone, Copy)]
 pub enum Move {
-    Whole(Held),
+    Whole,
     Turn(usize),
     Cut(Inst),
     Halt(Stop),
 }
 
-// The step that the scans lead to; and what the forward scan held where it ended, with that use's number.
+// The step that the scans lead to; and what the forward scan held where it ended, with that use's number. What is held is
+// there for each step, so that `Whole` would carry it twice.
 #[derive(Clone, Copy)]
 pub struct NextMove {
     pub step: Move,
@@ -169,7 +170,7 @@ pub fn scan_back(fr: &Frame, out: &[u8], work: &[u8], first: Held, a: usize, e: 
 // The use with number n is turned; a stop where it is a definition.
 fn turn_at(fr: &Frame, work: &[u8], n: usize) -> Move
     requires { Ready fr.now work.now × (n < fr.now.job.lay.uses.n) }
-    ensures { (a b : ℕ) → a ≤ n → n < b → move_of a result ≡ turning (tab (marked_use fr.now work.now) a (b - a)) (n - a) }
+    ensures { (a b : ℕ) (h : Held) → a ≤ n → n < b → move_of a h result ≡ turning (tab (marked_use fr.now work.now) a (b - a)) (n - a) }
 {
     let u = marked_use(fr, work, n);
     if uses::is_def(u.kind) {
@@ -234,8 +235,8 @@ fn cut_at(fr: &Frame, work: &[u8], side: Side, x: Inst, y: Inst) -> Inst
 fn part_at(fr: &Frame, work: &[u8], side: Side, s: usize, e: usize) -> Move
     requires { Ready fr.now work.now
         × (s < fr.now.job.lay.uses.n) × (e < fr.now.job.lay.uses.n) × (0 < fr.now.job.lay.segments.n) }
-    ensures { (a b : ℕ) → a ≤ s → s < b → a ≤ e → e < b
-        → move_of a result ≡ parted (job_in fr.now.job) side
+    ensures { (a b : ℕ) (h : Held) → a ≤ s → s < b → a ≤ e → e < b
+        → move_of a h result ≡ parted (job_in fr.now.job) side
         (tab (marked_use fr.now work.now) a (b - a))
         (s - a) (e - a) }
 {
@@ -269,14 +270,14 @@ pub fn move_from(
     ensures within { (at ≤ result.end) × (result.end ≤ b) }
     ensures moves { (st : State) → Stands fr.now out.now work.now st
         → Passed (job_in fr.now.job) st (marked_use fr.now work.now) top a at held
-        → (move_of a result.step ≡ move (job_in fr.now.job) st top (tab (marked_use fr.now work.now) a (b - a)))
+        → (move_of a result.held result.step ≡ move (job_in fr.now.job) st top (tab (marked_use fr.now work.now) a (b - a)))
         × Passed (job_in fr.now.job) st (marked_use fr.now work.now) top a result.end result.held }
 {
     let r = scan_uses(fr, out, work, held, at, b);
     let passed = r.held;
     let Some(e) = r.failed else {
         return NextMove {
-            step: Move::Whole(passed),
+            step: Move::Whole,
             held: passed,
             end: b,
         };

@@ -1,4 +1,4 @@
--- The part before a cut is scanned, and the kinds of a move. Assumes nothing.
+-- The part before a cut is scanned. Assumes nothing.
 use mathlib.Core.Path.{◌≡◌, sym, ap, subst, ◌∙◌}
 use Prim.Native.Nat.{ℕ, ◌-◌, ◌*◌, ◌≤◌, ◌<◌}
 use native.Mathlib.Omega.{arith}
@@ -7,12 +7,11 @@ use Rattle.words.specs.Tab.{tab}
 use Rattle.words.specs.RowsAt.{rows_at}
 use Rattle.definition.specs.declared.Inst.{Inst}
 use Rattle.definition.specs.declared.RegClass.{RegClass}
-use Rattle.definition.specs.declared.Stop.{Stop}
 use Rattle.definition.specs.declared.Use.{Use}
 use Rattle.definition.specs.Types.{State}
 use Rattle.definition.specs.Types as types
 use Rattle.definition.specs.Cuts.{left_cut}
-use Rattle.definition.specs.Admit.{whole, turn, cut, halt, move, scan, through, fresh}
+use Rattle.definition.specs.Admit.{cut, move, scan, through, fresh}
 use Rattle.definition.specs.Place.{uses_of}
 use Rattle.definition.proofs.Fits.{SegsFit}
 use Rattle.hints.specs.Hints.{hint_at}
@@ -28,9 +27,7 @@ use Rattle.set_part.proofs.CutsKept.{cut_sides}
 use Rattle.constraints.specs.declared.Held.{Held}
 use Rattle.constraints.specs.Held.{held_of}
 use Rattle.scans.specs.declared.ScanAnswer.{ScanAnswer}
-use Rattle.scans.specs.declared.Move as code
-use Rattle.scans.specs.declared.Move.TheVariants.{Whole, Turn, Cut, Halt}
-use Rattle.scans.specs.Answers.{scan_of, move_of}
+use Rattle.scans.specs.Answers.{scan_of}
 use Rattle.steps.proofs.Run.{cut_through}
 use Rattle.steps.proofs.Cut.{part_scanned}
 
@@ -78,27 +75,3 @@ module _ (W : List ℕ) (lay : Layout) (p : Inst) (sp : SetPart) (c : Parts) (ok
 -- the uses of a part lie within the job's
 pub part_range : (W : List ℕ) (lay : Layout) (sp : SetPart) → PartOk W lay sp → (sp.first ≤ sp.end) × (sp.end ≤ lay.uses.n) × (0 < lay.segments.n)
 part_range W lay sp ok = (first_le_end W lay sp ok, ok.fits, omega (arith, ok.within))
-
--- ---- the move of a part, by the answer
-
-module _ (K : List ℕ) (marks : ℕ) (W : List ℕ) (lay : Layout) (sp : SetPart) (ok : PartOk W lay sp) (st : State) (top : RegClass) (r : code.Move)
-    (e : move_of sp.first r ≡ move (job_of W lay) st top (tab (marked_use K marks W lay) sp.first (sp.end - sp.first))) where
-  moved : (k : code.Move) → r ≡ k → move (job_of W lay) st top (uses_of (part_segs K marks W lay sp)) ≡ move_of sp.first k
-  moved k q =
-      ap (λ (us : List Use). move (job_of W lay) st top us) (part_scanned K marks W lay sp ok) ∙ sym e ∙ ap (λ (x : code.Move). move_of sp.first x) q
-
-  pub moves_whole : (h : Held) → r ≡ Whole h → move (job_of W lay) st top (uses_of (part_segs K marks W lay sp)) ≡ whole (held_of h)
-  unfolding move_of
-  moves_whole h q = moved (Whole h) q
-
-  pub moves_turn : (c : ℕ) → r ≡ Turn c → move (job_of W lay) st top (uses_of (part_segs K marks W lay sp)) ≡ turn (c - sp.first)
-  unfolding move_of
-  moves_turn c q = moved (Turn c) q
-
-  pub moves_cut : (p : Inst) → r ≡ Cut p → move (job_of W lay) st top (uses_of (part_segs K marks W lay sp)) ≡ cut p
-  unfolding move_of
-  moves_cut p q = moved (Cut p) q
-
-  pub moves_halt : (s : Stop) → r ≡ Halt s → move (job_of W lay) st top (uses_of (part_segs K marks W lay sp)) ≡ halt s
-  unfolding move_of
-  moves_halt s q = moved (Halt s) q

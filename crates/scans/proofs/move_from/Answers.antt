@@ -42,7 +42,7 @@ returns c = let r = rw c.in-Some.is at c.scan_uses-r.ensures.within in
           let all = resume _ st _ _ _ _ _ _ _ c.requires.2 c.requires.3 p c.scan_uses-r.ensures.within (c.scan_uses-r.ensures.ends st hs) in
           let back = back_fresh _ st _ _ _ _ _ _ _ _ c.fresh_held-first.ensures (omega (arith, r.0, c.requires.2)) r.1 (c.scan_back-back.ensures.ends st hs) in (
             move_part _ st _ _ _ refl _ _ all _ c.in-Some.is _ back _ _ c.in-Some-failed.is b.0 b.1
-                (rw c.cut_side-side.ensures at (c.part_at.ensures _ _ b.0 (omega (arith, b.1, r.1)) (omega (arith, r.0, c.requires.2)) r.1)),
+                (rw c.cut_side-side.ensures at (c.part_at.ensures _ _ c.scan_uses-r.result.held b.0 (omega (arith, b.1, r.1)) (omega (arith, r.0, c.requires.2)) r.1)),
             ended_before _ st _ _ _ _ _ all _ c.in-Some.is (omega (arith, r.0, c.requires.2)) (omega (arith, r.1)),
           );
     }

@@ -6,14 +6,14 @@ use Rattle.scans.proofs.Steps.{part_start, part_end, part_cut}
 use Rattle.scans.proofs.part_at.Goals as goal
 
 pub returns-then-is_def : goal.returns-then-is_def
-returns-then-is_def c a b ls ms le me = part_start _ _ _ a b _ _ ls ms le me _ _ c.marked_use-x.ensures c.marked_use-y.ensures _ _
+returns-then-is_def c a b h ls ms le me = part_start _ _ _ a b _ _ ls ms le me _ _ c.marked_use-x.ensures c.marked_use-y.ensures _ _
     (sym c.eq.ensures ∙ c.if-eq.true) c.is_def.ensures c.if-is_def.true
-    (c.turn_at.ensures a b ls ms)
+    (c.turn_at.ensures a b h ls ms)
 
 pub returns-then-eq : goal.returns-then-eq
-returns-then-eq c a b ls ms le me = part_end _ _ _ a b _ _ ls ms le me _ _ c.marked_use-x.ensures c.marked_use-y.ensures _ _
+returns-then-eq c a b h ls ms le me = part_end _ _ _ a b _ _ ls ms le me _ _ c.marked_use-x.ensures c.marked_use-y.ensures _ _
     (sym c.eq.ensures ∙ c.if-eq.true) c.is_def.ensures c.if-is_def.false
-    (c.turn_at-then-eq.ensures a b le me)
+    (c.turn_at-then-eq.ensures a b h le me)
 
 pub cut_at-requires : goal.cut_at-requires
 cut_at-requires c = let r = c.requires.0 in
@@ -22,5 +22,5 @@ cut_at-requires c = let r = c.requires.0 in
     (r, omega (arith, r.few_insts, px, py), omega (arith, px, py))
 
 pub returns : goal.returns
-returns c a b ls ms le me = part_cut _ _ _ a b _ _ ls ms le me _ _ c.marked_use-x.ensures c.marked_use-y.ensures _ _
-    (sym c.eq.ensures ∙ c.if-eq.false) (job_blocks _ _) c.cut_at.ensures
+returns c a b h ls ms le me = part_cut _ _ _ a b _ _ ls ms le me _ _ c.marked_use-x.ensures c.marked_use-y.ensures _ _
+    (sym c.eq.ensures ∙ c.if-eq.false) (job_blocks _ _) c.cut_at.ensures h
