@@ -1,2 +1,3 @@
 pub mod Stores
 pub mod Moves
+pub mod Runs

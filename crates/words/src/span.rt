@@ -5,6 +5,8 @@ ghost use Rattle.words.specs.Parts.{splice};
 ghost use Rattle.words.specs.Moves.{Gap};
 ghost use Rattle.words.specs.Words.{word_count, words_of};
 
+use crate::{put_word, word_at};
+
 // Zeros everywhere, in the bytes behind the last word too.
 pub fn clear(s: &mut [u8])
     ensures zeroed { s.new ≡ replicate (length s.old) 0 }
@@ -22,11 +24,14 @@ pub fn clear_words(s: &mut [u8], at: usize, n: usize)
 }
 
 // Copies n words of src, from word `from` on, to dst from word `at` on.
+// Word by word: `copy_from_slice` of a length that is not known calls memmove, which the archives for C do not need.
 pub fn copy_words(dst: &mut [u8], at: usize, src: &[u8], from: usize, n: usize)
     requires { (at + n ≤ word_count dst.old) × (from + n ≤ word_count src.now) }
     ensures { words_of dst.new ≡ splice (words_of dst.old) at (take n (drop from (words_of src.now))) }
 {
-    dst[at * 4..(at + n) * 4].copy_from_slice(&src[from * 4..(from + n) * 4]);
+    for k in 0..n {
+        put_word(dst, at + k, word_at(src, from + k));
+    }
 }
 
 // Moves the words from `at` up to `end` n places up. The contract does not say what is left in the gap.
