@@ -91,8 +91,14 @@ pub fn tell<P: Eprint + Alloc>(
         Err(Broken::Input) => unread,
         Err(Broken::Output) => unwritten,
     };
-    eprint!(rt; "{name}: ")?;
-    fail(rt, what, reason)
+    match reason {
+        Some(e) => {
+            // The name and what failed go in one write.
+            eprint!(rt; "{name}: {what}: ")?;
+            say_reason(rt, e)
+        }
+        None => eprintln!(rt; "{name}: {what}: nothing was taken"),
+    }
 }
 
 // Writes a line to standard error: what failed, as the caller names it, a colon and the reason in the system's words. Only a write that took nothing has failed with no reason of its own.
@@ -101,14 +107,19 @@ pub fn fail<P: Eprint + Alloc>(rt: &P, what: &str, reason: Option<Error>) -> Res
         Some(e) => {
             // What failed is said before the words are put together, which takes memory.
             eprint!(rt; "{what}: ")?;
-            let text = format!(in rt.alloc(); "{e}")?;
-            let words = text.as_str();
-            // The number behind the system's words is not written.
-            match words.split_once(" (os error ") {
-                Some((words, _)) => eprintln!(rt; "{words}"),
-                None => eprintln!(rt; "{words}"),
-            }
+            say_reason(rt, e)
         }
         None => eprintln!(rt; "{what}: nothing was taken"),
+    }
+}
+
+// Ends the line with the reason in the system's words.
+fn say_reason<P: Eprint + Alloc>(rt: &P, e: Error) -> Result<()> {
+    let text = format!(in rt.alloc(); "{e}")?;
+    let words = text.as_str();
+    // The number behind the system's words is not written.
+    match words.split_once(" (os error ") {
+        Some((words, _)) => eprintln!(rt; "{words}"),
+        None => eprintln!(rt; "{words}"),
     }
 }
