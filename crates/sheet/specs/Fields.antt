@@ -4,7 +4,7 @@ use Rattle.sheet_rules.specs.Bytes.{num, take_byte, closed_of}
 use Rattle.sheet_rules.specs.declared.digits.Num.{Num}
 use Rattle.sheet_rules.specs.Rules.{form_at, key_of, follows_of, more_after, kind_after, low_of}
 use Rattle.sheet_rules.specs.Places.{limit_of, count_at, row_at, place_of, tail_at, tail_of, up_of}
-use Rattle.sheet.specs.State.{St}
+use Rattle.sheet.specs.declared.fields.St.{St}
 
 -- the state, or that the sheet is none
 abbrev pub Next : Type 0

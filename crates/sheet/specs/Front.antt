@@ -6,7 +6,6 @@ use Rattle.sheet_rules.specs.Bytes.{num, take_byte, closed_of}
 use Rattle.sheet_rules.specs.declared.digits.Form.TheVariants.{Number}
 use Rattle.sheet_rules.specs.declared.digits.Num.{Num}
 use Rattle.sheet_rules.specs.Rules.{low_of}
-use Rattle.sheet.specs.State.{next_in}
 use Rattle.sheet.specs.Fields.{Next, Fed, fed}
 use Rattle.sheet.specs.declared.first.SheetError.TheVariants.{Malformed}
 use Rattle.sheet.specs.Machine.{Answer, push_of, open_of, answer_of}
@@ -34,7 +33,7 @@ standing f r = record { front = f; next = r }
 
 -- the reader's
 abbrev pub stood_at : Standing → Stood
-stood_at s = standing (front_at s.front) (next_in s.next)
+stood_at s = standing (front_at s.front) s.next
 
 abbrev pub stood : Stood → List ℕ → Stands
 stood s out = stands s.front (fed s.next out)
@@ -117,7 +116,7 @@ abbrev pub onward : Stands → Keeping → Formed
 onward s t = record { at = s; keeping = t }
 
 abbrev pub formed : Reading → List ℕ → List ℕ → Formed
-formed r out w = onward (stands (front_at r.front) (fed (next_in r.next) out)) (keeping r.kept w)
+formed r out w = onward (stands (front_at r.front) (fed r.next out)) (keeping r.kept w)
 
 abbrev pub by_front : Front → Fed → Keeping → ℕ → Formed
 by_front (Opening k) g t b = onward (opening_of k g b) t

@@ -1,5 +1,4 @@
 pub mod Fields
-pub mod State
 pub mod Machine
 pub mod Front
 pub mod Fronts

@@ -1,6 +1,6 @@
 -- The reader as a machine: lines, parts of a sheet, its start and its end. Assumes nothing.
 use Rattle.std.specs.Prelude.{List, [], ◌∷◌, false, cond, ℕ, replicate, eqb, None, Some, Result, Ok, Err, ⊤}
-use Rattle.sheet.specs.State.{St}
+use Rattle.sheet.specs.declared.fields.St.{St}
 use Rattle.sheet.specs.Fields.{Next, Fed, fed, begin_of, byte_of, end_field, close_record}
 use Rattle.sheet.specs.declared.first.SheetError.{SheetError}
 use Rattle.sheet.specs.declared.first.SheetError.TheVariants.{Malformed, TooMany}

@@ -5,7 +5,6 @@
 ghost use Rattle.std.specs.Prelude.{◌≡◌, get_or, eqb};
 ghost use Rattle.words.specs.Words.{word_count, words_of};
 ghost use Rattle.definition.specs.SheetForms.{form_line};
-ghost use Rattle.sheet.specs.State.{next_in};
 ghost use Rattle.sheet.specs.Fields.{fed};
 ghost use Rattle.sheet_rules.specs.Kinds.{number_of};
 ghost use Rattle.sheet.specs.Fronts.{front_at};
@@ -78,7 +77,7 @@ pub fn open(table: &mut [u8], written: &mut [u8]) -> Reading
 // Within the form line: the reader is fed each byte, and begins anew behind the last one.
 #[tactic(auto, unfolding(crate::specs::Front::opening_of), using(words::specs::Laws::length_words))]
 fn opening(k: u32, next: Option<St>, b: u8, table: &mut [u8]) -> Stood
-    ensures { stood (stood_at result) (words_of table.new) ≡ opening_of k (fed (next_in next) (words_of table.old)) b }
+    ensures { stood (stood_at result) (words_of table.new) ≡ opening_of k (fed next (words_of table.old)) b }
 {
     let more = crate::first::push(next, b, table);
     if !is_form_byte(k, b) {
@@ -102,10 +101,10 @@ fn opening(k: u32, next: Option<St>, b: u8, table: &mut [u8]) -> Stood
 // Behind the word of a line: the records with a written field are block, with two fields before it, and seg, with four.
 #[tactic(auto, unfolding(crate::specs::Front::front_after))]
 fn front_after(next: Option<St>) -> Front
-    ensures { front_at result ≡ front_after (next_in next) }
+    ensures { front_at result ≡ front_after next }
 {
     let Some(s) = next else { return Front::Plain };
-    match s.key {
+    match crate::fields::kind_of(s.key) {
         Some(Kind::Block) => Front::Before(Kind::Block, 2),
         Some(Kind::Seg) => Front::Before(Kind::Seg, 4),
         _ => Front::Plain,
@@ -114,7 +113,7 @@ fn front_after(next: Option<St>) -> Front
 
 #[tactic(auto, unfolding(crate::specs::Front::in_word))]
 fn in_word(next: Option<St>, b: u8, table: &mut [u8]) -> Stood
-    ensures { stood (stood_at result) (words_of table.new) ≡ in_word (fed (next_in next) (words_of table.old)) b }
+    ensures { stood (stood_at result) (words_of table.new) ≡ in_word (fed next (words_of table.old)) b }
 {
     let next = crate::first::push(next, b, table);
     let front = if b == b'\t' {
@@ -127,7 +126,7 @@ fn in_word(next: Option<St>, b: u8, table: &mut [u8]) -> Stood
 
 #[tactic(auto, unfolding(crate::specs::Front::in_plain))]
 fn in_plain(next: Option<St>, b: u8, table: &mut [u8]) -> Stood
-    ensures { stood (stood_at result) (words_of table.new) ≡ in_plain (fed (next_in next) (words_of table.old)) b }
+    ensures { stood (stood_at result) (words_of table.new) ≡ in_plain (fed next (words_of table.old)) b }
 {
     let next = crate::first::push(next, b, table);
     let front = if b == b'\n' {
@@ -142,7 +141,7 @@ fn in_plain(next: Option<St>, b: u8, table: &mut [u8]) -> Stood
 // written field.
 #[tactic(auto, unfolding(crate::specs::Front::before_of))]
 fn before(key: Kind, left: u32, next: Option<St>, b: u8, table: &mut [u8]) -> Stood
-    ensures { stood (stood_at result) (words_of table.new) ≡ before_of (number_of key) left (fed (next_in next) (words_of table.old)) b }
+    ensures { stood (stood_at result) (words_of table.new) ≡ before_of (number_of key) left (fed next (words_of table.old)) b }
 {
     match b {
         b'\n' => Stood {
@@ -167,7 +166,7 @@ fn before(key: Kind, left: u32, next: Option<St>, b: u8, table: &mut [u8]) -> St
 // In the written field, another byte than a line feed: a digit, or none.
 #[tactic(auto, unfolding(crate::specs::Front::written_of))]
 fn in_written(key: Kind, x: Num, next: Option<St>, b: u8) -> Stood
-    ensures { stood_at result ≡ written_of (number_of key) x (next_in next) b }
+    ensures { stood_at result ≡ written_of (number_of key) x next b }
 {
     match sheet_rules::digits::take_byte(Form::Number(4294967295), x, b) {
         Some(y) if b != b'\t' => Stood {
@@ -184,7 +183,7 @@ fn in_written(key: Kind, x: Num, next: Option<St>, b: u8) -> Stood
 // The written field ends with its line.
 #[tactic(auto, unfolding(crate::specs::Front::close_of))]
 fn close_written(x: Num, next: Option<St>, table: &mut [u8]) -> Stood
-    ensures { stood (stood_at result) (words_of table.new) ≡ close_of x (fed (next_in next) (words_of table.old)) }
+    ensures { stood (stood_at result) (words_of table.new) ≡ close_of x (fed next (words_of table.old)) }
 {
     let front = Front::Word;
     if !sheet_rules::digits::closed(Form::Number(4294967295), x) {
@@ -284,7 +283,7 @@ pub fn feed(cur: Reading, part: &[u8], table: &mut [u8], written: &mut [u8]) -> 
 // The end of the sheet: within a line there is none.
 #[tactic(auto, unfolding(crate::specs::Front::finish_of))]
 pub fn finish(cur: Reading) -> Result<(), SheetError>
-    ensures { result ≡ finish_of (front_at cur.front) (next_in cur.next) }
+    ensures { result ≡ finish_of (front_at cur.front) cur.next }
 {
     match cur.front {
         Front::Opening(_) | Front::First | Front::Word => crate::first::finish(cur.next),

@@ -2,7 +2,6 @@
 
 ghost use Rattle.std.specs.Prelude.{◌≡◌, ◌-◌, ◌*◌, ◌<◌};
 ghost use Rattle.words.specs.Words.{word_count, words_of};
-ghost use Rattle.sheet.specs.State.{state_of, next_in};
 ghost use Rattle.sheet.specs.Fields.{fed};
 ghost use Rattle.sheet.specs.Machine.{end_line, step_of, push_of, run_of, open_of, ended_of, answer_of};
 
@@ -18,7 +17,7 @@ pub enum SheetError {
 
 #[tactic(auto, unfolding(crate::specs::Machine::end_line))]
 fn end_line(s: St, out: &mut [u8]) -> Option<St>
-    ensures { fed (next_in result) (words_of out.new) ≡ end_line (state_of s) (words_of out.old) }
+    ensures { fed result (words_of out.new) ≡ end_line s (words_of out.old) }
 {
     let t = crate::fields::end_field(s, out)?;
     crate::fields::close_record(t, out)
@@ -28,7 +27,7 @@ fn end_line(s: St, out: &mut [u8]) -> Option<St>
 #[tactic(auto, unfolding(crate::specs::Machine::step_of))]
 #[inline(always)]
 fn step(s: St, b: u8, out: &mut [u8]) -> Option<St>
-    ensures { fed (next_in result) (words_of out.new) ≡ step_of (state_of s) b (words_of out.old) }
+    ensures { fed result (words_of out.new) ≡ step_of s b (words_of out.old) }
 {
     match b {
         b'\n' => end_line(s, out),
@@ -40,7 +39,7 @@ fn step(s: St, b: u8, out: &mut [u8]) -> Option<St>
 #[tactic(auto, unfolding(crate::specs::Machine::push_of))]
 #[inline(always)]
 pub fn push(cur: Option<St>, b: u8, out: &mut [u8]) -> Option<St>
-    ensures { fed (next_in result) (words_of out.new) ≡ push_of (fed (next_in cur) (words_of out.old)) b }
+    ensures { fed result (words_of out.new) ≡ push_of (fed cur (words_of out.old)) b }
 {
     step(cur?, b, out)
 }
@@ -48,16 +47,16 @@ pub fn push(cur: Option<St>, b: u8, out: &mut [u8]) -> Option<St>
 // The start of a sheet: a table of zeros.
 #[tactic(auto, unfolding(crate::specs::Machine::open_of))]
 pub fn open(out: &mut [u8]) -> Option<St>
-    ensures { fed (next_in result) (words_of out.new) ≡ open_of (word_count out.old) }
+    ensures { fed result (words_of out.new) ≡ open_of (word_count out.old) }
 {
     crate::cells::clear(out);
-    Some(crate::fields::begin(None, false))
+    Some(crate::fields::begin(12, false))
 }
 
 // Goes on over one more part of the sheet.
 #[tactic(auto, unfolding(crate::specs::Machine::run_of))]
 pub fn feed(cur: Option<St>, part: &[u8], out: &mut [u8]) -> Option<St>
-    ensures { fed (next_in result) (words_of out.new) ≡ run_of (fed (next_in cur) (words_of out.old)) part.now }
+    ensures { fed result (words_of out.new) ≡ run_of (fed cur (words_of out.old)) part.now }
 {
     let mut at = cur;
     for b in part {
@@ -68,9 +67,9 @@ pub fn feed(cur: Option<St>, part: &[u8], out: &mut [u8]) -> Option<St>
 
 #[tactic(auto, unfolding(crate::specs::Machine::ended_of))]
 fn ended(s: St) -> Result<(), SheetError>
-    ensures { result ≡ ended_of (state_of s) }
+    ensures { result ≡ ended_of s }
 {
-    if !matches!(s.prev, Some(Kind::End)) || s.n != 0 || s.len != 0 {
+    if s.prev != Kind::End as u32 || s.n != 0 || s.len != 0 {
         return Err(SheetError::Malformed);
     }
     if s.over {
@@ -82,7 +81,7 @@ fn ended(s: St) -> Result<(), SheetError>
 // The end of the sheet: whether it is a job's.
 #[tactic(auto, unfolding(crate::specs::Machine::answer_of))]
 pub fn finish(cur: Option<St>) -> Result<(), SheetError>
-    ensures { result ≡ answer_of (next_in cur) }
+    ensures { result ≡ answer_of cur }
 {
     ended(cur.ok_or(SheetError::Malformed)?)
 }

@@ -5,7 +5,7 @@ use Rattle.std.proofs.Math.Option.{Option, none, some}
 use Rattle.definition.specs.Text.{◌>>=◌, Fields, fields_of, end_field as field_ended, onto_field, read_number}
 use Rattle.sheet_rules.specs.Bytes.{num, take_byte, closed_of, Took}
 use Rattle.sheet_rules.specs.declared.digits.Num.{Num}
-use Rattle.sheet.specs.State.{St}
+use Rattle.sheet.specs.declared.fields.St.{St}
 use Rattle.sheet.specs.Front.{Keeping, keep_of}
 use Rattle.sheet_laws.specs.Fields.{onward as took_on, take_all, closing, number_field}
 use Rattle.sheet_laws.specs.Split.{Seen, gone, at, on, step_l, close_l, run_l as run_s, line_s, step_b, run_b, close_f, field_s}

@@ -10,7 +10,7 @@ use Rattle.sheet_rules.specs.declared.digits.Form.{Form}
 use Rattle.sheet_rules.specs.declared.digits.Form.TheVariants.{Nothing, Number, Mask, Word}
 use Rattle.sheet_rules.specs.Rules.{forms, form_row, form_of, code_at, form_at, key_of, order, follows_of, more_after, kind_after, low_of}
 use Rattle.sheet_rules.specs.Places.{limit_of, count_at, place_of, tail_at, tail_of, up_of}
-use Rattle.sheet.specs.State.{St}
+use Rattle.sheet.specs.declared.fields.St.{St}
 use Rattle.sheet.specs.Fields.{fed, begin_of, with_num, start_of, next_of, close_record}
 use Rattle.sheet_laws.specs.Words.{Bytes, spelled, word_of, record_word}
 use Rattle.sheet_laws.specs.Split.{field_of, Bounded, Seen, gone, at, view_n, view, on, field_s, fields_s, close_f, close_r, run_b, line_s, lines_s, form_of_st, with_value, done_b, done_s, field_done, line_fields, up_some}

@@ -11,7 +11,7 @@ use Rattle.definition.specs.Conversion.{shrunk}
 use Rattle.sheet_rules.specs.Bytes.{num, closed_of}
 use Rattle.sheet_rules.specs.Rules.{form_at, low_of, more_after}
 use Rattle.sheet_rules.specs.Places.{limit_of, count_at, place_of, tail_at, tail_of}
-use Rattle.sheet.specs.State.{St}
+use Rattle.sheet.specs.declared.fields.St.{St}
 use Rattle.sheet.specs.Fields.{Next, Fed, fed, begin_of, start_of, next_of, byte_of, end_field, close_record}
 use Rattle.sheet.specs.Machine.{on_field, end_line, step_of, on_next, push_of, run_of, open_of, answer_of}
 use Rattle.sheet.specs.Fronts.{Front, Opening, First, Word, Plain, Before, Written}

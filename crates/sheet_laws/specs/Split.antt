@@ -13,7 +13,7 @@ use Rattle.sheet_rules.specs.declared.digits.Form.TheVariants.{Nothing, Number, 
 use Rattle.sheet_rules.specs.declared.digits.Num.{Num}
 use Rattle.sheet_rules.specs.Rules.{form_at, low_of, follows_of, key_of}
 use Rattle.sheet_rules.specs.Places.{count_at, row_at, place_of, up_of}
-use Rattle.sheet.specs.State.{St}
+use Rattle.sheet.specs.declared.fields.St.{St}
 use Rattle.sheet.specs.Fields.{Next}
 use Rattle.sheet.specs.Fields.{Fed, fed, with_num, on_took, byte_of, start_of, next_of, end_field, close_record}
 use Rattle.sheet.specs.Machine.{on_field, end_line, step_of, on_next, push_of, run_of}

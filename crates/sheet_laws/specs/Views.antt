@@ -11,7 +11,7 @@ use Rattle.sheet_rules.specs.Bytes.{num, take_byte, closed_of, Took}
 use Rattle.sheet_rules.specs.declared.digits.Form.{Form}
 use Rattle.sheet_rules.specs.declared.digits.Form.TheVariants.{Number}
 use Rattle.sheet_rules.specs.declared.digits.Num.{Num}
-use Rattle.sheet.specs.State.{St}
+use Rattle.sheet.specs.declared.fields.St.{St}
 use Rattle.sheet.specs.Fields.{Next, Fed, fed}
 use Rattle.sheet.specs.Machine.{step_of, push_of, answer_of}
 use Rattle.sheet.specs.Fronts.{Front, Opening, First, Word, Plain, Before, Written}

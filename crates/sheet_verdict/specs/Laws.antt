@@ -22,7 +22,6 @@ use Rattle.sheet.specs.Machine.{Answer}
 use Rattle.sheet.specs.declared.first.SheetError.{SheetError}
 use Rattle.sheet.specs.declared.first.SheetError.TheVariants.{Malformed, TooMany}
 use Rattle.sheet.specs.declared.either.Reading.{Reading}
-use Rattle.sheet.specs.State.{next_in}
 use Rattle.sheet.specs.Fronts.{front_at}
 use Rattle.sheet.specs.Front.{Keeping, Formed, formed, run_form, open_form, finish_of}
 use Rattle.sheet_laws.specs.Words.{Bytes, none_some}
@@ -211,7 +210,7 @@ none_left sheet h = go (is_second sheet) (records_in sheet) h
 -- ---- the function's ways
 
 abbrev pub said_of : Reading → Answer
-said_of cur = finish_of (front_at cur.front) (next_in cur.next)
+said_of cur = finish_of (front_at cur.front) cur.next
 
 -- the machine went over the whole sheet, and left the state cur, the table x and the written fields y
 pub record Went (n : ℕ) (sheet : List ℕ) (cur : Reading) (x y : List ℕ) : Type 0 where

@@ -6,7 +6,6 @@ use native.Mathlib.Numerals.{add-one}
 use native.Mathlib.Omega.{arith}
 use lib.ListN.{length, get_or, take, drop, length-drop}
 use lib.Seq.{take_all, drop-cons}
-use Rattle.sheet.specs.State.{next_in}
 use Rattle.sheet.specs.Fields.{Next, Fed, fed}
 use Rattle.sheet.specs.Machine.{push_of, run_of}
 use Rattle.sheet.specs.Fronts.{Front, front_at, Opening, First, Word, Plain, Before, Written}
@@ -35,15 +34,15 @@ take_rest bs i = take_all (length bs - i) (drop i bs) (simp length-drop (omega a
 
 run_rest : (at : Reading) (q : Bool) (r : Next) (o o₂ w bs : List ℕ) (i : ℕ)
     → q ≡ first_of (front_at at.front) → q ≡ true
-    → fed r o₂ ≡ run_of (fed (next_in at.next) o) (take (length bs - i) (drop i bs))
+    → fed r o₂ ≡ run_of (fed at.next o) (take (length bs - i) (drop i bs))
     → onward (stands (front_at at.front) (fed r o₂)) (keeping at.kept w) ≡ run_form (formed at o w) (drop i bs)
 run_rest at q r o o₂ w bs i e t h =
     let f : front_at at.front ≡ First = first_is (front_at at.front) (sym e ∙ t) in
     let k = keeping at.kept w in
     ap (λ (x : Front). onward (stands x (fed r o₂)) k) f
-    ∙ ap (λ (g : Fed). onward (stands First g) k) (h ∙ ap (run_of (fed (next_in at.next) o)) (take_rest bs i))
-    ∙ sym (run_first (fed (next_in at.next) o) k (drop i bs))
-    ∙ ap (λ (x : Front). run_form (onward (stands x (fed (next_in at.next) o)) k) (drop i bs)) (sym f)
+    ∙ ap (λ (g : Fed). onward (stands First g) k) (h ∙ ap (run_of (fed at.next o)) (take_rest bs i))
+    ∙ sym (run_first (fed at.next o) k (drop i bs))
+    ∙ ap (λ (x : Front). run_form (onward (stands x (fed at.next o)) k) (drop i bs)) (sym f)
 
 -- one turn of the loop
 run_more : (f g : Formed) (bs : List ℕ) (i : ℕ) → i < length bs → g ≡ push_form f (get_or bs i 0)
