@@ -169,7 +169,10 @@ module _ (J : Job) (ol : OutLayout) (O O₁ : List ℕ) (c : Counts) (np nu : �
       let x : Float = least_weight st i 0 ms (weight_of J k (segs_of ps)) in
       let fit : g.0 < ol.groups = omega (arith, fit_groups r.holds) in
       let b : BitsOf w x =
-      subst (λ (y : Float). BitsOf w (least_weight st i 0 ms y)) b₀.1 (lf st (members_written ol O O₁ st g c.segs c.uses ps (uses_of (segs_of ps)) r.written (held_long r.holds) fit (members_held ol O st g r.holds here))) in
+      subst (λ (y : Float). BitsOf w (least_weight st i 0 ms y)) b₀.1
+      (lf st
+      (members_written ol O O₁ st g c.segs c.uses ps (uses_of (segs_of ps)) r.written fit
+      (members_held ol O st g r.holds here))) in
       let q : Register = record { set = vs; class = k; weight = x; group = some g; index = i; pieces = ps } in
       let one = added vs k x (some g) i w O₂ b l e₂ in
       let st₂ : State = record { registers = rs ++ (q ∷ []); groups = st.groups; mapping = st.mapping } in

@@ -1,6 +1,9 @@
 -- The members of a group that stand in the result tables, with their weights. Assumes nothing.
 use Rattle.std.specs.Prelude.{◌≡◌, refl, cond, List, [], ◌∷◌, ℕ, suc, ◌+◌, ◌-◌, ◌*◌, ◌≤◌, ◌<◌, eqb, length, get_or, Float}
-use Rattle.std.proofs.Common.{sym, ap, ◌∙◌, zero-add, arith}
+use Rattle.std.proofs.Common.{sym, ap, ◌∙◌, zero-add, arith, take, drop_of_length-le}
+use Rattle.std.proofs.Math.Seq.{take-nil}
+use Rattle.std.proofs.lemmas.Bool.{cases_lt}
+use mathlib.Core.Logic.{◌⊎◌, inl, inr}
 use Rattle.std.proofs.Math.Option.{Option, none, some}
 use Rattle.std.specs.Float.{binary32}
 use Rattle.std.specs.Float.Ieee.{to_bits}
@@ -59,9 +62,22 @@ members_kept ol O O' st g hr hg l m =
       weighs = m.weighs;
     }
 
-pub members_written : (ol : OutLayout) (O O' : List ℕ) (st : State) (g : VirtRegGroup) (p u : ℕ) (ps : List Piece) (us : List Use) → Written ol O p u ps us O' → tables_end ol ≤ length O → g.0 < ol.groups
-    → Members ol O st g → Members ol O' st g
-members_written ol O O' st g p u ps us w lo l m = members_kept ol O O' st g w.ahead (w.behind (group_base ol) (tables_end ol) (omega arith) (omega arith)) l m
+-- past the end there are no words
+part_past : (a e : ℕ) (O : List ℕ) → length O ≤ a → part a e O ≡ []
+unfolding part
+part_past a e O h = ap (λ (t : List ℕ). take (e - a) t) (drop_of_length-le O {i = a} h) ∙ take-nil (e - a)
+
+pub members_written : (ol : OutLayout) (O O' : List ℕ) (st : State) (g : VirtRegGroup) (p u : ℕ) (ps : List Piece)
+    (us : List Use) → Written ol O p u ps us O' → g.0 < ol.groups → Members ol O st g → Members ol O' st g
+members_written ol O O' st g p u ps us w l m =
+    members_kept ol O O' st g w.ahead (groups (cases_lt (length O) (group_base ol))) l m
+  where
+    groups : (length O < group_base ol) ⊎ (group_base ol ≤ length O)
+        → part (group_base ol) (tables_end ol) O' ≡ part (group_base ol) (tables_end ol) O
+    groups (inl h) =
+        part_past (group_base ol) (tables_end ol) O' (omega (arith, w.long))
+        ∙ sym (part_past (group_base ol) (tables_end ol) O (omega arith))
+    groups (inr h) = w.behind (group_base ol) (tables_end ol) (omega arith) h
 
 -- the least weight depends on the weights alone
 pub least_same : (st st' : State) → ((r : VirtReg) → (register_at st' r).weight ≡ (register_at st r).weight) → (i j : ℕ) (ms : List (Option VirtReg)) (w : Float)

@@ -21,7 +21,7 @@ use Rattle.virt_regs.specs.Counting.{all_append, uses_append, count_pieces, coun
 use Rattle.virt_regs.specs.Reads.{first_piece, first_use}
 use Rattle.vregs_write.specs.Written.{Written}
 use Rattle.vregs_write.specs.Ends.{ends_by, inserted_at, ends_le, inserted_at_lem}
-use Rattle.vregs_write.specs.Opened.{Opened}
+use Rattle.vregs_write.specs.Opened.{Opened, opened_tables}
 
 -- ---- the register's pieces, and all of them
 
@@ -112,7 +112,9 @@ holds_merged ol O O₁ O₂ st c v k np nu hint p u new h ec here hk op w en eu 
     let lu_x = length_uses U₁ in
     let lu_y = length_uses U₂ in
     let lun = length_uses Un in
-    let opened = op.tabled qs (length_inserted k new ps ∙ ap (λ (n : ℕ). length ps + n) (sym en)) (hint_inserted k new ps ∙ ap (λ (b : Bool). b || hint_in ps) (sym eh)) in
+    let opened =
+    opened_tables op qs (length_inserted k new ps ∙ ap (λ (n : ℕ). length ps + n) (sym en))
+    (hint_inserted k new ps ∙ ap (λ (b : Bool). b || hint_in ps) (sym eh)) in
     let uses_put = put_over (tables ol) _ O₁ opened 2 (omega arith) (use_base ol + u * 6) (u * 6) (use_rows U₁) op.use_gap (use_rows U₂) (use_rows Un) _ refl refl (omega arith) (omega (arith, op.use_long)) (sym urows ∙ ap (λ (t : List Use). use_rows t) (sym each)) in
     let pieces_put = put_over (tables ol) _ _ uses_put 1 (omega arith) (seg_base ol + p * 7) (p * 7) (piece_rows 0 X) op.gap (piece_rows (u + nu) Y) (piece_rows u new) _ refl refl (omega arith) (omega (arith, op.long)) (sym rows ∙ ap (λ (t : List Piece). piece_rows 0 t) (sym all)) in
     record {
