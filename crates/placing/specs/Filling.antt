@@ -18,7 +18,7 @@ use Rattle.vregs_write.specs.Ask.{Ask}
 use Rattle.vregs_write.specs.Opened.{Opened}
 use Rattle.emit.specs.declared.tally.Tally.{Tally}
 use Rattle.placing.specs.declared.row.Rows.{Rows}
-use Rattle.placing.specs.Ready.{Space, Ready, Filled, Left, all_of}
+use Rattle.placing.specs.Ready.{Space, Ready, Filled, Left, all_of, one_more, group_more, pieces_more}
 use Rattle.placing.specs.declared.plan.Plan.{Plan}
 use Rattle.placing.specs.Asked.{RowIn}
 use Rattle.placing.specs.declared.plan.Plan.TheVariants as plans
@@ -110,6 +110,15 @@ row_within ol O c n (plans.Stop s) f = tt
 row_within ol O c n plans.Full f = tt
 
 -- ---- what is left
+
+-- how many rows are in use then, whatever the tables hold
+abbrev pub counts_by : Plan → Counts → Rows → Counts
+counts_by plans.Alone c n = one_more c n.pieces n.uses
+counts_by (plans.Lead i) c n = group_more (one_more c n.pieces n.uses)
+counts_by (plans.Join g i) c n = one_more c n.pieces n.uses
+counts_by (plans.Merge g v i k) c n = pieces_more c n.pieces n.uses
+counts_by (plans.Stop s) c n = c
+counts_by plans.Full c n = c
 
 -- the state that was to be made is in the tables
 abbrev pub LeftBy : OutLayout → List ℕ → Counts → Out State → Type 0

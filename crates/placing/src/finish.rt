@@ -14,7 +14,7 @@ ghost use Rattle.vreg_weight.specs.InFrame.{Weighable};
 ghost use Rattle.placing.specs.Plan.{carry_out};
 ghost use Rattle.virt_regs.specs.declared.Counts as counts;
 ghost use Rattle.placing.specs.declared.row.Rows as rows;
-ghost use Rattle.placing.specs.Filling.{Openable, Opens, Finishable, Filling, pieces_by, RowWithin, Tells, LeftBy};
+ghost use Rattle.placing.specs.Filling.{Openable, Opens, Finishable, Filling, pieces_by, RowWithin, Tells, counts_by, LeftBy};
 
 use crate::plan::Plan;
 use crate::row::{Rows, add_register};
@@ -86,7 +86,8 @@ pub fn finish(
     w: WeightBits,
 ) -> Counts
     requires { SmallBook (words_in fr.now.job) fr.now.job.lay × (tables_end fr.now.ol ≤ word_count out.old) × Finishable fr.now.ol (words_of out.old) c.now new.now p.now }
-    ensures { (O : List ℕ) (st : State) (ps : List Piece) (h : Held) → h.class ≡ class → Filling (job_in fr.now.job) fr.now.ol class O c.now new.now st ps (words_of out.old) p.now
+    ensures counted { result ≡ counts_by p.now c.now new.now }
+    ensures left { (O : List ℕ) (st : State) (ps : List Piece) (h : Held) → h.class ≡ class → Filling (job_in fr.now.job) fr.now.ol class O c.now new.now st ps (words_of out.old) p.now
         → BitsOf w.value (weight_of (job_in fr.now.job) class (segs_of (pieces_by st ps p.now)))
         → LeftBy fr.now.ol (words_of out.new) result (carry_out (job_in fr.now.job) set h ps st p.now) }
 {

@@ -129,4 +129,4 @@ returns c = let k = c.requires.1 in
     let d = c.decide-p.ensures st ps sd.tables ec hf.target (piece_measured K t _ _ _ _ x.value x.pos x.param c.use_count.ensures) in
     let y = is_filling _ _ _ _ _ _ st _ s (asks_small k) _ n _ _ _ _ (planned_way (not c.map_new-free.result) _ _ _ st _ d ok) (c.make_room-at.ensures st sd.tables ec) m.written in
     let w = c.weigh-w.ensures _ _ _ st ps y (tells _ _ _ _ _ _ _ _ m) in
-    ends_made _ _ _ _ _ _ _ _ _ _ _ _ _ e st s sd.mapped _ d (asks_small k) _ n _ _ _ ok (c.finish.ensures _ st ps (held_of c.args.held) (class_held _) y w) refl
+    ends_made _ _ _ _ _ _ _ _ _ _ _ _ _ e st s sd.mapped _ d (asks_small k) _ n _ _ _ ok (c.finish.ensures.left _ st ps (held_of c.args.held) (class_held _) y w) refl

@@ -107,4 +107,4 @@ returns c = let a = c.requires in
     let x = is_filling _ _ _ _ _ _ st _ s (asked_small a) _ n _ _ _ _ (planned_way (not c.map_new-free.result) _ _ _ st _ d ok) (c.make_room-at.ensures st q.stands.tables q.counts) t.written in
     let w = c.weigh-w.ensures _ _ _ st ps x (tells _ _ _ _ _ _ _ _ t) in
     ends_made _ _ _ _ _ _ _ _ _ _ _ _ _ c.map_new-free.ensures st s q.stands.mapped _ d (asked_small a) _ n _ _ _ ok
-    (c.finish.ensures _ st ps (held_of c.args.held.now) (class_held _) x w) refl
+    (c.finish.ensures.left _ st ps (held_of c.args.held.now) (class_held _) x w) refl
