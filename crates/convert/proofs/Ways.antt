@@ -7,7 +7,7 @@ use native.Mathlib.Omega.{arith}
 use lib.Dec.{eqb}
 use lib.ListN.{length, get_or, take, length-append}
 use lib.Seq.{length-take-le}
-use Rattle.std.specs.Prelude.{Some, None, Result, Ok, Err}
+use Rattle.std.specs.Prelude.{Some, None, Result, Ok, Err, IsOk}
 use Rattle.std.specs.Result.{result_err}
 use Rattle.words.specs.Words.{words_of}
 use Rattle.definition.specs.declared.SheetRefusal.{SheetRefusal}
@@ -27,7 +27,7 @@ use Rattle.job_pages.specs.Left.{Left, text_left}
 use Rattle.job_pages.specs.Pages.{Filled, Paged}
 use Rattle.job_pages.specs.Over.{over_text}
 use Rattle.job_pages.specs.Starts.{Moves}
-use Rattle.convert.specs.Settled.{Settled, refused_line_text}
+use Rattle.convert.specs.Settled.{Settled, moved_verdict, refused_line_text}
 use Rattle.convert.specs.Moved.{Whole}
 
 -- ---- the form
@@ -85,6 +85,9 @@ module _ (asked : Bool) (sheet x : List ℕ) (c : Cursor) (p : Page Cursor) (B :
         ∙ append-nil (take p.n B));
   }
 
-  pub no_room : eqb p.cur.key 12 ≡ false → length B < length (converted asked sheet) + 256
-  no_room w =
-      omega (arith, f.full w, f.within, simp length-append at (ap length parted), length-take-le p.n B f.within)
+  pub no_room : eqb p.cur.key 12 ≡ false
+      → IsOk (moved_verdict (move_to asked sheet)) × (length B < length (converted asked sheet) + 256)
+  no_room w = (
+    subst (λ (v : Result Unit SheetRefusal). IsOk v) s.verdict refl,
+    omega (arith, f.full w, f.within, simp length-append at (ap length parted), length-take-le p.n B f.within),
+  )

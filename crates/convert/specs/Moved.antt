@@ -1,6 +1,6 @@
 -- What a conversion of a sheet in memory is, and what a comparison with its text tells. Assumes nothing.
 use Rattle.std.specs.Prelude.{◌≡◌, Bool, ◌&&◌, ◌||◌, List, [], ◌∷◌, ℕ, ◌+◌, ◌≤◌, ◌<◌, length, take}
-use Rattle.std.specs.Prelude.{Option, MatchOption, is_some}
+use Rattle.std.specs.Prelude.{Option, MatchOption, is_some, IsOk}
 use Rattle.std.specs.Result.{result_err}
 use Rattle.definition.specs.Types.{Job}
 use Rattle.definition.specs.JobSheet.{Record}
@@ -17,10 +17,11 @@ pub record Whole (asked : Bool) (sheet : List ℕ) (m : Moved) (B : List ℕ) : 
   pub within : m.n ≤ length B
   pub is : take m.n B ≡ converted asked sheet
 
--- so it is, or B has no room for what the program writes and a line
+-- so it is; or the program's answer is no refusal, and B has no room for what it writes and a line
 abbrev pub Answered : Bool → List ℕ → Option Moved → List ℕ → Type 0
-Answered asked sheet r B =
-    MatchOption r (length B < length (converted asked sheet) + 256) (λ m. Whole asked sheet m B)
+Answered asked sheet r B = MatchOption r
+    (IsOk (moved_verdict (move_to asked sheet)) × (length B < length (converted asked sheet) + 256))
+    (λ m. Whole asked sheet m B)
 
 -- r is whether the answer is the text of the records that the words T have at the start
 abbrev pub TellsSheet : Bool → List ℕ → List ℕ → Bool → Type 0
