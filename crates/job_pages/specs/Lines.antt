@@ -73,7 +73,7 @@ unfolding limit_of limits
 few_segs g = g.few seg (omega arith) (omega arith)
 
 -- so few are printed
-few_left : {T : List ℕ} {job : Job} {c : Cursor} {rs : List Record} → Going T job c rs → c.segs ≤ 1024
+pub few_left : {T : List ℕ} {job : Job} {c : Cursor} {rs : List Record} → Going T job c rs → c.segs ≤ 1024
 few_left g = omega (arith, g.segs, g.counts seg (omega arith) (omega arith), few_segs g)
 
 module _ {T : List ℕ} {job : Job} {c : Cursor} (long : length T ≡ table_words) (w : Word) (ns : List ℕ)

@@ -182,6 +182,27 @@ entry_low job =
     lowest_on Low (entry_tests job)
     (omega arith, (omega arith, (omega arith, (omega arith, (omega arith, (omega arith, tt))))))
 
+-- a test's refusal: not the build's 8 or 9
+abbrev Tested : SheetRefusal → Type 0
+Tested r = (sheet_number_of r ≡ 8 → ⊥) × (sheet_number_of r ≡ 9 → ⊥)
+
+tests_on : (o : Option Refusal) (w : Bool) → On Low o → On Tested (tenth_test o w)
+tests_on (some r) w h = (λ e. omega (arith, e, h), λ e. omega (arith, e, h))
+tests_on none true h = tt
+tests_on none false h = (λ e. omega (arith, e), λ e. omega (arith, e))
+
+verdict_on : (t : Bool) (m : Option (List Record)) → On Tested (verdict_of t m)
+verdict_on t none = (λ e. omega (arith, e), λ e. omega (arith, e))
+verdict_on true (some rs) = tests_on (entry (job_of_records rs)) (as_written rs) (entry_low (job_of_records rs))
+verdict_on false (some rs) = tests_on (entry (job_of_records rs)) true (entry_low (job_of_records rs))
+
+-- "8 and 9 play no part": no verdict has either number, and so, by the two theorems before, no conversion.
+-- Rules out: a sheet whose build stops, answered by 8; one whose registers overfill the tables of `vregs`, by 9.
+pub promise_no_part : (bs : List ℕ) (r : SheetRefusal) → verdict bs ≡ some r
+    → (sheet_number_of r ≡ 8 → ⊥) × (sheet_number_of r ≡ 9 → ⊥)
+unfolding verdict
+promise_no_part bs r e = subst (On Tested) e (verdict_on (is_second bs) (records_in bs))
+
 -- a number from 1 to 7
 abbrev pub OneToSeven : SheetRefusal → Type 0
 OneToSeven r = (1 ≤ sheet_number_of r) × (sheet_number_of r ≤ 7)
